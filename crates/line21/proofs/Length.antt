@@ -1,0 +1,40 @@
+-- Which lengths a payload may have: those of a flags byte and 0 to 291 whole units.
+-- Assumes nothing.
+use Prim.Native.Nat.{ℕ, _+_, _-_, _*_, _/_, _%_, _≤_, _<_}
+use native.Mathlib.Omega.{arith}
+use mathlib.Core.Path.{_≡_, refl}
+use mathlib.Core.Bool.{not}
+use lib.Dec.{eqb, ltb}
+use borrow.Author.Tests.{eqb-true, eqb-false, ltb-false, not-false, ne-eqb, le-ltb, eq-eqb}
+use Rattle.refusal.specs.declared.Verdict.the-variants.{Accepted}
+use Rattle.refusal.specs.declared.Reason.the-variants.{NoStart, TooLong, Unfit}
+use Rattle.refusal.specs.declared.Misfit.the-variants.{PayloadLength}
+use Rattle.refusal.specs.declared.Item.the-variants.{Length}
+use Rattle.refusal.proofs.Checks.{refuseIf-accepted, andThen-accepted}
+use Rattle.line21.specs.Reading.{lengthVerdict, unitCount}
+
+pub record Whole (n : ℕ) : Type 0 where
+  pub exact : n ≡ 1 + 5 * unitCount n
+  pub most : unitCount n ≤ 291
+
+pub accepted-whole : (n : ℕ) → lengthVerdict n ≡ Accepted → Whole n
+unfolding lengthVerdict
+accepted-whole n e =
+    let start = andThen-accepted _ _ e in
+    let long = andThen-accepted _ _ (start .1) in
+    let fit = andThen-accepted _ _ (long .1) in
+    let some = eqb-false n 0 (refuseIf-accepted _ _ _ (start .0)) in
+    let within : n ≤ 1456 = ltb-false 1456 n (refuseIf-accepted _ _ _ (long .0)) in
+    let whole : (n - 1) % 5 ≡ 0 = eqb-true ((n - 1) % 5) 0 (not-false _ (refuseIf-accepted _ _ _ (fit .0))) in
+    record { exact = omega arith; most = omega arith }
+
+pub whole-accepted : (n m : ℕ) → n ≡ 1 + 5 * m → m ≤ 291 → lengthVerdict n ≡ Accepted
+unfolding lengthVerdict
+whole-accepted n m e h =
+    let some : n ≡ 0 → ⊥ = λ z. omega arith in
+    let within : n ≤ 1456 = omega arith in
+    let whole : (n - 1) % 5 ≡ 0 = omega arith in
+    simp (ne-eqb n 0 some, le-ltb 1456 n within, eq-eqb ((n - 1) % 5) 0 whole)
+
+pub unitCount-whole : (n m : ℕ) → n ≡ 1 + 5 * m → unitCount n ≡ m
+unitCount-whole n m e = omega arith

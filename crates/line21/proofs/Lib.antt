@@ -1,0 +1,4 @@
+pub mod Length
+pub mod Units
+pub mod Layouts
+pub mod Numbers

@@ -1,0 +1,96 @@
+-- What the checks of writing let through: numbers that the layout can hold.
+-- Assumes nothing.
+use Prim.Native.Nat.{ℕ, zero, suc, _+_, _*_, _≤_, _<_}
+use native.Mathlib.Omega.{arith}
+use native.Mathlib.Numerals.{add-one}
+use mathlib.Core.Path.{_≡_, _∙_, ap, sym, refl}
+use mathlib.Core.List.{List, [], _∷_}
+use lib.Dec.{ltb}
+use lib.ListN.{length, take, drop, getD}
+use lib.Seq.{drop-cons, length-take-le}
+use borrow.Author.Tests.{ltb-false, le-ltb}
+use Rattle.refusal.specs.declared.Verdict.{Verdict}
+use Rattle.refusal.specs.declared.Verdict.the-variants.{Accepted}
+use Rattle.refusal.specs.declared.Reason.the-variants.{NoRoom}
+use Rattle.refusal.specs.declared.Item.the-variants.{Whole}
+use Rattle.refusal.specs.Checks.{refuseIf, andThen}
+use Rattle.refusal.proofs.Checks.{refuseIf-accepted, andThen-accepted, andThen-last}
+use Rattle.line21.specs.declared.AccessUnit.{AccessUnit}
+use Rattle.line21.specs.declared.Payload.{Payload}
+use Rattle.line21.specs.Value.{blank, held}
+use Rattle.line21.specs.Layout.{layout}
+use Rattle.line21.specs.Writing.{unitVerdict, unitsVerdict, valueVerdict}
+use Rattle.line21.proofs.Layouts.{length-layoutUnits}
+
+pub record Holdable (u : AccessUnit) : Type 0 where
+  pub valid-1 : u .«cc_valid_1» < 2
+  pub valid-2 : u .«cc_valid_2» < 2
+  pub pad : u .padding < 64
+
+pub accepted-unit : (u : AccessUnit) → unitVerdict u ≡ Accepted → Holdable u
+unfolding unitVerdict
+accepted-unit u e =
+    let one = andThen-accepted _ _ e in
+    let two = andThen-accepted _ _ (one .1) in
+    let three = andThen-accepted _ _ (two .1) in
+    let a = ltb-false 1 (u .«cc_valid_1») (refuseIf-accepted _ _ _ (one .0)) in
+    let b = ltb-false 1 (u .«cc_valid_2») (refuseIf-accepted _ _ _ (two .0)) in
+    let c = ltb-false 63 (u .padding) (refuseIf-accepted _ _ _ (three .0)) in
+    record { valid-1 = omega arith; valid-2 = omega arith; pad = omega arith }
+
+pub unit-accepted : (u : AccessUnit) → Holdable u → unitVerdict u ≡ Accepted
+unfolding unitVerdict
+unit-accepted u h =
+    let a : u .«cc_valid_1» ≤ 1 = omega arith in
+    let b : u .«cc_valid_2» ≤ 1 = omega arith in
+    let c : u .padding ≤ 63 = omega arith in
+    simp (le-ltb 1 (u .«cc_valid_1») a, le-ltb 1 (u .«cc_valid_2») b, le-ltb 63 (u .padding) c)
+
+pub units-accepted-at : (us : List AccessUnit) → unitsVerdict us ≡ Accepted → (i : ℕ) → i < length us → unitVerdict (getD us i blank) ≡ Accepted
+units-accepted-at [] e i h = let f : ⊥ = omega arith in absurd f
+units-accepted-at (u ∷ us) e zero h = andThen-accepted (unitVerdict u) (unitsVerdict us) e .0
+units-accepted-at (u ∷ us) e (suc i) h =
+    let near : i < length us = omega arith in
+    units-accepted-at us (andThen-accepted (unitVerdict u) (unitsVerdict us) e .1) i near
+
+-- the units from i on decide by the unit at i, then by those behind it
+pub units-from : (us : List AccessUnit) (i : ℕ) → i < length us → unitsVerdict (drop i us) ≡ andThen (unitVerdict (getD us i blank)) (unitsVerdict (drop (i + 1) us))
+units-from us i h =
+    ap unitsVerdict (drop-cons us i blank h)
+    ∙ ap (λ (k : ℕ). andThen (unitVerdict (getD us i blank)) (unitsVerdict (drop k us))) (sym (add-one i))
+
+-- a struct whose array has its 291 places holds as many units as it says, and its layout is as long as the code counts
+module _ (p : Payload) (room : length (p .units) ≡ 291) (few : p .m ≤ 291) where
+  pub length-held : length (held p .units) ≡ p .m
+  length-held = let fits : p .m ≤ length (p .units) = omega arith in length-take-le (p .m) (p .units) fits
+
+  pub length-layout-held : length (layout (held p)) ≡ 1 + 5 * p .m
+  length-layout-held = omega (arith, length-layoutUnits (held p .units), length-held)
+
+  -- 291 units are no longer than 1,456 bytes, so that 1 is never given on writing
+  pub verdict-few : (space : ℕ) → valueVerdict p space ≡ andThen (unitsVerdict (held p .units)) (refuseIf (ltb space (1 + 5 * p .m)) NoRoom Whole)
+  unfolding valueVerdict
+  verdict-few space =
+      let short : length (layout (held p)) ≤ 1456 = omega (arith, length-layout-held) in
+      simp (le-ltb 291 (p .m) few, le-ltb 1456 (length (layout (held p))) short, andThen-last)
+      (ap (λ (n : ℕ). andThen (unitsVerdict (held p .units)) (refuseIf (ltb space n) NoRoom Whole)) length-layout-held)
+
+pub record Writable (p : Payload) (room : ℕ) : Type 0 where
+  pub few : p .m ≤ 291
+  pub each : unitsVerdict (held p .units) ≡ Accepted
+  pub short : length (layout (held p)) ≤ 1456
+  pub fits : length (layout (held p)) ≤ room
+
+pub accepted-value : (p : Payload) (room : ℕ) → valueVerdict p room ≡ Accepted → Writable p room
+unfolding valueVerdict
+accepted-value p room e =
+    let count = andThen-accepted _ _ e in
+    let units = andThen-accepted _ _ (count .1) in
+    let long = andThen-accepted _ _ (units .1) in
+    let fit = andThen-accepted _ _ (long .1) in
+    record {
+      few = ltb-false 291 (p .m) (refuseIf-accepted _ _ _ (count .0));
+      each = units .0;
+      short = ltb-false 1456 (length (layout (held p))) (refuseIf-accepted _ _ _ (long .0));
+      fits = ltb-false room (length (layout (held p))) (refuseIf-accepted _ _ _ (fit .0));
+    }

@@ -1,0 +1,47 @@
+-- `line21::writing::put_unit` meets its contract: five stores from the front are the unit's five bytes in place of the first five.
+-- Assumes nothing.
+use native.Mathlib.Omega.{arith}
+use denote.Ref.{now}
+use lib.ListN.{length-set}
+use lib.Seq.{sets-eq}
+use Rattle.line21.specs.Layout.{layoutUnit}
+use Rattle.line21.proofs.Numbers.{accepted-unit}
+use Rattle.line21.proofs.writing.put_unit.Statement.{statement}
+use Rattle.line21.proofs.writing.put_unit.Tie as tie
+
+mul-out : tie.Need-mul-out
+mul-out c = omega (arith, accepted-unit (c .before .args .u) (c .before .pre .0) .valid-1)
+
+mul-out-2 : tie.Need-mul-out-2
+mul-out-2 c = omega (arith, accepted-unit (c .before .before .args .u) (c .before .before .pre .0) .valid-2)
+
+add-out : tie.Need-add-out
+add-out c =
+    let unit = accepted-unit (c .before .before .args .u) (c .before .before .pre .0) in
+    omega arith
+
+add-out-2 : tie.Need-add-out-2
+add-out-2 c =
+    let unit = accepted-unit (c .before .before .before .args .u) (c .before .before .before .pre .0) in
+    omega arith
+
+returns : tie.Need-returns
+returns c =
+    let start = c .before .before .before in
+    sets-eq (layoutUnit (start .args .u)) (now (start .args .out)) 0 (start .pre .1)
+
+pub put-unit-spec : {M : Type 1} → statement M
+put-unit-spec =
+    tie.close
+    (tie.spec
+    mul-out
+    mul-out-2
+    add-out
+    add-out-2
+    (λ c. omega arith)
+    (λ c. simp length-set (omega arith))
+    (λ c. simp length-set (omega arith))
+    (λ c. simp length-set (omega arith))
+    (λ c. simp length-set (omega arith))
+    (λ c. simp length-set)
+    returns)

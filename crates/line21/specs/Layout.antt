@@ -1,0 +1,19 @@
+-- The bytes of a Line 21 payload, from its value alone. Document 01, "Line 21 payload"; document 004, 3.2.1, Tables 1 and 2.
+use Prim.Native.Nat.{ℕ, _+_, _*_}
+use mathlib.Core.List.{List, [], _∷_, _++_}
+use Rattle.line21.specs.declared.AccessUnit.{AccessUnit}
+use Rattle.line21.specs.Value.{Line21}
+
+-- cc_valid_1 (top bit), cc_valid_2, six padding bits; two bytes of field 1, two of field 2
+abbrev pub layoutUnit : AccessUnit → List ℕ
+layoutUnit u =
+    (u .«cc_valid_1» * 128 + u .«cc_valid_2» * 64 + u .padding)
+    ∷ u .«field1_data1» ∷ u .«field1_data2» ∷ u .«field2_data1» ∷ u .«field2_data2» ∷ []
+
+abbrev pub layoutUnits : List AccessUnit → List ℕ
+layoutUnits [] = []
+layoutUnits (u ∷ us) = layoutUnit u ++ layoutUnits us
+
+-- one flags byte, then the units
+abbrev pub layout : Line21 → List ℕ
+layout v = v .flags ∷ layoutUnits (v .units)

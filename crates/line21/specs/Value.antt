@@ -1,0 +1,48 @@
+-- A Line 21 payload's value, when it is legal, and how the code's structs hold it. Document 01, "Line 21 payload"; document 004, Table 2.
+use Prim.Native.Nat.{ℕ, _≤_, _<_}
+use mathlib.Core.List.{List, [], _∷_}
+use lib.ListN.{length, take}
+use Rattle.lists.specs.Room.{filled}
+use Rattle.line21.specs.declared.AccessUnit.{AccessUnit}
+use Rattle.line21.specs.declared.Payload.{Payload}
+
+-- the flags byte, and the m access units in order
+pub record Line21 : Type 0 where
+  pub flags : ℕ
+  pub units : List AccessUnit
+
+-- the flags are bits, the padding is 0 to 63, and the four data bytes are bytes, whatever the flags say
+pub record LegalUnit (u : AccessUnit) : Type 0 where
+  pub valid-1 : u .«cc_valid_1» < 2
+  pub valid-2 : u .«cc_valid_2» < 2
+  pub pad : u .padding < 64
+  pub data-11 : u .«field1_data1» < 256
+  pub data-12 : u .«field1_data2» < 256
+  pub data-21 : u .«field2_data1» < 256
+  pub data-22 : u .«field2_data2» < 256
+
+abbrev pub LegalUnits : List AccessUnit → Type 0
+LegalUnits [] = Unit {0}
+LegalUnits (u ∷ us) = LegalUnit u × LegalUnits us
+
+-- m from 0 to 291
+pub record Legal (v : Line21) : Type 0 where
+  pub byte : v .flags < 256
+  pub count : length (v .units) ≤ 291
+  pub each : LegalUnits (v .units)
+
+-- a unit of zeros, which fills the room beyond the m units
+abbrev pub blank : AccessUnit
+blank = record { «cc_valid_1» = 0; «cc_valid_2» = 0; padding = 0; «field1_data1» = 0; «field1_data2» = 0; «field2_data1» = 0; «field2_data2» = 0 }
+
+-- no value: what a refusal holds
+abbrev pub none : Line21
+none = record { flags = 0; units = [] }
+
+-- the struct that holds a value: m units, and zeros beyond them
+abbrev pub stored : Line21 → Payload
+stored v = record { flags = v .flags; m = length (v .units); units = filled (v .units) 291 blank }
+
+-- the value that a struct holds: entries beyond m are not looked at
+abbrev pub held : Payload → Line21
+held p = record { flags = p .flags; units = take (p .m) (p .units) }

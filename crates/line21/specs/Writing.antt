@@ -1,0 +1,44 @@
+-- What writing a Line 21 payload answers, and what the lent output then holds, for every value and output. Document 01, "Which refusal comes
+-- first": 15 of the whole value, 15 of each access unit in order, then 1 for the length of the result, then 14.
+use Prim.Native.Nat.{ℕ}
+use mathlib.Core.List.{List, [], _∷_}
+use lib.Dec.{ltb}
+use lib.ListN.{length}
+use Rattle.refusal.specs.declared.Verdict.{Verdict}
+use Rattle.refusal.specs.declared.Verdict.the-variants.{Accepted}
+use Rattle.refusal.specs.declared.Reason.the-variants.{TooLong, NoRoom, Unholdable}
+use Rattle.refusal.specs.declared.Excess.the-variants.{Count, CcValid, Padding}
+use Rattle.refusal.specs.declared.Item.the-variants.{Whole}
+use Rattle.refusal.specs.declared.Written.{Written}
+use Rattle.refusal.specs.Checks.{refuseIf, andThen, first}
+use Rattle.refusal.specs.Answers.{Wrote}
+use Rattle.line21.specs.declared.AccessUnit.{AccessUnit}
+use Rattle.line21.specs.declared.Payload.{Payload}
+use Rattle.line21.specs.Value.{held}
+use Rattle.line21.specs.Layout.{layout}
+
+-- each flag is one bit, the padding six
+unfoldable pub unitVerdict : AccessUnit → Verdict
+unitVerdict u =
+    first
+    (refuseIf (ltb 1 (u .«cc_valid_1»)) (Unholdable CcValid) Whole
+    ∷ refuseIf (ltb 1 (u .«cc_valid_2»)) (Unholdable CcValid) Whole
+    ∷ refuseIf (ltb 63 (u .padding)) (Unholdable Padding) Whole
+    ∷ [])
+
+abbrev pub unitsVerdict : List AccessUnit → Verdict
+unitsVerdict [] = Accepted
+unitsVerdict (u ∷ us) = andThen (unitVerdict u) (unitsVerdict us)
+
+unfoldable pub valueVerdict : Payload → ℕ → Verdict
+valueVerdict p room =
+    first
+    (refuseIf (ltb 291 (p .m)) (Unholdable Count) Whole
+    ∷ unitsVerdict (held p .units)
+    ∷ refuseIf (ltb 1456 (length (layout (held p)))) TooLong Whole
+    ∷ refuseIf (ltb room (length (layout (held p)))) NoRoom Whole
+    ∷ [])
+
+-- the promise of `write`
+abbrev pub Writes : Payload → List ℕ → Written → List ℕ → Type 0
+Writes p out answer exit = Wrote (valueVerdict p (length out)) (layout (held p)) out answer exit

@@ -1,0 +1,56 @@
+// The ISMA Line 21 RTP payload: what follows the RTP header.
+//
+// Normative references: document 01, "Line 21 payload"; document 004, 3.2.1, Tables 1 and 2.
+mod reading;
+mod writing;
+
+pub use reading::read;
+pub use reading::read_head;
+pub use reading::read_unit;
+use refusal::Refusal;
+pub use writing::write;
+
+pub const MAX_UNITS: usize = 291;
+
+pub const UNIT_BYTES: usize = 5;
+
+pub const MAX_BYTES: usize = 1456;
+
+// One access unit (004, Table 2). A field's data bytes are carried whatever its flag says.
+pub struct AccessUnit {
+    pub cc_valid_1: u8,
+    pub cc_valid_2: u8,
+    pub padding: u8,
+    pub field1_data1: u8,
+    pub field1_data2: u8,
+    pub field2_data1: u8,
+    pub field2_data2: u8,
+}
+
+// A payload's value: the flags byte as it is, and the first m of the units.
+pub struct Payload {
+    pub flags: u8,
+    pub m: usize,
+    pub units: [AccessUnit; MAX_UNITS],
+}
+
+// What `read` answers: the value, or a refusal and zeros.
+pub struct Answer {
+    pub refusal: Refusal,
+    pub payload: Payload,
+}
+
+// What `read_head` answers: the flags byte and how many units follow it, or a refusal and zeros.
+pub struct Head {
+    pub refusal: Refusal,
+    pub flags: u8,
+    pub m: usize,
+}
+
+// What `read_unit` answers.
+pub enum One {
+    Unit(AccessUnit),
+    // The payload is accepted and has no unit of that index.
+    Absent,
+    Refused(Refusal),
+}

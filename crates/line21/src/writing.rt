@@ -1,0 +1,101 @@
+// Writing a payload.
+ghost use mathlib.Core.Path.{_≡_};
+ghost use Prim.Native.Nat.{_≤_};
+ghost use lib.ListN.{length};
+ghost use Rattle.lists.specs.Room.{over};
+ghost use Rattle.refusal.specs.declared.Verdict.the-variants.{Accepted};
+ghost use Rattle.line21.specs.Value.{held};
+ghost use Rattle.line21.specs.Layout.{layout, layoutUnit};
+ghost use Rattle.line21.specs.Writing.{unitVerdict, valueVerdict, Writes};
+use crate::AccessUnit;
+use crate::MAX_UNITS;
+use crate::Payload;
+use crate::UNIT_BYTES;
+use refusal::Excess;
+use refusal::Item;
+use refusal::Reason;
+use refusal::Verdict;
+use refusal::Written;
+
+// Writes a payload at the front of out.
+pub fn write(p: Payload, out: &mut [u8]) -> Written
+    ensures { λ r. ⌜ Writes p (now (out .entry)) r (now (out .exit)) ⌝ }
+{
+    let verdict = judge_value(p, out.len());
+    let refusal = refusal::told(verdict);
+    match verdict {
+        Verdict::Accepted => {
+            put(p, out);
+            Written {
+                refusal,
+                len: 1 + UNIT_BYTES * p.m,
+            }
+        }
+        Verdict::Refused(_, _) => Written { refusal, len: 0 },
+    }
+}
+
+// 01, "Which refusal comes first": 15 of the whole value, 15 of each unit in order, then 1, which
+// 291 units cannot meet, then 14.
+fn judge_value(p: Payload, room: usize) -> Verdict
+    ensures { λ r. ⌜ r ≡ valueVerdict p room ⌝ }
+{
+    if MAX_UNITS < p.m {
+        return Verdict::Refused(Reason::Unholdable(Excess::Count), Item::Whole);
+    }
+    let mut i = 0;
+    while i < p.m {
+        let unit = p.units[i];
+        let verdict = judge_unit(unit);
+        if let Verdict::Refused(_, _) = verdict {
+            return verdict;
+        }
+        i += 1;
+    }
+    if room < 1 + UNIT_BYTES * p.m {
+        return Verdict::Refused(Reason::NoRoom, Item::Whole);
+    }
+    Verdict::Accepted
+}
+
+fn judge_unit(u: AccessUnit) -> Verdict
+    ensures { λ r. ⌜ r ≡ unitVerdict u ⌝ }
+{
+    if 1 < u.cc_valid_1 {
+        return Verdict::Refused(Reason::Unholdable(Excess::CcValid), Item::Whole);
+    }
+    if 1 < u.cc_valid_2 {
+        return Verdict::Refused(Reason::Unholdable(Excess::CcValid), Item::Whole);
+    }
+    if 63 < u.padding {
+        return Verdict::Refused(Reason::Unholdable(Excess::Padding), Item::Whole);
+    }
+    Verdict::Accepted
+}
+
+// Stores the layout of a value that was judged.
+fn put(p: Payload, out: &mut [u8])
+    requires { ⌜ valueVerdict p (length (now out)) ≡ Accepted ⌝ }
+    ensures { λ _. ⌜ now (out .exit) ≡ over (layout (held p)) (now (out .entry)) ⌝ }
+{
+    out[0] = p.flags;
+    let mut i = 0;
+    while i < p.m {
+        let unit = p.units[i];
+        put_unit(unit, &mut out[1 + UNIT_BYTES * i..]);
+        i += 1;
+    }
+}
+
+// Stores one unit's five bytes at the front of out.
+fn put_unit(u: AccessUnit, out: &mut [u8])
+    requires { ⌜ unitVerdict u ≡ Accepted ⌝ }
+    requires { ⌜ 5 ≤ length (now out) ⌝ }
+    ensures { λ _. ⌜ now (out .exit) ≡ over (layoutUnit u) (now (out .entry)) ⌝ }
+{
+    out[0] = u.cc_valid_1 * 128 + u.cc_valid_2 * 64 + u.padding;
+    out[1] = u.field1_data1;
+    out[2] = u.field1_data2;
+    out[3] = u.field2_data1;
+    out[4] = u.field2_data2;
+}

@@ -1,0 +1,34 @@
+-- An order of checks accepts exactly where each of its checks does.
+-- Assumes nothing.
+use Prim.Native.Nat.{ℕ}
+use native.Mathlib.Omega.{arith}
+use mathlib.Core.Path.{_≡_, _∙_, ap, refl}
+use mathlib.Core.Bool.{Bool, true, false}
+use Rattle.refusal.specs.declared.Reason.{Reason}
+use Rattle.refusal.specs.declared.Item.{Item}
+use Rattle.refusal.specs.declared.Verdict.{Verdict}
+use Rattle.refusal.specs.declared.Verdict.the-variants.{Accepted, Refused}
+use Rattle.refusal.specs.Checks.{refuseIf, andThen}
+
+-- a refusal is no acceptance
+pub refused-not-accepted : {P : Type 0} (reason : Reason) (item : Item) → Refused reason item ≡ Accepted → P
+refused-not-accepted reason item e = let z : _≡_ {A = ℕ} 0 1 = cc in let f : ⊥ = omega arith in absurd f
+
+pub refuseIf-accepted : (fault : Bool) (reason : Reason) (item : Item) → refuseIf fault reason item ≡ Accepted → fault ≡ false
+refuseIf-accepted true reason item e = refused-not-accepted reason item e
+refuseIf-accepted false reason item e = refl
+
+pub accepted-refuseIf : (fault : Bool) (reason : Reason) (item : Item) → fault ≡ false → refuseIf fault reason item ≡ Accepted
+accepted-refuseIf fault reason item e = ap (λ (t : Bool). refuseIf t reason item) e
+
+pub andThen-accepted : (check next : Verdict) → andThen check next ≡ Accepted → (check ≡ Accepted) × (next ≡ Accepted)
+andThen-accepted Accepted next e = (refl, e)
+andThen-accepted (Refused reason item) next e = refused-not-accepted reason item e
+
+pub accepted-andThen : (check next : Verdict) → check ≡ Accepted → next ≡ Accepted → andThen check next ≡ Accepted
+accepted-andThen check next e f = ap (λ (v : Verdict). andThen v next) e ∙ f
+
+-- nothing after it: the check decides
+pub andThen-last : (check : Verdict) → andThen check Accepted ≡ check
+andThen-last Accepted = refl
+andThen-last (Refused reason item) = refl

@@ -1,0 +1,157 @@
+// The numbers and places of a refusal (document 01, "Numbers a call may refuse with").
+//
+// A reader or a writer says why it refuses by a reason, and where by the item that failed. Only this
+// crate knows which number and which place 01 gives for them.
+ghost use mathlib.Core.Path.{_≡_};
+ghost use Rattle.refusal.specs.Numbers.{numberOf, placeOf, refusalOf};
+
+// Which fixed bit, byte or word is another.
+pub enum Fixed {
+    Marker,
+    Alignment,
+    Stuffing,
+    Identifier,
+    FormatCode,
+    RunIn,
+    FramingCode,
+    Footer,
+}
+
+// Which length or count does not fit.
+pub enum Misfit {
+    // A packet's DC against the number of its words.
+    DataCount,
+    // A packet's LENGTH against its DC.
+    SdpLength,
+    // A packet's DC against the descriptors that are not 0.
+    Structures,
+    // A payload's length is not one byte and whole access units.
+    PayloadLength,
+}
+
+// Which number its layout cannot hold.
+pub enum Excess {
+    // n above 31, m above 291.
+    Count,
+    Reserved,
+    Stuffing,
+    FlagWithRecords,
+    Counter,
+    Priority,
+    FieldNumber,
+    LineOffset,
+    SlotMark,
+    SlotLine,
+    SlotReserved,
+    SlotField,
+    SlotUnwritable,
+    CcValid,
+    Padding,
+}
+
+// Why a check refused: finer than 01's numbers, since two reasons may share one.
+pub enum Reason {
+    TooLong,
+    NoStart,
+    StartCode,
+    SecondUnit,
+    Ends,
+    Unfixed(Fixed),
+    FieldNumberZero,
+    DescriptorLine,
+    FieldFalls,
+    LineDoesNotRise,
+    FifthPriority,
+    SampledVideo,
+    WordRange,
+    WordParity,
+    SdpChecksum,
+    Checksum,
+    Unfit(Misfit),
+    NoRoom,
+    Unholdable(Excess),
+}
+
+// What failed: the item's place, in its carriage's own measure.
+pub enum Item {
+    // The input or the value as a whole.
+    Whole,
+    // In an area: the unit whose body was being read, by its first byte, and the bit of the area
+    // at which the failing item begins.
+    Body { unit: usize, bit: usize },
+    // In a packet: the word.
+    Word(usize),
+    // The length of the input.
+    Length(usize),
+}
+
+// What the checks of one call found.
+pub enum Verdict {
+    Accepted,
+    Refused(Reason, Item),
+}
+
+// What a caller is told: 01's number and place, both 0 where the call is accepted.
+pub struct Refusal {
+    pub number: u8,
+    pub place: usize,
+}
+
+// What a writer tells: a refusal, or how many bytes or words it wrote at the front of its output.
+pub struct Written {
+    pub refusal: Refusal,
+    pub len: usize,
+}
+
+pub fn number(reason: Reason) -> u8
+    ensures { λ r. ⌜ r ≡ numberOf reason ⌝ }
+{
+    match reason {
+        Reason::TooLong => 1,
+        Reason::NoStart => 2,
+        Reason::StartCode => 3,
+        Reason::SecondUnit => 4,
+        Reason::Ends => 5,
+        Reason::Unfixed(_) => 6,
+        Reason::FieldNumberZero => 7,
+        Reason::DescriptorLine => 7,
+        Reason::FieldFalls => 8,
+        Reason::LineDoesNotRise => 8,
+        Reason::FifthPriority => 9,
+        Reason::SampledVideo => 10,
+        Reason::WordRange => 11,
+        Reason::WordParity => 11,
+        Reason::SdpChecksum => 12,
+        Reason::Checksum => 12,
+        Reason::Unfit(_) => 13,
+        Reason::NoRoom => 14,
+        Reason::Unholdable(_) => 15,
+    }
+}
+
+pub fn place(item: Item) -> usize
+    ensures { λ r. ⌜ r ≡ placeOf item ⌝ }
+{
+    match item {
+        Item::Whole => 0,
+        Item::Body { unit, bit: _ } => unit,
+        Item::Word(_) => 0,
+        Item::Length(_) => 0,
+    }
+}
+
+// The refusal that a verdict is to a caller.
+pub fn told(verdict: Verdict) -> Refusal
+    ensures { λ r. ⌜ r ≡ refusalOf verdict ⌝ }
+{
+    match verdict {
+        Verdict::Accepted => Refusal {
+            number: 0,
+            place: 0,
+        },
+        Verdict::Refused(reason, item) => Refusal {
+            number: number(reason),
+            place: place(item),
+        },
+    }
+}
