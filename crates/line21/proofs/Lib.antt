@@ -2,3 +2,4 @@ pub mod Length
 pub mod Units
 pub mod Layouts
 pub mod Numbers
+pub mod Answers

@@ -1,12 +1,13 @@
 -- What reading a Line 21 payload answers, for every list of bytes. Document 01, "Which refusal comes first": 2, 1, 13.
 use Prim.Native.Nat.{ℕ, zero, suc, _+_, _-_, _*_, _/_, _%_}
 use mathlib.Core.Path.{_≡_}
-use mathlib.Core.Bool.{Bool, true, false, not}
+use mathlib.Core.Bool.{not}
 use mathlib.Core.List.{List, [], _∷_}
 use lib.Dec.{eqb, ltb}
-use lib.ListN.{length, getD, drop}
+use lib.ListN.{length, getD, take, drop}
 use Rattle.refusal.specs.declared.Verdict.{Verdict}
 use Rattle.refusal.specs.declared.Verdict.the-variants.{Accepted, Refused}
+use Rattle.refusal.specs.declared.Refusal.{Refusal}
 use Rattle.refusal.specs.declared.Reason.the-variants.{NoStart, TooLong, Unfit}
 use Rattle.refusal.specs.declared.Misfit.the-variants.{PayloadLength}
 use Rattle.refusal.specs.declared.Item.the-variants.{Length}
@@ -17,7 +18,7 @@ use Rattle.line21.specs.declared.Answer.{Answer}
 use Rattle.line21.specs.declared.Head.{Head}
 use Rattle.line21.specs.declared.One.{One}
 use Rattle.line21.specs.declared.One.the-variants as one
-use Rattle.line21.specs.Value.{Line21, blank, none, stored}
+use Rattle.line21.specs.Value.{Line21, none, stored, held}
 
 -- 2 a payload of length 0; 1 longer than 1,456 bytes; 13 not one byte and whole units of 5
 unfoldable pub lengthVerdict : ℕ → Verdict
@@ -64,13 +65,10 @@ readOf s = answerOf (lengthVerdict (length s)) (valueOf s)
 abbrev pub headOf : Answer → Head
 headOf r = record { refusal = r .refusal; flags = r .payload .flags; m = r .payload .m }
 
-abbrev pub pickUnit : Bool → AccessUnit → One
-pickUnit true u = one.Unit u
-pickUnit false u = one.Absent
-
-abbrev pub unitOf : Verdict → Line21 → ℕ → One
-unitOf Accepted v i = pickUnit (ltb i (length (v .units))) (getD (v .units) i blank)
-unitOf (Refused reason item) v i = one.Refused (refusalOf (Refused reason item))
+-- what an answer about one unit says: 01's number and place, and the unit if there is one
+abbrev pub shown : One → Refusal × List AccessUnit
+shown (one.Unit u) = (refusalOf Accepted, u ∷ [])
+shown (one.None refusal) = (refusal, [])
 
 -- the promises of `read`, `read_head` and `read_unit`
 abbrev pub Reads : List ℕ → Answer → Type 0
@@ -79,5 +77,6 @@ Reads s r = r ≡ readOf s
 abbrev pub ReadsHead : List ℕ → Head → Type 0
 ReadsHead s r = r ≡ headOf (readOf s)
 
+-- the unit of index i and no other, and none beyond the last
 abbrev pub ReadsUnit : List ℕ → ℕ → One → Type 0
-ReadsUnit s i r = r ≡ unitOf (lengthVerdict (length s)) (valueOf s) i
+ReadsUnit s i r = shown r ≡ (readOf s .refusal, take 1 (drop i (held (readOf s .payload) .units)))

@@ -50,7 +50,6 @@ pub struct Head {
 // What `read_unit` answers.
 pub enum One {
     Unit(AccessUnit),
-    // The payload is accepted and has no unit of that index.
-    Absent,
-    Refused(Refusal),
+    // No unit of that index: the payload's refusal, of number 0 where it is accepted and has fewer.
+    None(Refusal),
 }

@@ -61,16 +61,12 @@ pub fn read_unit(s: &[u8], i: usize) -> One
     ensures { λ r. ⌜ ReadsUnit (now (s .entry)) i r ⌝ }
 {
     let verdict = judge_length(s.len());
-    match verdict {
-        Verdict::Accepted => {
-            if i < (s.len() - 1) / UNIT_BYTES {
-                One::Unit(unit_at(s, 1 + UNIT_BYTES * i))
-            } else {
-                One::Absent
-            }
+    if let Verdict::Accepted = verdict {
+        if i < (s.len() - 1) / UNIT_BYTES {
+            return One::Unit(unit_at(s, 1 + UNIT_BYTES * i));
         }
-        Verdict::Refused(_, _) => One::Refused(refusal::told(verdict)),
     }
+    One::None(refusal::told(verdict))
 }
 
 // 01, "Which refusal comes first": 2, 1, 13.
