@@ -14,10 +14,10 @@ use Rattle.refusal.specs.declared.Verdict.the-variants.{Accepted}
 use Rattle.refusal.specs.declared.Reason.the-variants.{NoRoom}
 use Rattle.refusal.specs.declared.Item.the-variants.{Whole}
 use Rattle.refusal.specs.Checks.{refuseIf, andThen}
-use Rattle.refusal.proofs.Checks.{refuseIf-accepted, andThen-accepted, andThen-last}
+use Rattle.refusal.proofs.Checks.{refuseIf-accepted, andThen-accepted, accepted-andThen, andThen-last}
 use Rattle.line21.specs.declared.AccessUnit.{AccessUnit}
 use Rattle.line21.specs.declared.Payload.{Payload}
-use Rattle.line21.specs.Value.{blank, held}
+use Rattle.line21.specs.Value.{Line21, LegalUnit, LegalUnits, ByteUnits, LegalPayload, Typed, Legal, blank, stored, held}
 use Rattle.line21.specs.Layout.{layout}
 use Rattle.line21.specs.Writing.{unitVerdict, unitsVerdict, valueVerdict}
 use Rattle.line21.proofs.Layouts.{length-layoutUnits}
@@ -45,6 +45,36 @@ unit-accepted u h =
     let b : u .«cc_valid_2» ≤ 1 = omega arith in
     let c : u .padding ≤ 63 = omega arith in
     simp (le-ltb 1 (u .«cc_valid_1») a, le-ltb 1 (u .«cc_valid_2») b, le-ltb 63 (u .padding) c)
+
+-- the checks let through exactly the legal units, bytes being bytes
+pub units-accepted : (us : List AccessUnit) → LegalUnits us → unitsVerdict us ≡ Accepted
+units-accepted [] h = refl
+units-accepted (u ∷ us) h =
+    accepted-andThen (unitVerdict u) (unitsVerdict us)
+    (unit-accepted u (record { valid-1 = h .0 .valid-1; valid-2 = h .0 .valid-2; pad = h .0 .pad }))
+    (units-accepted us (h .1))
+
+pub accepted-units : (us : List AccessUnit) → ByteUnits us → unitsVerdict us ≡ Accepted → LegalUnits us
+accepted-units [] h e = tt
+accepted-units (u ∷ us) h e =
+    let both = andThen-accepted (unitVerdict u) (unitsVerdict us) e in
+    let unit = accepted-unit u (both .0) in (
+      record {
+        valid-1 = unit .valid-1;
+        valid-2 = unit .valid-2;
+        pad = unit .pad;
+        data-11 = h .0 .data-11;
+        data-12 = h .0 .data-12;
+        data-21 = h .0 .data-21;
+        data-22 = h .0 .data-22;
+      },
+      accepted-units us (h .1) (both .1),
+    )
+
+pub bytes-take : (k : ℕ) (us : List AccessUnit) → ByteUnits us → ByteUnits (take k us)
+bytes-take zero us h = tt
+bytes-take (suc k) [] h = tt
+bytes-take (suc k) (u ∷ us) h = (h .0, bytes-take k us (h .1))
 
 pub units-accepted-at : (us : List AccessUnit) → unitsVerdict us ≡ Accepted → (i : ℕ) → i < length us → unitVerdict (getD us i blank) ≡ Accepted
 units-accepted-at [] e i h = let f : ⊥ = omega arith in absurd f
@@ -94,3 +124,18 @@ accepted-value p room e =
       short = ltb-false 1456 (length (layout (held p))) (refuseIf-accepted _ _ _ (long .0));
       fits = ltb-false room (length (layout (held p))) (refuseIf-accepted _ _ _ (fit .0));
     }
+
+pub value-accepted : (p : Payload) (room : ℕ) → Writable p room → valueVerdict p room ≡ Accepted
+unfolding valueVerdict
+value-accepted p room w =
+    simp (le-ltb 291 (p .m) (w .few), w .each, le-ltb 1456 (length (layout (held p))) (w .short), le-ltb room (length (layout (held p))) (w .fits))
+
+-- by its type a struct's bytes are bytes, so what the checks let through is exactly what is legal and fits
+pub checked-legal : (p : Payload) → Typed p → p .m ≤ 291 → unitsVerdict (held p .units) ≡ Accepted → LegalPayload p
+checked-legal p t few each =
+    let units = accepted-units (held p .units) (bytes-take (p .m) (p .units) (t .bytes)) each in
+    let count : length (held p .units) ≤ 291 = omega (arith, length-held p (t .places) few) in
+    record { few = few; value = record { byte = t .byte; count = count; each = units } }
+
+pub legal-writable : (p : Payload) (room : ℕ) → LegalPayload p → length (layout (held p)) ≤ 1456 → length (layout (held p)) ≤ room → Writable p room
+legal-writable p room h short fits = record { few = h .few; each = units-accepted (held p .units) (h .value .each); short = short; fits = fits }

@@ -1,5 +1,6 @@
 -- A Line 21 payload's value, when it is legal, and how the code's structs hold it. Document 01, "Line 21 payload"; document 004, Table 2.
 use Prim.Native.Nat.{ℕ, _≤_, _<_}
+use mathlib.Core.Path.{_≡_}
 use mathlib.Core.List.{List, [], _∷_}
 use lib.ListN.{length, take}
 use Rattle.lists.specs.Room.{filled}
@@ -31,6 +32,31 @@ pub record Legal (v : Line21) : Type 0 where
   pub count : length (v .units) ≤ 291
   pub each : LegalUnits (v .units)
 
+-- the value that a struct holds: entries beyond m are not looked at
+abbrev pub held : Payload → Line21
+held p = record { flags = p .flags; units = take (p .m) (p .units) }
+
+-- the same of the struct that the code holds a value in: m is no more than its array has places, and the m units are legal
+pub record LegalPayload (p : Payload) : Type 0 where
+  pub few : p .m ≤ 291
+  pub value : Legal (held p)
+
+-- what every struct of the code satisfies by its type: bytes are bytes, and the array has 291 places
+pub record ByteUnit (u : AccessUnit) : Type 0 where
+  pub data-11 : u .«field1_data1» < 256
+  pub data-12 : u .«field1_data2» < 256
+  pub data-21 : u .«field2_data1» < 256
+  pub data-22 : u .«field2_data2» < 256
+
+abbrev pub ByteUnits : List AccessUnit → Type 0
+ByteUnits [] = Unit {0}
+ByteUnits (u ∷ us) = ByteUnit u × ByteUnits us
+
+pub record Typed (p : Payload) : Type 0 where
+  pub byte : p .flags < 256
+  pub places : length (p .units) ≡ 291
+  pub bytes : ByteUnits (p .units)
+
 -- a unit of zeros, which fills the room beyond the m units
 abbrev pub blank : AccessUnit
 blank = record { «cc_valid_1» = 0; «cc_valid_2» = 0; padding = 0; «field1_data1» = 0; «field1_data2» = 0; «field2_data1» = 0; «field2_data2» = 0 }
@@ -42,7 +68,3 @@ none = record { flags = 0; units = [] }
 -- the struct that holds a value: m units, and zeros beyond them
 abbrev pub stored : Line21 → Payload
 stored v = record { flags = v .flags; m = length (v .units); units = filled (v .units) 291 blank }
-
--- the value that a struct holds: entries beyond m are not looked at
-abbrev pub held : Payload → Line21
-held p = record { flags = p .flags; units = take (p .m) (p .units) }

@@ -32,3 +32,12 @@ accepted-andThen check next e f = ap (λ (v : Verdict). andThen v next) e ∙ f
 pub andThen-last : (check : Verdict) → andThen check Accepted ≡ check
 andThen-last Accepted = refl
 andThen-last (Refused reason item) = refl
+
+pub andThen-assoc : (a b c : Verdict) → andThen (andThen a b) c ≡ andThen a (andThen b c)
+andThen-assoc Accepted b c = refl
+andThen-assoc (Refused reason item) b c = refl
+
+-- what comes after a check that refuses is not reached
+pub andThen-refused : (check next : Verdict) → (check ≡ Accepted → ⊥) → andThen check next ≡ check
+andThen-refused Accepted next h = absurd (h refl)
+andThen-refused (Refused reason item) next h = refl

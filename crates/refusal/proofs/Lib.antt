@@ -1,1 +1,3 @@
 pub mod Checks
+pub mod Acceptance
+pub mod Outputs

@@ -56,12 +56,12 @@ not-there c =
     let judged = c .before .before .judge-length .ensures in
     ⊎-elim
     (λ w.
-      let past : length (valueOf s .units) ≤ i = omega (arith, counted s, w .2 .left) in
-      ap no-unit (c .told .ensures ∙ ap refusalOf (w .1 .given .1)) ∙ sym (one-beyond (valueOf s) i past)
-      ∙ ap (λ (v : Verdict). oneOf v (valueOf s) i) (sym (w .1 .given .1) ∙ judged))
+    let past : length (valueOf s .units) ≤ i = omega (arith, counted s, w .2 .left) in
+    ap no-unit (c .told .ensures ∙ ap refusalOf (w .1 .given .1)) ∙ sym (one-beyond (valueOf s) i past)
+    ∙ ap (λ (v : Verdict). oneOf v (valueOf s) i) (sym (w .1 .given .1) ∙ judged))
     (λ w.
-      ap no-unit (c .told .ensures ∙ ap refusalOf (w .1 .given .1)) ∙ sym (one-refused (valueOf s) i (w .1 .given .0 .0) (w .1 .given .0 .1 .0))
-      ∙ ap (λ (v : Verdict). oneOf v (valueOf s) i) (sym (w .1 .given .1) ∙ judged))
+    ap no-unit (c .told .ensures ∙ ap refusalOf (w .1 .given .1)) ∙ sym (one-refused (valueOf s) i (w .1 .given .0 .0) (w .1 .given .0 .1 .0))
+    ∙ ap (λ (v : Verdict). oneOf v (valueOf s) i) (sym (w .1 .given .1) ∙ judged))
     (c .before .match .came)
 
 pub read-unit-spec : {M : Type 1} → statement M

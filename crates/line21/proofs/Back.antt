@@ -1,0 +1,96 @@
+-- Layout and reading undo each other, unit by unit and for the whole value.
+-- Assumes nothing.
+use Prim.Native.Nat.{ℕ, zero, suc, _+_, _*_, _/_, _%_, _≤_, _<_}
+use native.Mathlib.Omega.{arith}
+use mathlib.Core.Path.{_≡_, _∙_, ap, ap₂, sym, refl}
+use mathlib.Core.List.{List, [], _∷_, _++_}
+use lib.ListN.{length, getD, drop}
+use Rattle.lists.specs.Bytes.{Bytes}
+use Rattle.line21.specs.declared.AccessUnit.{AccessUnit}
+use Rattle.line21.specs.Value.{Line21, LegalUnit, LegalUnits, Legal}
+use Rattle.line21.specs.Layout.{layoutUnit, layoutUnits, layout}
+use Rattle.line21.specs.Reading.{readUnit, readUnits, unitCount, valueOf}
+use Rattle.line21.proofs.Layouts.{length-layoutUnits}
+use Rattle.line21.proofs.Length.{Whole, unitCount-whole}
+use Rattle.line21.proofs.Units.{length-readUnits}
+
+-- what a unit's bytes read as is the unit
+readUnit-layout : (u : AccessUnit) → LegalUnit u → (rest : List ℕ) → readUnit (layoutUnit u ++ rest) ≡ u
+unfolding readUnit
+readUnit-layout u h rest =
+    let first = u .«cc_valid_1» * 128 + u .«cc_valid_2» * 64 + u .padding in
+    let one : first / 128 ≡ u .«cc_valid_1» = omega arith in
+    let two : first / 64 % 2 ≡ u .«cc_valid_2» = omega arith in
+    let pad : first % 64 ≡ u .padding = omega arith in
+    λ i. record {
+      «cc_valid_1» = one i;
+      «cc_valid_2» = two i;
+      padding = pad i;
+      «field1_data1» = u .«field1_data1»;
+      «field1_data2» = u .«field1_data2»;
+      «field2_data1» = u .«field2_data1»;
+      «field2_data2» = u .«field2_data2»;
+    }
+
+pub readUnits-layout : (us : List AccessUnit) → LegalUnits us → readUnits (length us) (layoutUnits us) ≡ us
+readUnits-layout [] h = refl
+readUnits-layout (u ∷ us) h = ap₂ (λ (x : AccessUnit) (xs : List AccessUnit). x ∷ xs) (readUnit-layout u (h .0) (layoutUnits us)) (readUnits-layout us (h .1))
+
+-- five bytes are the layout of what they read as, which is legal
+module _ (a b c d e : ℕ) (rest : List ℕ) where
+  layout-readUnit : a < 256 → layoutUnit (readUnit (a ∷ b ∷ c ∷ d ∷ e ∷ rest)) ≡ a ∷ b ∷ c ∷ d ∷ e ∷ []
+  unfolding readUnit
+  layout-readUnit ha =
+      let first : a / 128 * 128 + a / 64 % 2 * 64 + a % 64 ≡ a = omega arith in
+      ap (λ (x : ℕ). x ∷ b ∷ c ∷ d ∷ e ∷ []) first
+
+  legal-readUnit : a < 256 → b < 256 → c < 256 → d < 256 → e < 256 → LegalUnit (readUnit (a ∷ b ∷ c ∷ d ∷ e ∷ rest))
+  unfolding readUnit
+  legal-readUnit ha hb hc hd he = record { valid-1 = omega arith; valid-2 = omega arith; pad = omega arith; data-11 = hb; data-12 = hc; data-21 = hd; data-22 = he }
+
+-- so are whole units
+record Units (k : ℕ) (s : List ℕ) : Type 0 where
+  same : layoutUnits (readUnits k s) ≡ s
+  legal : LegalUnits (readUnits k s)
+
+units-back : (k : ℕ) (s : List ℕ) → Bytes s → length s ≡ 5 * k → Units k s
+units-back zero [] h n = record { same = refl; legal = tt }
+units-back zero (a ∷ s) h n = let f : ⊥ = omega arith in absurd f
+units-back (suc k) [] h n = let f : ⊥ = omega arith in absurd f
+units-back (suc k) (a ∷ []) h n = let f : ⊥ = omega arith in absurd f
+units-back (suc k) (a ∷ b ∷ []) h n = let f : ⊥ = omega arith in absurd f
+units-back (suc k) (a ∷ b ∷ c ∷ []) h n = let f : ⊥ = omega arith in absurd f
+units-back (suc k) (a ∷ b ∷ c ∷ d ∷ []) h n = let f : ⊥ = omega arith in absurd f
+units-back (suc k) (a ∷ b ∷ c ∷ d ∷ e ∷ rest) h n =
+    let left : length rest ≡ 5 * k = omega arith in
+    let more = units-back k rest (h .1 .1 .1 .1 .1) left in
+    record {
+      same = ap₂ (λ (x y : List ℕ). x ++ y) (layout-readUnit a b c d e rest (h .0)) (more .same);
+      legal = (legal-readUnit a b c d e rest (h .0) (h .1 .0) (h .1 .1 .0) (h .1 .1 .1 .0) (h .1 .1 .1 .1 .0), more .legal);
+    }
+
+-- the value that a payload of whole units holds is legal, and the payload is its layout
+pub record Payloads (s : List ℕ) : Type 0 where
+  pub same : layout (valueOf s) ≡ s
+  pub legal : Legal (valueOf s)
+
+pub payload-back : (s : List ℕ) → Bytes s → Whole (length s) → Payloads s
+payload-back [] h w = let f : ⊥ = omega (arith, w .exact) in absurd f
+payload-back (flags ∷ s) h w =
+    let k = unitCount (length (flags ∷ s)) in
+    let all : length s ≡ 5 * k = omega (arith, w .exact) in
+    let units = units-back k s (h .1) all in
+    record {
+      same = ap (λ (bytes : List ℕ). flags ∷ bytes) (units .same);
+      legal = record { byte = h .0; count = omega (arith, length-readUnits k s, w .most); each = units .legal };
+    }
+
+-- what a value's layout holds is the value
+pub length-layout : (v : Line21) → length (layout v) ≡ 1 + 5 * length (v .units)
+length-layout v = omega (arith, length-layoutUnits (v .units))
+
+pub value-layout : (v : Line21) → Legal v → valueOf (layout v) ≡ v
+value-layout v h =
+    let count : unitCount (length (layout v)) ≡ length (v .units) = unitCount-whole (length (layout v)) (length (v .units)) (length-layout v) in
+    let units : readUnits (unitCount (length (layout v))) (layoutUnits (v .units)) ≡ v .units = ap (λ (k : ℕ). readUnits k (layoutUnits (v .units))) count ∙ readUnits-layout (v .units) (h .each) in
+    λ i. record { flags = v .flags; units = units i }

@@ -1,0 +1,35 @@
+-- A caller tells a refusal from an acceptance by its number: no reason has number 0.
+-- Assumes nothing.
+use Prim.Native.Nat.{ℕ, _<_}
+use native.Mathlib.Omega.{arith}
+use mathlib.Core.Path.{_≡_, refl}
+use Rattle.refusal.specs.declared.Reason.{Reason}
+use Rattle.refusal.specs.declared.Reason.the-variants.{TooLong, NoStart, StartCode, SecondUnit, Ends, Unfixed, FieldNumberZero, DescriptorLine, FieldFalls, LineDoesNotRise, FifthPriority, SampledVideo, WordRange, WordParity, SdpChecksum, Checksum, Unfit, NoRoom, Unholdable}
+use Rattle.refusal.specs.declared.Verdict.{Verdict}
+use Rattle.refusal.specs.declared.Verdict.the-variants.{Accepted, Refused}
+use Rattle.refusal.specs.Numbers.{numberOf, refusalOf}
+
+number-not-zero : (reason : Reason) → 0 < numberOf reason
+number-not-zero TooLong = omega arith
+number-not-zero NoStart = omega arith
+number-not-zero StartCode = omega arith
+number-not-zero SecondUnit = omega arith
+number-not-zero Ends = omega arith
+number-not-zero (Unfixed which) = omega arith
+number-not-zero FieldNumberZero = omega arith
+number-not-zero DescriptorLine = omega arith
+number-not-zero FieldFalls = omega arith
+number-not-zero LineDoesNotRise = omega arith
+number-not-zero FifthPriority = omega arith
+number-not-zero SampledVideo = omega arith
+number-not-zero WordRange = omega arith
+number-not-zero WordParity = omega arith
+number-not-zero SdpChecksum = omega arith
+number-not-zero Checksum = omega arith
+number-not-zero (Unfit which) = omega arith
+number-not-zero NoRoom = omega arith
+number-not-zero (Unholdable which) = omega arith
+
+pub told-accepted : (verdict : Verdict) → refusalOf verdict .number ≡ 0 → verdict ≡ Accepted
+told-accepted Accepted e = refl
+told-accepted (Refused reason item) e = let f : ⊥ = omega (arith, number-not-zero reason) in absurd f
