@@ -21,17 +21,14 @@ use refusal::Written;
 pub fn write(p: Payload, out: &mut [u8]) -> Written
     ensures { λ r. ⌜ Writes p (now (out .entry)) r (now (out .exit)) ⌝ }
 {
-    let verdict = judge_value(p, out.len());
-    let refusal = refusal::told(verdict);
-    match verdict {
-        Verdict::Accepted => {
-            put(p, out);
-            Written {
-                refusal,
-                len: 1 + UNIT_BYTES * p.m,
-            }
-        }
-        Verdict::Refused(_, _) => Written { refusal, len: 0 },
+    let refusal = refusal::told(judge_value(p, out.len()));
+    if refusal.number != 0 {
+        return Written { refusal, len: 0 };
+    }
+    put(p, out);
+    Written {
+        refusal,
+        len: 1 + UNIT_BYTES * p.m,
     }
 }
 

@@ -12,6 +12,7 @@ use Rattle.refusal.specs.declared.Written.{Written}
 use Rattle.refusal.specs.Numbers.{refusalOf}
 use Rattle.refusal.specs.Answers.{countedOf, leftOf, Wrote}
 use Rattle.refusal.proofs.Acceptance.{told-accepted}
+use Rattle.refusal.proofs.Checks.{refused-not-accepted}
 
 told : (verdict : Verdict) (laid : List ℕ) → countedOf verdict laid .refusal ≡ refusalOf verdict
 told Accepted laid = refl
@@ -20,6 +21,15 @@ told (Refused reason item) laid = refl
 refused-left : (verdict : Verdict) (laid out : List ℕ) → (countedOf verdict laid .refusal .number ≡ 0 → ⊥) → (countedOf verdict laid .len ≡ 0) × (leftOf verdict laid out ≡ out)
 refused-left Accepted laid out h = absurd (h refl)
 refused-left (Refused reason item) laid out h = (refl, refl)
+
+-- the two ways to keep the promise
+pub wrote-nothing : (verdict : Verdict) (laid out : List ℕ) → (refusalOf verdict .number ≡ 0 → ⊥) → Wrote verdict laid out (record { refusal = refusalOf verdict; len = 0 }) out
+wrote-nothing Accepted laid out h = absurd (h refl)
+wrote-nothing (Refused reason item) laid out h = record { counted = refl; left = refl }
+
+pub wrote-laid : (verdict : Verdict) (laid out : List ℕ) → refusalOf verdict .number ≡ 0 → Wrote verdict laid out (record { refusal = refusalOf verdict; len = length laid }) (over laid out)
+wrote-laid Accepted laid out e = record { counted = refl; left = refl }
+wrote-laid (Refused reason item) laid out e = refused-not-accepted reason item (told-accepted (Refused reason item) e)
 
 module _ (verdict : Verdict) (laid out : List ℕ) (answer : Written) (exit : List ℕ) (wrote : Wrote verdict laid out answer exit) where
   -- the refusal told is the verdict's

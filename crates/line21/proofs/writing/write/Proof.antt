@@ -1,74 +1,67 @@
--- `line21::writing::write` meets its contract: in each arm the verdict is that arm's, and `Wrote` computes at it.
+-- `line21::writing::write` meets its contract: it stores where the refusal's number is 0, which is where the verdict accepts.
 -- Assumes nothing.
 use Prim.Native.Nat.{ℕ}
 use native.Mathlib.Omega.{arith}
-use mathlib.Core.Path.{_≡_, _∙_, ap, ap₂, sym}
+use mathlib.Core.Path.{_≡_, _∙_, ap, sym, subst, subst₃}
 use mathlib.Core.List.{List}
 use borrow.Author.Needs.{needs}
 use denote.Ref.{now}
 use lib.ListN.{length, length-map}
 use Rattle.refusal.specs.declared.Refusal.{Refusal}
-use Rattle.refusal.specs.declared.Verdict.{Verdict}
-use Rattle.refusal.specs.declared.Written.{Written}
 use Rattle.refusal.specs.Numbers.{refusalOf}
-use Rattle.refusal.specs.Answers.{countedOf, leftOf}
+use Rattle.refusal.specs.Answers.{Wrote}
+use Rattle.refusal.proofs.Acceptance.{told-accepted}
+use Rattle.refusal.proofs.Outputs.{wrote-nothing, wrote-laid}
 use Rattle.line21.specs.Value.{held}
 use Rattle.line21.specs.Layout.{layout}
+use Rattle.line21.specs.Writing.{valueVerdict}
 use Rattle.line21.proofs.Numbers.{Writable, accepted-value, length-layout-held}
 use Rattle.line21.proofs.writing.write.Statement.{statement}
 use Rattle.line21.proofs.writing.write.Tie as tie
 
-made : Refusal → ℕ → Written
-made refusal len = record { refusal = refusal; len = len }
-
 room : (c : tie.Start) → length (c .args .p .units) ≡ 291
 room c = sym (length-map (c .args .p .units) _) ∙ c .good .0 .1 .1 .1 .1 .0 .1 .0 .1
 
-writable : (c : tie.After-enum-told) → Writable (c .before .before .before .before .before .args .p) (length (now (c .before .before .before .before .before .args .out)))
-writable c =
-    accepted-value (c .before .before .before .before .before .args .p) (length (now (c .before .before .before .before .before .args .out)))
-    (sym (c .before .before .before .judge-value .ensures) ∙ c .enum-told .given .1)
+told : (c : tie.After-told) → c .told .result ≡ refusalOf (valueVerdict (c .before .before .before .args .p) (length (now (c .before .before .before .args .out))))
+told c = c .told .ensures ∙ ap refusalOf (c .before .judge-value .ensures)
 
-put-requires : tie.Need-put-requires
-put-requires c κs = sym (c .before .before .before .before .judge-value .ensures) ∙ c .before .enum-told .given .1
+-- past the test the value is accepted
+zero : (c : tie.Else1) → refusalOf (valueVerdict (c .before .before .before .before .before .args .p) (length (now (c .before .before .before .before .before .args .out)))) .number ≡ 0
+zero c = sym (ap (λ (r : Refusal). r .number) (told (c .before .before))) ∙ c .if1 .left
 
-mul-t10 : tie.Need-mul-t10
-mul-t10 c = omega (arith, writable (c .before .before .before .before .before) .few)
+writable : (c : tie.Else1) → Writable (c .before .before .before .before .before .args .p) (length (now (c .before .before .before .before .before .args .out)))
+writable c = accepted-value _ _ (told-accepted _ (zero c))
 
-add-t11 : tie.Need-add-t11
-add-t11 c = omega (arith, writable (c .before .before .before .before .before) .few)
-
-same-length : tie.Need-same-length
-same-length c = search needs
-
-accepted : tie.Need-returns
-unfolding made
-accepted c =
-    let told = c .before .before .before .before .before in
-    let start = told .before .before .before .before .before in
-    let p = start .args .p in
-    let judged = told .enum-told .given .1 in
-    let verdict = sym judged ∙ told .before .before .before .judge-value .ensures in
-    record {
-      counted =
-          ap₂ made (told .before .before .told .ensures ∙ ap refusalOf judged) (sym (length-layout-held p (room start) (writable told .few)))
-          ∙ ap (λ (v : Verdict). countedOf v (layout (held p))) verdict;
-      left = c .before .before .before .put .ensures ∙ ap (λ (v : Verdict). leftOf v (layout (held p)) (now (start .args .out))) verdict;
-    }
-
-refused : tie.Need-returns-2
-unfolding made
+refused : tie.Need-returns
 refused c =
     let start = c .before .before .before .before .before in
+    let out = now (start .args .out) in
+    let laid = layout (held (start .args .p)) in
+    let verdict = valueVerdict (start .args .p) (length out) in
+    subst (λ (r : Refusal). Wrote verdict laid out (record { refusal = r; len = 0 }) out) (sym (told (c .before .before)))
+    (wrote-nothing verdict laid out (λ e. c .if1 .taken (ap (λ (r : Refusal). r .number) (told (c .before .before)) ∙ e)))
+
+put-requires : tie.Need-put-requires
+put-requires c κs = told-accepted _ (zero (c .before))
+
+mul-t5 : tie.Need-mul-t5
+mul-t5 c = omega (arith, writable (c .before .before .before .before .before) .few)
+
+add-t10 : tie.Need-add-t10
+add-t10 c = omega (arith, writable (c .before .before .before .before .before) .few)
+
+accepted : tie.Need-returns-2
+accepted c =
+    let past = c .before .before .before .before .before in
+    let start = past .before .before .before .before .before in
     let p = start .args .p in
-    let judged = c .enum-told2 .given .1 in
-    let verdict = sym judged ∙ c .before .before .before .judge-value .ensures in
-    record {
-      counted =
-          ap (λ (refusal : Refusal). made refusal 0) (c .before .before .told .ensures ∙ ap refusalOf judged)
-          ∙ ap (λ (v : Verdict). countedOf v (layout (held p))) verdict;
-      left = ap (λ (v : Verdict). leftOf v (layout (held p)) (now (start .args .out))) verdict;
-    }
+    let out = now (start .args .out) in
+    let verdict = valueVerdict p (length out) in
+    subst₃ (λ (r : Refusal) (n : ℕ) (exit : List ℕ). Wrote verdict (layout (held p)) out (record { refusal = r; len = n }) exit)
+    (sym (told (past .before .before)))
+    (length-layout-held p (room start) (writable past .few))
+    (sym (c .before .before .before .put .ensures))
+    (wrote-laid verdict (layout (held p)) out (zero past))
 
 pub write-spec : {M : Type 1} → statement M
 write-spec =
@@ -76,11 +69,9 @@ write-spec =
     (tie.spec
     (λ c κs. search needs)
     (λ c κs. search needs)
-    (λ c. search needs)
+    refused
     put-requires
-    mul-t10
-    add-t11
+    mul-t5
+    add-t10
     (λ c. search needs)
-    same-length
-    accepted
-    refused)
+    accepted)
