@@ -1,3 +1,4 @@
 pub mod Checks
 pub mod Acceptance
 pub mod Outputs
+pub mod Theorems
