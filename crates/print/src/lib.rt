@@ -1,0 +1,40 @@
+// What the programs print, to standard output.
+//
+// Each function answers nothing, and a write that fails is not reported: a program that cannot print
+// has nowhere to say so.
+ghost use mathlib.Core.Path.{_≡_};
+ghost use Prim.Native.Nat.{_<_};
+ghost use Rattle.print.specs.Digits.{digitOf};
+use libc::STDOUT_FILENO;
+use refusal::Refusal;
+
+pub fn text(bytes: &[u8]) {
+    io::write_all(STDOUT_FILENO, bytes);
+}
+
+pub fn decimal(n: u64) {
+    io::print_decimal(STDOUT_FILENO, n);
+}
+
+// A byte as two upper-case hex digits.
+pub fn hex(b: u8) {
+    let digits = [digit(b / 16), digit(b % 16)];
+    text(&digits);
+}
+
+// A refusal and a line feed.
+pub fn refused(r: Refusal) {
+    text(b"refused ");
+    decimal(r.number as u64);
+    text(b" at ");
+    decimal(r.place as u64);
+    text(b"\n");
+}
+
+// The character of a hex digit.
+fn digit(d: u8) -> u8
+    requires { ⌜ d < 16 ⌝ }
+    ensures { λ r. ⌜ r ≡ digitOf d ⌝ }
+{
+    if d < 10 { b'0' + d } else { b'A' + (d - 10) }
+}

@@ -1,0 +1,15 @@
+-- Numbers in four bytes, the most significant first, and the pattern of an output. Assumes nothing.
+use Prim.Native.Nat.{ℕ, _+_, _*_, _/_, _%_}
+use mathlib.Core.List.{List}
+use lib.ListN.{getD, set}
+
+abbrev pub numberOf : List ℕ → ℕ
+numberOf s = (getD s 0 0 * 256 + getD s 1 0) * 65536 + (getD s 2 0 * 256 + getD s 3 0)
+
+-- a list with the four bytes of n at an index; those that lie beyond the end are left out
+abbrev pub numberPut : List ℕ → ℕ → ℕ → List ℕ
+numberPut s at n =
+    set (set (set (set s at (n / 16777216 % 256)) (at + 1) (n / 65536 % 256)) (at + 2) (n / 256 % 256)) (at + 3) (n % 256)
+
+abbrev pub patternAt : ℕ → ℕ
+patternAt i = (i * 37 + 11) % 256
