@@ -2,16 +2,20 @@
 -- Assumes nothing.
 use Prim.Native.Nat.{ℕ, zero, suc, _+_, _*_, _/_, _%_, _≤_, _<_}
 use native.Mathlib.Omega.{arith}
-use mathlib.Core.Path.{_≡_, _∙_, ap, ap₂, sym, refl}
+use mathlib.Core.Path.{_≡_, _∙_, ap, ap₂, sym, subst, refl}
 use mathlib.Core.List.{List, [], _∷_, _++_}
 use lib.ListN.{length, getD, drop}
 use Rattle.lists.specs.Bytes.{Bytes}
+use Rattle.refusal.specs.declared.Verdict.the-variants.{Accepted}
 use Rattle.line21.specs.declared.AccessUnit.{AccessUnit}
-use Rattle.line21.specs.Value.{Line21, LegalUnit, LegalUnits, Legal}
+use Rattle.line21.specs.declared.Payload.{Payload}
+use Rattle.line21.specs.declared.Answer.{Answer}
+use Rattle.line21.specs.Value.{Line21, LegalUnit, LegalUnits, Legal, LegalPayload, stored, held}
 use Rattle.line21.specs.Layout.{layoutUnit, layoutUnits, layout}
-use Rattle.line21.specs.Reading.{readUnit, readUnits, unitCount, valueOf}
+use Rattle.line21.specs.Reading.{readUnit, readUnits, unitCount, valueOf, answerOf, readOf, Reads}
 use Rattle.line21.proofs.Layouts.{length-layoutUnits}
-use Rattle.line21.proofs.Length.{Whole, unitCount-whole}
+use Rattle.line21.proofs.Length.{Whole, unitCount-whole, whole-accepted}
+use Rattle.line21.proofs.Answers.{accepted-answer, accepted-length, held-stored, stored-legal}
 use Rattle.line21.proofs.Units.{length-readUnits}
 
 -- what a unit's bytes read as is the unit
@@ -46,7 +50,13 @@ module _ (a b c d e : ℕ) (rest : List ℕ) where
 
   legal-readUnit : a < 256 → b < 256 → c < 256 → d < 256 → e < 256 → LegalUnit (readUnit (a ∷ b ∷ c ∷ d ∷ e ∷ rest))
   unfolding readUnit
-  legal-readUnit ha hb hc hd he = record { valid-1 = omega arith; valid-2 = omega arith; pad = omega arith; data-11 = hb; data-12 = hc; data-21 = hd; data-22 = he }
+  legal-readUnit ha hb hc hd he =
+      record {
+        valid-1 = omega arith;
+        valid-2 = omega arith;
+        pad = omega arith;
+        bytes = record { field1-data1 = hb; field1-data2 = hc; field2-data1 = hd; field2-data2 = he };
+      }
 
 -- so are whole units
 record Units (k : ℕ) (s : List ℕ) : Type 0 where
@@ -94,3 +104,26 @@ value-layout v h =
     let count : unitCount (length (layout v)) ≡ length (v .units) = unitCount-whole (length (layout v)) (length (v .units)) (length-layout v) in
     let units : readUnits (unitCount (length (layout v))) (layoutUnits (v .units)) ≡ v .units = ap (λ (k : ℕ). readUnits k (layoutUnits (v .units))) count ∙ readUnits-layout (v .units) (h .each) in
     λ i. record { flags = v .flags; units = units i }
+
+-- reading a legal value's bytes answers that value
+pub read-layout : (v : Line21) → Legal v → readOf (layout v) ≡ answerOf Accepted v
+read-layout v h = ap₂ answerOf (whole-accepted (length (layout v)) (length (v .units)) (length-layout v) (h .count)) (value-layout v h)
+
+-- what is accepted holds a legal value, whose layout it is
+pub read-legal : (s : List ℕ) → Bytes s → readOf s .refusal .number ≡ 0 → Payloads s
+read-legal s h e = payload-back s h (accepted-length s e)
+
+-- and so does the struct that was read
+pub record Stored (s : List ℕ) (p : Payload) : Type 0 where
+  pub same : layout (held p) ≡ s
+  pub legal : LegalPayload p
+
+pub read-stored : (s : List ℕ) (a : Answer) → Reads s a → a .refusal .number ≡ 0 → Stored s (a .payload)
+read-stored s a read e =
+    let zero = sym (ap (λ (x : Answer). x .refusal .number) (read .answer)) ∙ e in
+    let back = read-legal s (read .bytes) zero in
+    let struct : a .payload ≡ stored (valueOf s) = ap (λ (x : Answer). x .payload) (read .answer ∙ accepted-answer s zero) in
+    record {
+      same = ap (λ (q : Payload). layout (held q)) struct ∙ ap layout (held-stored (valueOf s)) ∙ back .same;
+      legal = subst LegalPayload (sym struct) (stored-legal (valueOf s) (back .legal));
+    }

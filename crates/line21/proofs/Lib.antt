@@ -1,6 +1,7 @@
 pub mod Length
 pub mod Units
 pub mod Layouts
+pub mod Types
 pub mod Numbers
 pub mod Fifteen
 pub mod Answers

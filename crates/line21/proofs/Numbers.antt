@@ -63,10 +63,7 @@ accepted-units (u ∷ us) h e =
         valid-1 = unit .valid-1;
         valid-2 = unit .valid-2;
         pad = unit .pad;
-        data-11 = h .0 .data-11;
-        data-12 = h .0 .data-12;
-        data-21 = h .0 .data-21;
-        data-22 = h .0 .data-22;
+        bytes = h .0;
       },
       accepted-units us (h .1) (both .1),
     )

@@ -1,10 +1,11 @@
 -- What reading a Line 21 payload answers, for every list of bytes. Document 01, "Which refusal comes first": 2, 1, 13.
-use Prim.Native.Nat.{ℕ, zero, suc, _+_, _-_, _*_, _/_, _%_}
+use Prim.Native.Nat.{ℕ, zero, suc, _-_, _/_, _%_}
 use mathlib.Core.Path.{_≡_}
 use mathlib.Core.Bool.{not}
 use mathlib.Core.List.{List, [], _∷_}
 use lib.Dec.{eqb, ltb}
 use lib.ListN.{length, getD, take, drop}
+use Rattle.lists.specs.Bytes.{Bytes}
 use Rattle.refusal.specs.declared.Verdict.{Verdict}
 use Rattle.refusal.specs.declared.Verdict.the-variants.{Accepted, Refused}
 use Rattle.refusal.specs.declared.Refusal.{Refusal}
@@ -70,13 +71,15 @@ abbrev pub shown : One → Refusal × List AccessUnit
 shown (one.Unit u) = (refusalOf Accepted, u ∷ [])
 shown (one.None refusal) = (refusal, [])
 
--- the promises of `read`, `read_head` and `read_unit`
-abbrev pub Reads : List ℕ → Answer → Type 0
-Reads s r = r ≡ readOf s
+-- the promise of `read`. By its type its input is a list of bytes; the code shows that too, so that the theorems assume nothing
+pub record Reads (s : List ℕ) (r : Answer) : Type 0 where
+  pub bytes : Bytes s
+  pub answer : r ≡ readOf s
 
+-- the promise of `read_head`
 abbrev pub ReadsHead : List ℕ → Head → Type 0
 ReadsHead s r = r ≡ headOf (readOf s)
 
--- the unit of index i and no other, and none beyond the last
+-- the promise of `read_unit`: the unit of index i and no other, and none beyond the last
 abbrev pub ReadsUnit : List ℕ → ℕ → One → Type 0
 ReadsUnit s i r = shown r ≡ (readOf s .refusal, take 1 (drop i (held (readOf s .payload) .units)))

@@ -12,15 +12,19 @@ pub record Line21 : Type 0 where
   pub flags : ℕ
   pub units : List AccessUnit
 
--- the flags are bits, the padding is 0 to 63, and the four data bytes are bytes, whatever the flags say
+-- the four data bytes are bytes, whatever the flags say
+pub record ByteUnit (u : AccessUnit) : Type 0 where
+  pub field1-data1 : u .«field1_data1» < 256
+  pub field1-data2 : u .«field1_data2» < 256
+  pub field2-data1 : u .«field2_data1» < 256
+  pub field2-data2 : u .«field2_data2» < 256
+
+-- the flags are bits, and the padding is 0 to 63
 pub record LegalUnit (u : AccessUnit) : Type 0 where
   pub valid-1 : u .«cc_valid_1» < 2
   pub valid-2 : u .«cc_valid_2» < 2
   pub pad : u .padding < 64
-  pub data-11 : u .«field1_data1» < 256
-  pub data-12 : u .«field1_data2» < 256
-  pub data-21 : u .«field2_data1» < 256
-  pub data-22 : u .«field2_data2» < 256
+  pub bytes : ByteUnit u
 
 abbrev pub LegalUnits : List AccessUnit → Type 0
 LegalUnits [] = Unit {0}
@@ -42,12 +46,6 @@ pub record LegalPayload (p : Payload) : Type 0 where
   pub value : Legal (held p)
 
 -- what every struct of the code satisfies by its type: bytes are bytes, and the array has 291 places
-pub record ByteUnit (u : AccessUnit) : Type 0 where
-  pub data-11 : u .«field1_data1» < 256
-  pub data-12 : u .«field1_data2» < 256
-  pub data-21 : u .«field2_data1» < 256
-  pub data-22 : u .«field2_data2» < 256
-
 abbrev pub ByteUnits : List AccessUnit → Type 0
 ByteUnits [] = Unit {0}
 ByteUnits (u ∷ us) = ByteUnit u × ByteUnits us

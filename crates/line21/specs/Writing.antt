@@ -14,7 +14,7 @@ use Rattle.refusal.specs.Checks.{refuseIf, andThen, first}
 use Rattle.refusal.specs.Answers.{Wrote}
 use Rattle.line21.specs.declared.AccessUnit.{AccessUnit}
 use Rattle.line21.specs.declared.Payload.{Payload}
-use Rattle.line21.specs.Value.{held}
+use Rattle.line21.specs.Value.{Typed, held}
 use Rattle.line21.specs.Layout.{layout}
 
 -- each flag is one bit, the padding six
@@ -39,6 +39,7 @@ valueVerdict p room =
     ∷ refuseIf (ltb room (length (layout (held p)))) NoRoom Whole
     ∷ [])
 
--- the promise of `write`
-abbrev pub Writes : Payload → List ℕ → Written → List ℕ → Type 0
-Writes p out answer exit = Wrote (valueVerdict p (length out)) (layout (held p)) out answer exit
+-- the promise of `write`. By its type the struct's bytes are bytes and its array has 291 places; the code shows that too
+pub record Writes (p : Payload) (out : List ℕ) (answer : Written) (exit : List ℕ) : Type 0 where
+  pub typed : Typed p
+  pub wrote : Wrote (valueVerdict p (length out)) (layout (held p)) out answer exit

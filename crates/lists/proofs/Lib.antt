@@ -1,2 +1,3 @@
 pub mod Fill
 pub mod Lay
+pub mod Each

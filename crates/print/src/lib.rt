@@ -3,7 +3,7 @@
 // Each function answers nothing, and a write that fails is not reported: a program that cannot print
 // has nowhere to say so.
 ghost use mathlib.Core.Path.{_≡_};
-ghost use Prim.Native.Nat.{_<_};
+ghost use Prim.Native.Nat.{_%_};
 ghost use Rattle.print.specs.Digits.{digitOf};
 use libc::STDOUT_FILENO;
 use refusal::Refusal;
@@ -18,7 +18,7 @@ pub fn decimal(n: u64) {
 
 // A byte as two upper-case hex digits.
 pub fn hex(b: u8) {
-    let digits = [digit(b / 16), digit(b % 16)];
+    let digits = [digit(b / 16), digit(b)];
     text(&digits);
 }
 
@@ -31,10 +31,10 @@ pub fn refused(r: Refusal) {
     text(b"\n");
 }
 
-// The character of a hex digit.
+// The character of the hex digit that d is, modulo 16.
 fn digit(d: u8) -> u8
-    requires { ⌜ d < 16 ⌝ }
-    ensures { λ r. ⌜ r ≡ digitOf d ⌝ }
+    ensures { λ r. ⌜ r ≡ digitOf (d % 16) ⌝ }
 {
-    if d < 10 { b'0' + d } else { b'A' + (d - 10) }
+    let n = d % 16;
+    if n < 10 { b'0' + n } else { b'A' + (n - 10) }
 }

@@ -1,10 +1,13 @@
 -- `line21::reading::read` meets its contract: in each arm the verdict is that arm's, and `answerOf` computes at it.
 -- Assumes nothing.
+use native.Mathlib.Omega.{arith}
 use mathlib.Core.Path.{_≡_, _∙_, ap, ap₂, sym}
 use mathlib.Core.List.{List}
 use Prim.Native.Nat.{ℕ}
 use borrow.Author.Needs.{needs}
 use denote.Ref.{now}
+use Rattle.lists.specs.Bytes.{Bytes}
+use Rattle.lists.proofs.Each.{bytes-each}
 use Rattle.refusal.specs.declared.Refusal.{Refusal}
 use Rattle.refusal.specs.declared.Verdict.{Verdict}
 use Rattle.refusal.specs.Numbers.{refusalOf}
@@ -23,21 +26,32 @@ answered s verdict = answerOf verdict (valueOf s)
 collect-requires : tie.Need-collect-requires
 collect-requires c κs = sym (c .before .before .before .judge-length .ensures) ∙ c .enum-told .given .1
 
+bytes : (c : tie.After-shared-slice-known) → Bytes (now (c .before .args .s))
+bytes c = bytes-each (now (c .before .args .s)) (λ i h. omega (arith, c .shared-slice-known .given i))
+
 accepted : tie.Need-returns
 unfolding made answered
 accepted c =
-    let s = now (c .before .before .before .before .before .before .args .s) in
     let told = c .before .enum-told .given .1 in
-    ap₂ made (c .before .before .before .told .ensures ∙ ap refusalOf told) (c .collect .ensures)
-    ∙ ap (answered s) (sym told ∙ c .before .before .before .before .judge-length .ensures)
+    let known = c .before .before .before .before .before in
+    record {
+      bytes = bytes known;
+      answer =
+          ap₂ made (c .before .before .before .told .ensures ∙ ap refusalOf told) (c .collect .ensures)
+          ∙ ap (answered (now (known .before .args .s))) (sym told ∙ c .before .before .before .before .judge-length .ensures);
+    }
 
 refused : tie.Need-returns-2
 unfolding made answered
 refused c =
-    let s = now (c .before .before .before .before .before .before .args .s) in
     let told = c .before .enum-told2 .given .1 in
-    ap₂ made (c .before .before .before .told .ensures ∙ ap refusalOf told) (c .nothing .ensures)
-    ∙ ap (answered s) (sym told ∙ c .before .before .before .before .judge-length .ensures)
+    let known = c .before .before .before .before .before in
+    record {
+      bytes = bytes known;
+      answer =
+          ap₂ made (c .before .before .before .told .ensures ∙ ap refusalOf told) (c .nothing .ensures)
+          ∙ ap (answered (now (known .before .args .s))) (sym told ∙ c .before .before .before .before .judge-length .ensures);
+    }
 
 pub read-spec : {M : Type 1} → statement M
 read-spec =

@@ -9,7 +9,7 @@ use mathlib.Core.List.{List, [], _∷_}
 use borrow.Author.Needs.{needs}
 use borrow.Author.Tests.{lt-ltb, le-ltb}
 use lib.Dec.{ltb}
-use lib.ListN.{length, take, drop, getD, length-map, drop-of-length-le}
+use lib.ListN.{length, take, drop, getD, drop-of-length-le}
 use lib.Seq.{drop-cons, getD-take}
 use Rattle.refusal.specs.declared.Verdict.{Verdict}
 use Rattle.refusal.specs.declared.Reason.the-variants.{NoRoom}
@@ -18,6 +18,7 @@ use Rattle.refusal.specs.Checks.{refuseIf, andThen}
 use Rattle.line21.specs.declared.AccessUnit.{AccessUnit}
 use Rattle.line21.specs.Value.{blank, held}
 use Rattle.line21.specs.Writing.{unitVerdict, unitsVerdict, valueVerdict}
+use Rattle.line21.proofs.Types.{typed}
 use Rattle.line21.proofs.Numbers.{length-held, units-from, verdict-few}
 use Rattle.line21.proofs.writing.judge_value.Statement.{statement}
 use Rattle.line21.proofs.writing.judge_value.Tie as tie
@@ -31,7 +32,7 @@ abbrev μ-loop : tie.MeasureT-loop
 μ-loop room p i₀ i = p .m - i
 
 room : (c : tie.Start Inv-loop μ-loop) → length (c .args .t1 .units) ≡ 291
-room c = sym (length-map (c .args .t1 .units) _) ∙ c .good .0 .1 .1 .1 .1 .0 .1 .0 .1
+room c = typed (c .args .t1) _ (c .good .0) .places
 
 -- the code's first test was passed
 few : (c : tie.At-loop Inv-loop μ-loop) → c .before .before .args .t1 .m ≤ 291

@@ -6,7 +6,7 @@ use mathlib.Core.Path.{_≡_, _∙_, ap, sym}
 use mathlib.Core.List.{List, [], _∷_, _++_}
 use denote.Ref.{now}
 use borrow.Rule.Slice.PartMut.{putMid}
-use lib.ListN.{length, take, drop, getD, set, length-map, length-set, length-drop}
+use lib.ListN.{length, take, drop, getD, set, length-set, length-drop}
 use lib.Seq.{length-take-le, getD-take, sets-eq, drop-set-lt}
 use Rattle.lists.specs.Room.{over}
 use Rattle.lists.proofs.Lay.{length-over, over-more, rest-whole}
@@ -16,6 +16,7 @@ use Rattle.line21.specs.Value.{blank, held}
 use Rattle.line21.specs.Layout.{layout, layoutUnit, layoutUnits}
 use Rattle.line21.specs.Writing.{unitVerdict}
 use Rattle.line21.proofs.Layouts.{length-layoutUnits, layoutUnits-more}
+use Rattle.line21.proofs.Types.{typed}
 use Rattle.line21.proofs.Numbers.{Writable, accepted-value, length-held, length-layout-held, units-accepted-at}
 use Rattle.line21.proofs.writing.put.Statement.{statement}
 use Rattle.line21.proofs.writing.put.Tie as tie
@@ -33,7 +34,7 @@ abbrev μ-loop : tie.MeasureT-loop
 μ-loop out₀ p i₀ out i = p .m - i
 
 room : (c : tie.Start Inv-loop μ-loop) → length (c .args .t1 .units) ≡ 291
-room c = sym (length-map (c .args .t1 .units) _) ∙ c .good .0 .1 .1 .1 .1 .0 .1 .0 .1
+room c = typed (c .args .t1) _ (c .good .0) .places
 
 writable : (c : tie.Start Inv-loop μ-loop) → Writable (c .args .t1) (length (now (c .args .out)))
 writable c = accepted-value (c .args .t1) (length (now (c .args .out))) (c .pre)

@@ -6,7 +6,7 @@ use mathlib.Core.Path.{_≡_, _∙_, ap, sym, subst, subst₃}
 use mathlib.Core.List.{List}
 use borrow.Author.Needs.{needs}
 use denote.Ref.{now}
-use lib.ListN.{length, length-map}
+use lib.ListN.{length}
 use Rattle.refusal.specs.declared.Refusal.{Refusal}
 use Rattle.refusal.specs.Numbers.{refusalOf}
 use Rattle.refusal.specs.Answers.{Wrote}
@@ -15,12 +15,10 @@ use Rattle.refusal.proofs.Outputs.{wrote-nothing, wrote-laid}
 use Rattle.line21.specs.Value.{held}
 use Rattle.line21.specs.Layout.{layout}
 use Rattle.line21.specs.Writing.{valueVerdict}
+use Rattle.line21.proofs.Types.{typed}
 use Rattle.line21.proofs.Numbers.{Writable, accepted-value, length-layout-held}
 use Rattle.line21.proofs.writing.write.Statement.{statement}
 use Rattle.line21.proofs.writing.write.Tie as tie
-
-room : (c : tie.Start) → length (c .args .p .units) ≡ 291
-room c = sym (length-map (c .args .p .units) _) ∙ c .good .0 .1 .1 .1 .1 .0 .1 .0 .1
 
 told : (c : tie.After-told) → c .told .result ≡ refusalOf (valueVerdict (c .before .before .before .args .p) (length (now (c .before .before .before .args .out))))
 told c = c .told .ensures ∙ ap refusalOf (c .before .judge-value .ensures)
@@ -38,8 +36,12 @@ refused c =
     let out = now (start .args .out) in
     let laid = layout (held (start .args .p)) in
     let verdict = valueVerdict (start .args .p) (length out) in
-    subst (λ (r : Refusal). Wrote verdict laid out (record { refusal = r; len = 0 }) out) (sym (told (c .before .before)))
-    (wrote-nothing verdict laid out (λ e. c .if1 .taken (ap (λ (r : Refusal). r .number) (told (c .before .before)) ∙ e)))
+    record {
+      typed = typed (start .args .p) _ (start .good .0);
+      wrote =
+          subst (λ (r : Refusal). Wrote verdict laid out (record { refusal = r; len = 0 }) out) (sym (told (c .before .before)))
+          (wrote-nothing verdict laid out (λ e. c .if1 .taken (ap (λ (r : Refusal). r .number) (told (c .before .before)) ∙ e)));
+    }
 
 put-requires : tie.Need-put-requires
 put-requires c κs = told-accepted _ (zero (c .before))
@@ -57,11 +59,15 @@ accepted c =
     let p = start .args .p in
     let out = now (start .args .out) in
     let verdict = valueVerdict p (length out) in
-    subst₃ (λ (r : Refusal) (n : ℕ) (exit : List ℕ). Wrote verdict (layout (held p)) out (record { refusal = r; len = n }) exit)
-    (sym (told (past .before .before)))
-    (length-layout-held p (room start) (writable past .few))
-    (sym (c .before .before .before .put .ensures))
-    (wrote-laid verdict (layout (held p)) out (zero past))
+    record {
+      typed = typed p _ (start .good .0);
+      wrote =
+          subst₃ (λ (r : Refusal) (n : ℕ) (exit : List ℕ). Wrote verdict (layout (held p)) out (record { refusal = r; len = n }) exit)
+          (sym (told (past .before .before)))
+          (length-layout-held p (typed p _ (start .good .0) .places) (writable past .few))
+          (sym (c .before .before .before .put .ensures))
+          (wrote-laid verdict (layout (held p)) out (zero past));
+    }
 
 pub write-spec : {M : Type 1} → statement M
 write-spec =
