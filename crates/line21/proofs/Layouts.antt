@@ -1,11 +1,11 @@
 -- The layout of units, one after the other.
 -- Assumes nothing.
-use Prim.Native.Nat.{ℕ, suc, _+_, _*_, _<_}
+use Prim.Native.Nat.{ℕ, _+_, _*_, _<_}
 use native.Mathlib.Omega.{arith}
 use native.Mathlib.Numerals.{add-one}
-use mathlib.Core.Path.{_≡_, _∙_, ap, sym, refl}
-use mathlib.Core.List.{List, [], _∷_, _++_, append-assoc}
-use lib.ListN.{length, take, getD, length-append}
+use mathlib.Core.Path.{_≡_, _∙_, ap, refl}
+use mathlib.Core.List.{List, [], _∷_, _++_}
+use lib.ListN.{length, take, getD}
 use lib.Seq.{take-suc}
 use Rattle.line21.specs.declared.AccessUnit.{AccessUnit}
 use Rattle.line21.specs.Value.{blank}

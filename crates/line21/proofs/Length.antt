@@ -1,15 +1,10 @@
 -- Which lengths a payload may have: those of a flags byte and 0 to 291 whole units.
 -- Assumes nothing.
-use Prim.Native.Nat.{ℕ, _+_, _-_, _*_, _/_, _%_, _≤_, _<_}
+use Prim.Native.Nat.{ℕ, _+_, _-_, _*_, _%_, _≤_}
 use native.Mathlib.Omega.{arith}
-use mathlib.Core.Path.{_≡_, refl}
-use mathlib.Core.Bool.{not}
-use lib.Dec.{eqb, ltb}
+use mathlib.Core.Path.{_≡_}
 use borrow.Author.Tests.{eqb-true, eqb-false, ltb-false, not-false, ne-eqb, le-ltb, eq-eqb}
 use Rattle.refusal.specs.declared.Verdict.the-variants.{Accepted}
-use Rattle.refusal.specs.declared.Reason.the-variants.{NoStart, TooLong, Unfit}
-use Rattle.refusal.specs.declared.Misfit.the-variants.{PayloadLength}
-use Rattle.refusal.specs.declared.Item.the-variants.{Length}
 use Rattle.refusal.proofs.Checks.{refuseIf-accepted, andThen-accepted}
 use Rattle.line21.specs.Reading.{lengthVerdict, unitCount}
 

@@ -9,7 +9,6 @@ use lib.Dec.{ltb}
 use lib.ListN.{length, take, drop, getD}
 use lib.Seq.{drop-cons, length-take-le}
 use borrow.Author.Tests.{ltb-false, le-ltb}
-use Rattle.refusal.specs.declared.Verdict.{Verdict}
 use Rattle.refusal.specs.declared.Verdict.the-variants.{Accepted}
 use Rattle.refusal.specs.declared.Reason.the-variants.{NoRoom}
 use Rattle.refusal.specs.declared.Item.the-variants.{Whole}
@@ -17,7 +16,7 @@ use Rattle.refusal.specs.Checks.{refuseIf, andThen}
 use Rattle.refusal.proofs.Checks.{refuseIf-accepted, andThen-accepted, accepted-andThen, andThen-last}
 use Rattle.line21.specs.declared.AccessUnit.{AccessUnit}
 use Rattle.line21.specs.declared.Payload.{Payload}
-use Rattle.line21.specs.Value.{Line21, LegalUnit, LegalUnits, ByteUnits, LegalPayload, Typed, Legal, blank, stored, held}
+use Rattle.line21.specs.Value.{LegalUnits, ByteUnits, LegalPayload, Typed, blank, held}
 use Rattle.line21.specs.Layout.{layout}
 use Rattle.line21.specs.Writing.{unitVerdict, unitsVerdict, valueVerdict}
 use Rattle.line21.proofs.Layouts.{length-layoutUnits}

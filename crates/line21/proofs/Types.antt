@@ -1,12 +1,11 @@
 -- Every `Payload` that the code holds is `Typed`: the logic says so of what a local of that type owns.
 -- Assumes nothing.
-use Prim.Native.Nat.{ℕ}
-use mathlib.Core.Path.{_≡_, _∙_, sym}
+use mathlib.Core.Path.{_∙_, sym}
 use mathlib.Core.List.{List, [], _∷_, map}
 use mir.Val.{Val}
 use denote.Shadow.{shadow}
 use denote.Array.{each}
-use lib.ListN.{length, length-map}
+use lib.ListN.{length-map}
 use Rattle.line21.specs.declared.AccessUnit.{AccessUnit}
 use Rattle.line21.specs.declared.Payload.{Payload}
 use Rattle.line21.specs.Value.{ByteUnit, ByteUnits, Typed}

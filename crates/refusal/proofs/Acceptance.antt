@@ -1,6 +1,6 @@
 -- A caller tells a refusal from an acceptance by its number: no reason has number 0.
 -- Assumes nothing.
-use Prim.Native.Nat.{ℕ, _<_}
+use Prim.Native.Nat.{_<_}
 use native.Mathlib.Omega.{arith}
 use mathlib.Core.Path.{_≡_, refl}
 use Rattle.refusal.specs.declared.Reason.{Reason}

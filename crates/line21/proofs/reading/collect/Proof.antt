@@ -1,15 +1,13 @@
 -- `line21::reading::collect` meets its contract. The loop's invariant: the array holds the first i units, and blanks beyond them.
 -- Assumes nothing.
-use Prim.Native.Nat.{ℕ, _+_, _-_, _*_, _≤_, _<_}
+use Prim.Native.Nat.{ℕ, _-_, _≤_, _<_}
 use native.Mathlib.Omega.{arith}
-use native.Mathlib.Numerals.{add-one}
 use mathlib.Core.Path.{_≡_, _∙_, ap, ap₂, sym}
 use mathlib.Core.List.{List}
 use borrow.Author.Needs.{needs}
 use lib.ListN.{length, getD, drop, set, replicate}
 use denote.Ref.{now}
 use Rattle.lists.specs.Room.{filled}
-use Rattle.lists.proofs.Fill.{filled-more}
 use Rattle.line21.specs.declared.AccessUnit.{AccessUnit}
 use Rattle.line21.specs.declared.Payload.{Payload}
 use Rattle.line21.specs.Value.{blank}
@@ -18,8 +16,6 @@ use Rattle.line21.proofs.Length.{accepted-whole}
 use Rattle.line21.proofs.Units.{collected-more, length-readUnits}
 use Rattle.line21.proofs.reading.collect.Statement.{statement}
 use Rattle.line21.proofs.reading.collect.Tie as tie
-use Rattle.line21.proofs.reading.collect.Reads as reads
-use Rattle.line21.proofs.reading.collect.Lts as lts
 
 abbrev Inv-loop : tie.InvT-loop
 Inv-loop s m units₀ i₀ units i = (i ≤ m) × (units ≡ filled (readUnits i (drop 1 s)) 291 blank)

@@ -1,16 +1,15 @@
 -- `line21::writing::judge_value` meets its contract. The loop's invariant: the units from i on decide as all of them do.
 -- Assumes nothing.
-use Prim.Native.Nat.{ℕ, suc, _+_, _-_, _*_, _≤_, _<_}
+use Prim.Native.Nat.{_+_, _-_, _*_, _≤_, _<_}
 use native.Mathlib.Omega.{arith}
-use native.Mathlib.Numerals.{add-one}
 use mathlib.Core.Path.{_≡_, _∙_, ap, ap₂, sym, refl}
 use mathlib.Core.Bool.{Bool}
-use mathlib.Core.List.{List, [], _∷_}
+use mathlib.Core.List.{List, []}
 use borrow.Author.Needs.{needs}
 use borrow.Author.Tests.{lt-ltb, le-ltb}
 use lib.Dec.{ltb}
-use lib.ListN.{length, take, drop, getD, drop-of-length-le}
-use lib.Seq.{drop-cons, getD-take}
+use lib.ListN.{length, drop, getD, drop-of-length-le}
+use lib.Seq.{getD-take}
 use Rattle.refusal.specs.declared.Verdict.{Verdict}
 use Rattle.refusal.specs.declared.Reason.the-variants.{NoRoom}
 use Rattle.refusal.specs.declared.Item.the-variants.{Whole}
@@ -22,8 +21,6 @@ use Rattle.line21.proofs.Types.{typed}
 use Rattle.line21.proofs.Numbers.{length-held, units-from, verdict-few}
 use Rattle.line21.proofs.writing.judge_value.Statement.{statement}
 use Rattle.line21.proofs.writing.judge_value.Tie as tie
-use Rattle.line21.proofs.writing.judge_value.Reads as reads
-use Rattle.line21.proofs.writing.judge_value.Lts as lts
 
 abbrev Inv-loop : tie.InvT-loop
 Inv-loop room p i₀ i = (i ≤ p .m) × (unitsVerdict (held p .units) ≡ unitsVerdict (drop i (held p .units)))

@@ -10,7 +10,6 @@ use lib.ListN.{length, take, drop, getD, set, length-set, length-drop}
 use lib.Seq.{length-take-le, getD-take, sets-eq, drop-set-lt}
 use Rattle.lists.specs.Room.{over}
 use Rattle.lists.proofs.Lay.{length-over, over-more, rest-whole}
-use Rattle.refusal.specs.declared.Verdict.the-variants.{Accepted}
 use Rattle.line21.specs.declared.Payload.{Payload}
 use Rattle.line21.specs.Value.{blank, held}
 use Rattle.line21.specs.Layout.{layout, layoutUnit, layoutUnits}
@@ -20,8 +19,6 @@ use Rattle.line21.proofs.Types.{typed}
 use Rattle.line21.proofs.Numbers.{Writable, accepted-value, length-held, length-layout-held, units-accepted-at}
 use Rattle.line21.proofs.writing.put.Statement.{statement}
 use Rattle.line21.proofs.writing.put.Tie as tie
-use Rattle.line21.proofs.writing.put.Reads as reads
-use Rattle.line21.proofs.writing.put.Lts as lts
 
 -- what the first i units have laid so far
 abbrev front : Payload → ℕ → List ℕ
