@@ -1,7 +1,8 @@
 -- Numbers in four bytes, the most significant first, and the pattern of an output. Assumes nothing.
-use Prim.Native.Nat.{ℕ, _+_, _*_, _/_, _%_}
+use Prim.Native.Nat.{ℕ, _+_, _*_, _/_, _%_, _<_}
+use mathlib.Core.Path.{_≡_}
 use mathlib.Core.List.{List}
-use lib.ListN.{getD, set}
+use lib.ListN.{length, getD, set}
 
 abbrev pub numberOf : List ℕ → ℕ
 numberOf s = (getD s 0 0 * 256 + getD s 1 0) * 65536 + (getD s 2 0 * 256 + getD s 3 0)
@@ -13,3 +14,8 @@ numberPut s at n =
 
 abbrev pub patternAt : ℕ → ℕ
 patternAt i = (i * 37 + 11) % 256
+
+-- n bytes of the pattern
+pub record Patterned (n : ℕ) (s : List ℕ) : Type 0 where
+  pub size : length s ≡ n
+  pub each : (k : ℕ) → k < n → getD s k 0 ≡ patternAt k

@@ -1,8 +1,8 @@
 // The bytes and numbers that inputs and answers are made of, and the pattern of an output.
 ghost use mathlib.Core.Path.{_≡_};
-ghost use Prim.Native.Nat.{ℕ, _<_, _%_};
+ghost use Prim.Native.Nat.{_<_, _%_};
 ghost use lib.ListN.{length, getD, set};
-ghost use Rattle.vectors.specs.Numbers.{numberOf, numberPut, patternAt};
+ghost use Rattle.vectors.specs.Numbers.{numberOf, numberPut, patternAt, Patterned};
 use refusal::Refusal;
 
 // The byte at an index; 0 beyond the end.
@@ -61,7 +61,7 @@ fn last(n: usize) -> u8
 
 // Fills an output with what stands in it before a call, so that a store that should not be shows.
 pub fn pattern(out: &mut [u8])
-    ensures { λ _. ⌜ ((k : ℕ) → k < length (now (out .entry)) → getD (now (out .exit)) k 0 ≡ patternAt k) ⌝ }
+    ensures { λ _. ⌜ Patterned (length (now (out .entry))) (now (out .exit)) ⌝ }
 {
     let mut i = 0;
     while i < out.len() {

@@ -40,7 +40,7 @@ same-length : tie.Need-same-length Inv-loop μ-loop
 same-length c = omega arith
 
 returns : tie.Need-returns Inv-loop μ-loop
-returns c = λ k h. c .before .loop .inv .2 k (omega arith)
+returns c = record { size = omega arith; each = λ k h. c .before .loop .inv .2 k (omega arith) }
 
 pub pattern-spec : {M : Type 1} → statement M
 pattern-spec =
