@@ -18,7 +18,7 @@ use Rattle.refusal.proofs.Acceptance.{told-accepted}
 use Rattle.line21.specs.declared.One.{One}
 use Rattle.line21.specs.declared.One.the-variants as one
 use Rattle.line21.specs.Reading.{lengthVerdict, valueOf, answerOf, readOf, shown}
-use Rattle.line21.proofs.Length.{Whole, accepted-whole}
+use Rattle.line21.proofs.Length.{WholeUnits, accepted-whole}
 
 -- a struct holds the value that was stored in it
 pub units-stored : (v : Line21) → held (stored v) .units ≡ v .units
@@ -59,7 +59,7 @@ pub accepted-verdict : (s : List ℕ) → readOf s .refusal .number ≡ 0 → le
 accepted-verdict s e =
     told-accepted (lengthVerdict (length s)) (sym (ap (λ (r : Refusal). r .number) (told (lengthVerdict (length s)) (valueOf s))) ∙ e)
 
-pub accepted-length : (s : List ℕ) → readOf s .refusal .number ≡ 0 → Whole (length s)
+pub accepted-length : (s : List ℕ) → readOf s .refusal .number ≡ 0 → WholeUnits (length s)
 accepted-length s e = accepted-whole (length s) (accepted-verdict s e)
 
 pub accepted-answer : (s : List ℕ) → readOf s .refusal .number ≡ 0 → readOf s ≡ answerOf Accepted (valueOf s)

@@ -5,16 +5,17 @@ use native.Mathlib.Omega.{arith}
 use mathlib.Core.Path.{_≡_, _∙_, ap, ap₂, sym, subst, refl}
 use mathlib.Core.List.{List, [], _∷_, _++_}
 use lib.ListN.{length}
+use Rattle.lists.specs.Each.{Each}
 use Rattle.lists.specs.Bytes.{Bytes}
 use Rattle.refusal.specs.declared.Verdict.the-variants.{Accepted}
 use Rattle.line21.specs.declared.AccessUnit.{AccessUnit}
 use Rattle.line21.specs.declared.Payload.{Payload}
 use Rattle.line21.specs.declared.Answer.{Answer}
-use Rattle.line21.specs.Value.{Line21, LegalUnit, LegalUnits, Legal, LegalPayload, stored, held}
+use Rattle.line21.specs.Value.{Line21, LegalUnit, Legal, LegalPayload, stored, held}
 use Rattle.line21.specs.Layout.{layoutUnit, layoutUnits, layout}
 use Rattle.line21.specs.Reading.{readUnit, readUnits, unitCount, valueOf, answerOf, readOf, Reads}
 use Rattle.line21.proofs.Layouts.{length-layoutUnits}
-use Rattle.line21.proofs.Length.{Whole, unitCount-whole, whole-accepted}
+use Rattle.line21.proofs.Length.{WholeUnits, unitCount-whole, whole-accepted}
 use Rattle.line21.proofs.Answers.{accepted-answer, accepted-length, held-stored, stored-legal}
 use Rattle.line21.proofs.Units.{length-readUnits}
 
@@ -22,6 +23,7 @@ use Rattle.line21.proofs.Units.{length-readUnits}
 readUnit-layout : (u : AccessUnit) → LegalUnit u → (rest : List ℕ) → readUnit (layoutUnit u ++ rest) ≡ u
 unfolding readUnit
 readUnit-layout u h rest =
+    let numbers = h .numbers in
     let first = u .«cc_valid_1» * 128 + u .«cc_valid_2» * 64 + u .padding in
     let one : first / 128 ≡ u .«cc_valid_1» = omega arith in
     let two : first / 64 % 2 ≡ u .«cc_valid_2» = omega arith in
@@ -36,7 +38,7 @@ readUnit-layout u h rest =
       «field2_data2» = u .«field2_data2»;
     }
 
-pub readUnits-layout : (us : List AccessUnit) → LegalUnits us → readUnits (length us) (layoutUnits us) ≡ us
+pub readUnits-layout : (us : List AccessUnit) → Each LegalUnit us → readUnits (length us) (layoutUnits us) ≡ us
 readUnits-layout [] h = refl
 readUnits-layout (u ∷ us) h = ap₂ (λ (x : AccessUnit) (xs : List AccessUnit). x ∷ xs) (readUnit-layout u (h .0) (layoutUnits us)) (readUnits-layout us (h .1))
 
@@ -51,17 +53,12 @@ module _ (a b c d e : ℕ) (rest : List ℕ) where
   legal-readUnit : a < 256 → b < 256 → c < 256 → d < 256 → e < 256 → LegalUnit (readUnit (a ∷ b ∷ c ∷ d ∷ e ∷ rest))
   unfolding readUnit
   legal-readUnit ha hb hc hd he =
-      record {
-        valid-1 = omega arith;
-        valid-2 = omega arith;
-        pad = omega arith;
-        bytes = record { field1-data1 = hb; field1-data2 = hc; field2-data1 = hd; field2-data2 = he };
-      }
+      record { numbers = record { valid-1 = omega arith; valid-2 = omega arith; pad = omega arith }; bytes = record { field1-data1 = hb; field1-data2 = hc; field2-data1 = hd; field2-data2 = he } }
 
 -- so are whole units
 record Units (k : ℕ) (s : List ℕ) : Type 0 where
   same : layoutUnits (readUnits k s) ≡ s
-  legal : LegalUnits (readUnits k s)
+  legal : Each LegalUnit (readUnits k s)
 
 units-back : (k : ℕ) (s : List ℕ) → Bytes s → length s ≡ 5 * k → Units k s
 units-back zero [] h n = record { same = refl; legal = tt }
@@ -84,7 +81,7 @@ pub record Payloads (s : List ℕ) : Type 0 where
   pub same : layout (valueOf s) ≡ s
   pub legal : Legal (valueOf s)
 
-pub payload-back : (s : List ℕ) → Bytes s → Whole (length s) → Payloads s
+pub payload-back : (s : List ℕ) → Bytes s → WholeUnits (length s) → Payloads s
 payload-back [] h w = let f : ⊥ = omega (arith, w .exact) in absurd f
 payload-back (flags ∷ s) h w =
     let k = unitCount (length (flags ∷ s)) in

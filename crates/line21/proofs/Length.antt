@@ -8,11 +8,11 @@ use Rattle.refusal.specs.declared.Verdict.the-variants.{Accepted}
 use Rattle.refusal.proofs.Checks.{refuseIf-accepted, andThen-accepted}
 use Rattle.line21.specs.Reading.{lengthVerdict, unitCount}
 
-pub record Whole (n : ℕ) : Type 0 where
+pub record WholeUnits (n : ℕ) : Type 0 where
   pub exact : n ≡ 1 + 5 * unitCount n
   pub most : unitCount n ≤ 291
 
-pub accepted-whole : (n : ℕ) → lengthVerdict n ≡ Accepted → Whole n
+pub accepted-whole : (n : ℕ) → lengthVerdict n ≡ Accepted → WholeUnits n
 unfolding lengthVerdict
 accepted-whole n e =
     let start = andThen-accepted _ _ e in

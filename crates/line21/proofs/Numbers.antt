@@ -1,32 +1,29 @@
 -- What the checks of writing let through: numbers that the layout can hold.
 -- Assumes nothing.
-use Prim.Native.Nat.{ℕ, zero, suc, _+_, _*_, _≤_, _<_}
+use Prim.Native.Nat.{ℕ, _+_, _*_, _≤_, _<_}
 use native.Mathlib.Omega.{arith}
 use native.Mathlib.Numerals.{add-one}
-use mathlib.Core.Path.{_≡_, _∙_, ap, sym, refl}
-use mathlib.Core.List.{List, [], _∷_}
+use mathlib.Core.Path.{_≡_, _∙_, ap, sym}
+use mathlib.Core.List.{List}
 use lib.Dec.{ltb}
-use lib.ListN.{length, take, drop, getD}
+use lib.ListN.{length, drop, getD}
 use lib.Seq.{drop-cons, length-take-le}
 use borrow.Author.Tests.{ltb-false, le-ltb}
+use Rattle.lists.specs.Each.{Each}
+use Rattle.lists.proofs.Each.{each-at, each-take, each-map, each-both}
 use Rattle.refusal.specs.declared.Verdict.the-variants.{Accepted}
 use Rattle.refusal.specs.declared.Reason.the-variants.{NoRoom}
 use Rattle.refusal.specs.declared.Item.the-variants.{Whole}
 use Rattle.refusal.specs.Checks.{refuseIf, andThen}
-use Rattle.refusal.proofs.Checks.{refuseIf-accepted, andThen-accepted, accepted-andThen, andThen-last}
+use Rattle.refusal.proofs.Checks.{refuseIf-accepted, andThen-accepted, each-accepted, accepted-each, andThen-last}
 use Rattle.line21.specs.declared.AccessUnit.{AccessUnit}
 use Rattle.line21.specs.declared.Payload.{Payload}
-use Rattle.line21.specs.Value.{LegalUnits, ByteUnits, LegalPayload, Typed, blank, held}
+use Rattle.line21.specs.Value.{HoldableUnit, LegalUnit, ByteUnit, LegalPayload, Typed, blank, held}
 use Rattle.line21.specs.Layout.{layout}
 use Rattle.line21.specs.Writing.{unitVerdict, unitsVerdict, valueVerdict}
 use Rattle.line21.proofs.Layouts.{length-layoutUnits}
 
-pub record Holdable (u : AccessUnit) : Type 0 where
-  pub valid-1 : u .«cc_valid_1» < 2
-  pub valid-2 : u .«cc_valid_2» < 2
-  pub pad : u .padding < 64
-
-pub accepted-unit : (u : AccessUnit) → unitVerdict u ≡ Accepted → Holdable u
+pub accepted-unit : (u : AccessUnit) → unitVerdict u ≡ Accepted → HoldableUnit u
 unfolding unitVerdict
 accepted-unit u e =
     let one = andThen-accepted _ _ e in
@@ -37,7 +34,7 @@ accepted-unit u e =
     let c = ltb-false 63 (u .padding) (refuseIf-accepted _ _ _ (three .0)) in
     record { valid-1 = omega arith; valid-2 = omega arith; pad = omega arith }
 
-pub unit-accepted : (u : AccessUnit) → Holdable u → unitVerdict u ≡ Accepted
+pub unit-accepted : (u : AccessUnit) → HoldableUnit u → unitVerdict u ≡ Accepted
 unfolding unitVerdict
 unit-accepted u h =
     let a : u .«cc_valid_1» ≤ 1 = omega arith in
@@ -46,38 +43,18 @@ unit-accepted u h =
     simp (le-ltb 1 (u .«cc_valid_1») a, le-ltb 1 (u .«cc_valid_2») b, le-ltb 63 (u .padding) c)
 
 -- the checks let through exactly the legal units, bytes being bytes
-pub units-accepted : (us : List AccessUnit) → LegalUnits us → unitsVerdict us ≡ Accepted
-units-accepted [] h = refl
-units-accepted (u ∷ us) h =
-    accepted-andThen (unitVerdict u) (unitsVerdict us)
-    (unit-accepted u (record { valid-1 = h .0 .valid-1; valid-2 = h .0 .valid-2; pad = h .0 .pad }))
-    (units-accepted us (h .1))
+abbrev Passes : AccessUnit → Type 0
+Passes u = unitVerdict u ≡ Accepted
 
-pub accepted-units : (us : List AccessUnit) → ByteUnits us → unitsVerdict us ≡ Accepted → LegalUnits us
-accepted-units [] h e = tt
-accepted-units (u ∷ us) h e =
-    let both = andThen-accepted (unitVerdict u) (unitsVerdict us) e in
-    let unit = accepted-unit u (both .0) in (
-      record {
-        valid-1 = unit .valid-1;
-        valid-2 = unit .valid-2;
-        pad = unit .pad;
-        bytes = h .0;
-      },
-      accepted-units us (h .1) (both .1),
-    )
+pub units-accepted : (us : List AccessUnit) → Each LegalUnit us → unitsVerdict us ≡ Accepted
+units-accepted us h = accepted-each unitVerdict us (each-map LegalUnit Passes (λ u legal. unit-accepted u (legal .numbers)) us h)
 
-pub bytes-take : (k : ℕ) (us : List AccessUnit) → ByteUnits us → ByteUnits (take k us)
-bytes-take zero us h = tt
-bytes-take (suc k) [] h = tt
-bytes-take (suc k) (u ∷ us) h = (h .0, bytes-take k us (h .1))
+accepted-units : (us : List AccessUnit) → Each ByteUnit us → unitsVerdict us ≡ Accepted → Each LegalUnit us
+accepted-units us h e =
+    each-both ByteUnit Passes LegalUnit (λ u bytes passes. record { numbers = accepted-unit u passes; bytes = bytes }) us h (each-accepted unitVerdict us e)
 
 pub units-accepted-at : (us : List AccessUnit) → unitsVerdict us ≡ Accepted → (i : ℕ) → i < length us → unitVerdict (getD us i blank) ≡ Accepted
-units-accepted-at [] e i h = let f : ⊥ = omega arith in absurd f
-units-accepted-at (u ∷ us) e zero h = andThen-accepted (unitVerdict u) (unitsVerdict us) e .0
-units-accepted-at (u ∷ us) e (suc i) h =
-    let near : i < length us = omega arith in
-    units-accepted-at us (andThen-accepted (unitVerdict u) (unitsVerdict us) e .1) i near
+units-accepted-at us e = each-at Passes blank us (each-accepted unitVerdict us e)
 
 -- the units from i on decide by the unit at i, then by those behind it
 pub units-from : (us : List AccessUnit) (i : ℕ) → i < length us → unitsVerdict (drop i us) ≡ andThen (unitVerdict (getD us i blank)) (unitsVerdict (drop (i + 1) us))
@@ -129,7 +106,7 @@ value-accepted p room w =
 -- by its type a struct's bytes are bytes, so what the checks let through is exactly what is legal and fits
 pub checked-legal : (p : Payload) → Typed p → p .m ≤ 291 → unitsVerdict (held p .units) ≡ Accepted → LegalPayload p
 checked-legal p t few each =
-    let units = accepted-units (held p .units) (bytes-take (p .m) (p .units) (t .bytes)) each in
+    let units = accepted-units (held p .units) (each-take ByteUnit (p .m) (p .units) (t .bytes)) each in
     let count : length (held p .units) ≤ 291 = omega (arith, length-held p (t .places) few) in
     record { few = few; value = record { byte = t .byte; count = count; each = units } }
 

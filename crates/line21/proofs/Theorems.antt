@@ -73,7 +73,14 @@ refused-13 s r p some within h =
     ap (λ (a : Answer). a .refusal) (p .answer)
     ∙ simp (ne-eqb (length s) 0 (omega arith), le-ltb 1456 (length s) within, ne-eqb ((length s - 1) % 5) 0 h)
 
--- and no units.
+-- and no other input is refused.
+pub accepted-whole-units : (s : List ℕ) (r : Answer) → Reads s r → 0 < length s → length s ≤ 1456 → (length s - 1) % 5 ≡ 0 → r .refusal ≡ accepted
+unfolding lengthVerdict
+accepted-whole-units s r p some within whole =
+    ap (λ (a : Answer). a .refusal) (p .answer)
+    ∙ simp (ne-eqb (length s) 0 (omega arith), le-ltb 1456 (length s) within, eq-eqb ((length s - 1) % 5) 0 whole)
+
+-- A refusal holds no units.
 pub refused-zero : (s : List ℕ) (r : Answer) → Reads s r → (r .refusal .number ≡ 0 → ⊥) → r .payload ≡ stored none
 refused-zero s r p h =
     ap (λ (a : Answer). a .payload) (p .answer)

@@ -1,8 +1,9 @@
 -- A Line 21 payload's value, when it is legal, and how the code's structs hold it. Document 01, "Line 21 payload"; document 004, Table 2.
 use Prim.Native.Nat.{ℕ, _≤_, _<_}
 use mathlib.Core.Path.{_≡_}
-use mathlib.Core.List.{List, [], _∷_}
+use mathlib.Core.List.{List, []}
 use lib.ListN.{length, take}
+use Rattle.lists.specs.Each.{Each}
 use Rattle.lists.specs.Room.{filled}
 use Rattle.line21.specs.declared.AccessUnit.{AccessUnit}
 use Rattle.line21.specs.declared.Payload.{Payload}
@@ -19,22 +20,21 @@ pub record ByteUnit (u : AccessUnit) : Type 0 where
   pub field2-data1 : u .«field2_data1» < 256
   pub field2-data2 : u .«field2_data2» < 256
 
--- the flags are bits, and the padding is 0 to 63
-pub record LegalUnit (u : AccessUnit) : Type 0 where
+-- the flags are one bit each, and the padding is 0 to 63
+pub record HoldableUnit (u : AccessUnit) : Type 0 where
   pub valid-1 : u .«cc_valid_1» < 2
   pub valid-2 : u .«cc_valid_2» < 2
   pub pad : u .padding < 64
-  pub bytes : ByteUnit u
 
-abbrev pub LegalUnits : List AccessUnit → Type 0
-LegalUnits [] = Unit {0}
-LegalUnits (u ∷ us) = LegalUnit u × LegalUnits us
+pub record LegalUnit (u : AccessUnit) : Type 0 where
+  pub numbers : HoldableUnit u
+  pub bytes : ByteUnit u
 
 -- m from 0 to 291
 pub record Legal (v : Line21) : Type 0 where
   pub byte : v .flags < 256
   pub count : length (v .units) ≤ 291
-  pub each : LegalUnits (v .units)
+  pub each : Each LegalUnit (v .units)
 
 -- the value that a struct holds: entries beyond m are not looked at
 abbrev pub held : Payload → Line21
@@ -46,14 +46,10 @@ pub record LegalPayload (p : Payload) : Type 0 where
   pub value : Legal (held p)
 
 -- what every struct of the code satisfies by its type: bytes are bytes, and the array has 291 places
-abbrev pub ByteUnits : List AccessUnit → Type 0
-ByteUnits [] = Unit {0}
-ByteUnits (u ∷ us) = ByteUnit u × ByteUnits us
-
 pub record Typed (p : Payload) : Type 0 where
   pub byte : p .flags < 256
   pub places : length (p .units) ≡ 291
-  pub bytes : ByteUnits (p .units)
+  pub bytes : Each ByteUnit (p .units)
 
 -- a unit of zeros, which fills the room beyond the m units
 abbrev pub blank : AccessUnit

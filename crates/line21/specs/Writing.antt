@@ -1,16 +1,15 @@
 -- What writing a Line 21 payload answers, and what the lent output then holds, for every value and output. Document 01, "Which refusal comes
 -- first": 15 of the whole value, 15 of each access unit in order, then 1 for the length of the result, then 14.
 use Prim.Native.Nat.{ℕ}
-use mathlib.Core.List.{List, [], _∷_}
+use mathlib.Core.List.{List, [], _∷_, map}
 use lib.Dec.{ltb}
 use lib.ListN.{length}
 use Rattle.refusal.specs.declared.Verdict.{Verdict}
-use Rattle.refusal.specs.declared.Verdict.the-variants.{Accepted}
 use Rattle.refusal.specs.declared.Reason.the-variants.{TooLong, NoRoom, Unholdable}
 use Rattle.refusal.specs.declared.Excess.the-variants.{Count, CcValid, Padding}
 use Rattle.refusal.specs.declared.Item.the-variants.{Whole}
 use Rattle.refusal.specs.declared.Written.{Written}
-use Rattle.refusal.specs.Checks.{refuseIf, andThen, first}
+use Rattle.refusal.specs.Checks.{refuseIf, first}
 use Rattle.refusal.specs.Answers.{Wrote}
 use Rattle.line21.specs.declared.AccessUnit.{AccessUnit}
 use Rattle.line21.specs.declared.Payload.{Payload}
@@ -27,8 +26,7 @@ unitVerdict u =
     ∷ [])
 
 abbrev pub unitsVerdict : List AccessUnit → Verdict
-unitsVerdict [] = Accepted
-unitsVerdict (u ∷ us) = andThen (unitVerdict u) (unitsVerdict us)
+unitsVerdict us = first (map unitVerdict us)
 
 unfoldable pub valueVerdict : Payload → ℕ → Verdict
 valueVerdict p room =

@@ -1,13 +1,34 @@
--- A list whose every element is below 256 is a list of bytes.
+-- What holds of each element of a list, by its index and of its front.
 -- Assumes nothing.
-use Prim.Native.Nat.{ℕ, suc, _<_}
+use Prim.Native.Nat.{ℕ, zero, suc, _<_}
 use native.Mathlib.Omega.{arith}
 use mathlib.Core.List.{List, [], _∷_}
-use lib.ListN.{length, getD}
-use Rattle.lists.specs.Bytes.{Bytes}
+use lib.ListN.{length, getD, take}
+use Rattle.lists.specs.Each.{Each}
 
-pub bytes-each : (s : List ℕ) → ((i : ℕ) → i < length s → getD s i 0 < 256) → Bytes s
-bytes-each [] h = tt
-bytes-each (b ∷ bs) h =
-    let first : 0 < length (b ∷ bs) = omega arith in
-    (h 0 first, bytes-each bs (λ i below. let next : suc i < length (b ∷ bs) = omega arith in h (suc i) next))
+module _ {A : Type 0} (P : A → Type 0) (d : A) where
+  pub each-of : (xs : List A) → ((i : ℕ) → i < length xs → P (getD xs i d)) → Each P xs
+  each-of [] h = tt
+  each-of (x ∷ xs) h =
+      let first : 0 < length (x ∷ xs) = omega arith in
+      (h 0 first, each-of xs (λ i below. let next : suc i < length (x ∷ xs) = omega arith in h (suc i) next))
+
+  pub each-at : (xs : List A) → Each P xs → (i : ℕ) → i < length xs → P (getD xs i d)
+  each-at [] h i below = let f : ⊥ = omega arith in absurd f
+  each-at (x ∷ xs) h zero below = h .0
+  each-at (x ∷ xs) h (suc i) below = let next : i < length xs = omega arith in each-at xs (h .1) i next
+
+module _ {A : Type 0} (P : A → Type 0) where
+  pub each-take : (k : ℕ) (xs : List A) → Each P xs → Each P (take k xs)
+  each-take zero xs h = tt
+  each-take (suc k) [] h = tt
+  each-take (suc k) (x ∷ xs) h = (h .0, each-take k xs (h .1))
+
+module _ {A : Type 0} (P Q R : A → Type 0) (f : (x : A) → P x → Q x → R x) where
+  pub each-both : (xs : List A) → Each P xs → Each Q xs → Each R xs
+  each-both [] h g = tt
+  each-both (x ∷ xs) h g = (f x (h .0) (g .0), each-both xs (h .1) (g .1))
+
+module _ {A : Type 0} (P Q : A → Type 0) (f : (x : A) → P x → Q x) where
+  pub each-map : (xs : List A) → Each P xs → Each Q xs
+  each-map xs h = each-both P P Q (λ x p q. f x p) xs h h

@@ -1,2 +1,3 @@
 pub mod Room
+pub mod Each
 pub mod Bytes

@@ -4,11 +4,13 @@ use Prim.Native.Nat.{ℕ}
 use native.Mathlib.Omega.{arith}
 use mathlib.Core.Path.{_≡_, _∙_, ap, refl}
 use mathlib.Core.Bool.{Bool, true, false}
+use mathlib.Core.List.{List, [], _∷_, map}
+use Rattle.lists.specs.Each.{Each}
 use Rattle.refusal.specs.declared.Reason.{Reason}
 use Rattle.refusal.specs.declared.Item.{Item}
 use Rattle.refusal.specs.declared.Verdict.{Verdict}
 use Rattle.refusal.specs.declared.Verdict.the-variants.{Accepted, Refused}
-use Rattle.refusal.specs.Checks.{refuseIf, andThen}
+use Rattle.refusal.specs.Checks.{refuseIf, andThen, first}
 
 -- a refusal is no acceptance
 pub refused-not-accepted : {P : Type 0} (reason : Reason) (item : Item) → Refused reason item ≡ Accepted → P
@@ -27,6 +29,17 @@ andThen-accepted (Refused reason item) next e = refused-not-accepted reason item
 
 pub accepted-andThen : (check next : Verdict) → check ≡ Accepted → next ≡ Accepted → andThen check next ≡ Accepted
 accepted-andThen check next e f = ap (λ (v : Verdict). andThen v next) e ∙ f
+
+-- one check of each element, in order, accepts where it accepts each
+pub each-accepted : {A : Type 0} (check : A → Verdict) (xs : List A) → first (map check xs) ≡ Accepted → Each (λ (x : A). check x ≡ Accepted) xs
+each-accepted check [] e = tt
+each-accepted check (x ∷ xs) e =
+    let both = andThen-accepted (check x) (first (map check xs)) e in
+    (both .0, each-accepted check xs (both .1))
+
+pub accepted-each : {A : Type 0} (check : A → Verdict) (xs : List A) → Each (λ (x : A). check x ≡ Accepted) xs → first (map check xs) ≡ Accepted
+accepted-each check [] h = refl
+accepted-each check (x ∷ xs) h = accepted-andThen (check x) (first (map check xs)) (h .0) (accepted-each check xs (h .1))
 
 -- nothing after it: the check decides
 pub andThen-last : (check : Verdict) → andThen check Accepted ≡ check

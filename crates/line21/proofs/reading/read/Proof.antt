@@ -3,11 +3,11 @@
 use native.Mathlib.Omega.{arith}
 use mathlib.Core.Path.{_∙_, ap, ap₂, sym}
 use mathlib.Core.List.{List}
-use Prim.Native.Nat.{ℕ}
+use Prim.Native.Nat.{ℕ, _<_}
 use borrow.Author.Needs.{needs}
 use denote.Ref.{now}
 use Rattle.lists.specs.Bytes.{Bytes}
-use Rattle.lists.proofs.Each.{bytes-each}
+use Rattle.lists.proofs.Each.{each-of}
 use Rattle.refusal.specs.declared.Refusal.{Refusal}
 use Rattle.refusal.specs.declared.Verdict.{Verdict}
 use Rattle.refusal.specs.Numbers.{refusalOf}
@@ -27,7 +27,7 @@ collect-requires : tie.Need-collect-requires
 collect-requires c κs = sym (c .before .before .before .judge-length .ensures) ∙ c .enum-told .given .1
 
 bytes : (c : tie.After-shared-slice-known) → Bytes (now (c .before .args .s))
-bytes c = bytes-each (now (c .before .args .s)) (λ i h. omega (arith, c .shared-slice-known .given i))
+bytes c = each-of (λ (b : ℕ). b < 256) 0 (now (c .before .args .s)) (λ i h. omega (arith, c .shared-slice-known .given i))
 
 accepted : tie.Need-returns
 unfolding made answered
