@@ -1,3 +1,6 @@
 pub mod Fill
 pub mod Lay
 pub mod Each
+pub mod Sum
+pub mod Part
+pub mod Below

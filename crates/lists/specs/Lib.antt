@@ -1,3 +1,5 @@
 pub mod Room
 pub mod Each
 pub mod Bytes
+pub mod Sum
+pub mod Part

@@ -1,0 +1,81 @@
+-- The words of bytes hold these bytes, and the checks accept them and no others; a CS word passes its own check.
+-- Assumes nothing.
+use Prim.Native.Nat.{ℕ, suc, _/_, _%_, _≤_, _<_}
+use native.Mathlib.Omega.{arith}
+use native.Mathlib.Nat.{mod-lt}
+use mathlib.Core.Path.{_≡_, ap₂, refl, sym}
+use mathlib.Core.Bool.{not}
+use mathlib.Core.List.{List, [], _∷_, map}
+use lib.Dec.{eqb, ltb}
+use borrow.Author.Tests.{eqb-true, eq-eqb, ne-eqb, le-ltb, not-false}
+use Rattle.lists.specs.Bytes.{Bytes}
+use Rattle.refusal.specs.declared.Verdict.the-variants.{Accepted}
+use Rattle.refusal.specs.declared.Reason.the-variants.{WordRange, WordParity}
+use Rattle.refusal.specs.declared.Item.the-variants.{Word}
+use Rattle.refusal.specs.Checks.{refuseIf, andThen}
+use Rattle.refusal.proofs.Checks.{refuseIf-accepted, andThen-accepted, accepted-andThen}
+use Rattle.anc.specs.Words.{parityOf, wordOf, byteOf, wordVerdict, wordsVerdict, nineBitSum, checksumOf, sumVerdict}
+
+-- a parity is a bit
+pub parity-low : (b : ℕ) → parityOf b < 2
+unfolding parityOf
+parity-low b = let two : 0 < 2 = omega arith in mod-lt _ two
+
+-- a byte's word holds the byte
+pub byte-word : (b : ℕ) → b < 256 → byteOf (wordOf b) ≡ b
+unfolding wordOf
+byte-word b h = omega (arith, parity-low b)
+
+-- and the words of bytes hold these
+pub bytes-words : (bs : List ℕ) → Bytes bs → map byteOf (map wordOf bs) ≡ bs
+bytes-words [] h = refl
+bytes-words (b ∷ bs) h = ap₂ (λ (x : ℕ) (xs : List ℕ). x ∷ xs) (byte-word b (h .0)) (bytes-words bs (h .1))
+
+-- what words hold are bytes
+pub bytes-bytes : (ws : List ℕ) → Bytes (map byteOf ws)
+bytes-bytes [] = tt
+bytes-bytes (w ∷ ws) = (omega arith, bytes-bytes ws)
+
+-- a word fits ten bits
+word-low : (b : ℕ) → b < 256 → wordOf b ≤ 1023
+unfolding wordOf
+word-low b h = omega (arith, parity-low b)
+
+word-accepted : (place b : ℕ) → b < 256 → wordVerdict place (wordOf b) ≡ Accepted
+unfolding wordVerdict
+word-accepted place b h = simp (le-ltb 1023 (wordOf b) (word-low b h), byte-word b h, eq-eqb (wordOf b) (wordOf b) refl)
+
+accepted-word : (place w : ℕ) → wordVerdict place w ≡ Accepted → wordOf (byteOf w) ≡ w
+unfolding wordVerdict
+accepted-word place w e =
+    let parity = refuseIf (not (eqb w (wordOf (byteOf w)))) WordParity (Word place) in
+    let two = andThen-accepted parity Accepted (andThen-accepted (refuseIf (ltb 1023 w) WordRange (Word place)) (andThen parity Accepted) e .1) in
+    sym (eqb-true w (wordOf (byteOf w)) (not-false _ (refuseIf-accepted _ WordParity (Word place) (two .0))))
+
+-- the words of bytes are accepted
+pub words-accepted : (place : ℕ) (bs : List ℕ) → Bytes bs → wordsVerdict place (map wordOf bs) ≡ Accepted
+words-accepted place [] h = refl
+words-accepted place (b ∷ bs) h =
+    accepted-andThen (wordVerdict place (wordOf b)) (wordsVerdict (suc place) (map wordOf bs)) (word-accepted place b (h .0)) (words-accepted (suc place) bs (h .1))
+
+-- and no other words are
+pub accepted-words : (place : ℕ) (ws : List ℕ) → wordsVerdict place ws ≡ Accepted → map wordOf (map byteOf ws) ≡ ws
+accepted-words place [] e = refl
+accepted-words place (w ∷ ws) e =
+    let two = andThen-accepted (wordVerdict place w) (wordsVerdict (suc place) ws) e in
+    ap₂ (λ (x : ℕ) (xs : List ℕ). x ∷ xs) (accepted-word place w (two .0)) (accepted-words (suc place) ws (two .1))
+
+-- a CS word fits ten bits, and its b9 is not its b8
+sum-low : (ws : List ℕ) → checksumOf ws ≤ 1023
+unfolding checksumOf nineBitSum
+sum-low ws = omega arith
+
+sum-inverse : (ws : List ℕ) → checksumOf ws / 512 ≡ checksumOf ws / 256 % 2 → ⊥
+unfolding checksumOf nineBitSum
+sum-inverse ws e = omega arith
+
+-- so it is accepted
+pub sum-accepted : (place : ℕ) (ws : List ℕ) → sumVerdict place (checksumOf ws) ≡ Accepted
+unfolding sumVerdict
+sum-accepted place ws =
+    simp (le-ltb 1023 (checksumOf ws) (sum-low ws), ne-eqb (checksumOf ws / 512) (checksumOf ws / 256 % 2) (sum-inverse ws))

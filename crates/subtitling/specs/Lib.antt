@@ -1,0 +1,5 @@
+pub mod Value
+pub mod Layout
+pub mod User
+pub mod Reading
+pub mod Writing

@@ -1,0 +1,210 @@
+// Reading a packet: its numbers, or its rows.
+ghost use mathlib.Core.Path.{_≡_};
+ghost use Prim.Native.Nat.{_+_, _≤_};
+ghost use mathlib.Core.List.{map};
+ghost use lib.ListN.{length, take, drop};
+ghost use Rattle.anc.specs.Words.{byteOf};
+ghost use Rattle.subtitling.specs.Value.{none, numbersOf, rowsOf};
+ghost use Rattle.subtitling.specs.Layout.{userLength};
+ghost use Rattle.subtitling.specs.User.{structuresIn, slotOf, userValue};
+ghost use Rattle.subtitling.specs.Reading.{formVerdict, headerVerdict, checksumVerdict, packetVerdict, Reads, ReadsRows};
+use crate::Answer;
+use crate::MAX_WORDS;
+use crate::MIN_WORDS;
+use crate::OddEven;
+use crate::Packet;
+use crate::ROW_BYTES;
+use crate::SLOTS;
+use crate::Slot;
+use crate::user::judge_user;
+use refusal::Fixed;
+use refusal::Item;
+use refusal::Misfit;
+use refusal::Reason;
+use refusal::Verdict;
+
+// The user words: 51, 15, LENGTH, 02, five descriptors, then the structures.
+const DESCRIPTORS: usize = 4;
+
+const STRUCTURES: usize = 9;
+
+const STRUCTURE_WORDS: usize = 45;
+
+// Reads a packet's numbers.
+pub fn read(words: &[u16]) -> Answer
+    ensures { λ r. ⌜ Reads (now (words .entry)) r ⌝ }
+{
+    let verdict = judge(words);
+    let refusal = refusal::told(verdict);
+    match verdict {
+        Verdict::Accepted => {
+            let n = words.len();
+            let packet = packet_in(&words[6..n - 1]);
+            Answer { refusal, packet }
+        }
+        Verdict::Refused(_, _) => {
+            let packet = nothing();
+            Answer { refusal, packet }
+        }
+    }
+}
+
+// Reads the rows of a packet's slots: zeros for an empty slot, and in a refusal.
+pub fn read_rows(words: &[u16]) -> [[u8; ROW_BYTES]; SLOTS]
+    ensures { λ r. ⌜ ReadsRows (now (words .entry)) r ⌝ }
+{
+    if let Verdict::Accepted = judge(words) {
+        let n = words.len();
+        return rows_in(&words[6..n - 1]);
+    }
+    [[0; ROW_BYTES]; SLOTS]
+}
+
+// 01, "Which refusal comes first": the whole order of reading a packet.
+fn judge(words: &[u16]) -> Verdict
+    ensures { λ r. ⌜ r ≡ packetVerdict (now (words .entry)) ⌝ }
+{
+    let form = judge_form(words);
+    if let Verdict::Refused(_, _) = form {
+        return form;
+    }
+    let header = judge_header(words);
+    if let Verdict::Refused(_, _) = header {
+        return header;
+    }
+    let n = words.len();
+    let user = judge_user(&words[6..n - 1], 5);
+    if let Verdict::Refused(_, _) = user {
+        return user;
+    }
+    judge_checksum(words)
+}
+
+// 1, 5 under 20 words, 2, then 11 from DID to CS.
+fn judge_form(words: &[u16]) -> Verdict
+    ensures { λ r. ⌜ r ≡ formVerdict (now (words .entry)) ⌝ }
+{
+    let n = words.len();
+    if MAX_WORDS < n {
+        return Verdict::Refused(Reason::TooLong, Item::Length(n));
+    }
+    if n < MIN_WORDS {
+        return Verdict::Refused(Reason::Ends, Item::Length(n));
+    }
+    if words[0] != 0x000 {
+        return Verdict::Refused(Reason::NoStart, Item::Word(0));
+    }
+    if words[1] != 0x3FF {
+        return Verdict::Refused(Reason::NoStart, Item::Word(1));
+    }
+    if words[2] != 0x3FF {
+        return Verdict::Refused(Reason::NoStart, Item::Word(2));
+    }
+    let verdict = anc::judge_words(words, 3, n - 1);
+    if let Verdict::Refused(_, _) = verdict {
+        return verdict;
+    }
+    anc::judge_sum(words[n - 1], n - 1)
+}
+
+// DID, SDID 6; DC 13.
+fn judge_header(words: &[u16]) -> Verdict
+    requires { ⌜ 20 ≤ length (now words) ⌝ }
+    ensures { λ r. ⌜ r ≡ headerVerdict (now (words .entry)) ⌝ }
+{
+    if words[3] != 0x143 {
+        return Verdict::Refused(Reason::Unfixed(Fixed::Identifier), Item::Word(3));
+    }
+    if words[4] != 0x102 {
+        return Verdict::Refused(Reason::Unfixed(Fixed::Identifier), Item::Word(4));
+    }
+    if (words[5] % 256) as usize != words.len() - 7 {
+        return Verdict::Refused(Reason::Unfit(Misfit::DataCount), Item::Word(5));
+    }
+    Verdict::Accepted
+}
+
+// CS 12.
+fn judge_checksum(words: &[u16]) -> Verdict
+    requires { ⌜ 20 ≤ length (now words) ⌝ }
+    ensures { λ r. ⌜ r ≡ checksumVerdict (now (words .entry)) ⌝ }
+{
+    let n = words.len();
+    if words[n - 1] != anc::checksum(&words[3..n - 1]) {
+        return Verdict::Refused(Reason::Checksum, Item::Word(n - 1));
+    }
+    Verdict::Accepted
+}
+
+// The slot that a descriptor tells of: empty exactly when it is 0.
+fn slot_of(descriptor: u8) -> Slot
+    ensures { λ r. ⌜ r ≡ slotOf descriptor ⌝ }
+{
+    let full = if descriptor == 0 { 0 } else { 1 };
+    Slot {
+        full,
+        line: descriptor % 32,
+        reserved: descriptor / 32 % 4,
+        field: OddEven(descriptor / 128),
+    }
+}
+
+// The numbers that the user words hold.
+fn packet_in(user: &[u16]) -> Packet
+    requires { ⌜ 13 ≤ length (now user) ⌝ }
+    ensures { λ r. ⌜ r ≡ numbersOf (userValue (map byteOf (now (user .entry)))) ⌝ }
+{
+    let n = user.len();
+    let mut slots = [slot_of(0); SLOTS];
+    let mut i = 0;
+    while i < SLOTS {
+        slots[i] = slot_of((user[DESCRIPTORS + i] % 256) as u8);
+        i += 1;
+    }
+    let high = (user[n - 3] % 256) as u32;
+    let low = (user[n - 2] % 256) as u32;
+    Packet {
+        counter: 256 * high + low,
+        slots,
+    }
+}
+
+// The rows that the user words hold: one for each descriptor that is not 0, from the next structure.
+fn rows_in(user: &[u16]) -> [[u8; ROW_BYTES]; SLOTS]
+    requires { ⌜ length (now user) ≡ userLength (structuresIn (map byteOf (now user))) ⌝ }
+    ensures { λ r. ⌜ r ≡ rowsOf (userValue (map byteOf (now (user .entry)))) ⌝ }
+{
+    let mut rows = [[0; ROW_BYTES]; SLOTS];
+    let mut at = STRUCTURES;
+    let mut i = 0;
+    while i < SLOTS {
+        if user[DESCRIPTORS + i] % 256 != 0 {
+            rows[i] = row_at(user, at + 3);
+            at += STRUCTURE_WORDS;
+        }
+        i += 1;
+    }
+    rows
+}
+
+// The 42 bytes from index at on.
+fn row_at(user: &[u16], at: usize) -> [u8; ROW_BYTES]
+    requires { ⌜ at + 42 ≤ length (now user) ⌝ }
+    ensures { λ r. ⌜ r ≡ take 42 (drop at (map byteOf (now (user .entry)))) ⌝ }
+{
+    let mut row = [0; ROW_BYTES];
+    let mut j = 0;
+    while j < ROW_BYTES {
+        row[j] = (user[at + j] % 256) as u8;
+        j += 1;
+    }
+    row
+}
+
+// All zero, as in a refusal.
+fn nothing() -> Packet
+    ensures { λ r. ⌜ r ≡ numbersOf none ⌝ }
+{
+    let slots = [slot_of(0); SLOTS];
+    Packet { counter: 0, slots }
+}

@@ -1,0 +1,225 @@
+// Writing a packet.
+ghost use mathlib.Core.Path.{_≡_};
+ghost use Prim.Native.Nat.{_+_, _*_, _≤_, _<_};
+ghost use mathlib.Core.List.{[], _∷_, map};
+ghost use lib.ListN.{length, take};
+ghost use Rattle.lists.specs.Room.{over};
+ghost use Rattle.anc.specs.Words.{wordOf, byteOf};
+ghost use Rattle.refusal.specs.declared.Verdict.the-variants.{Accepted};
+ghost use Rattle.subtitling.specs.Value.{descriptor as Value·descriptor, together, held, beside};
+ghost use Rattle.subtitling.specs.Layout.{count as Layout·count, structures, footer, layout};
+ghost use Rattle.subtitling.specs.Writing.{allZero, unwritable, slotVerdict, valueVerdict, sealed, Writes};
+use crate::MIN_WORDS;
+use crate::Packet;
+use crate::ROW_BYTES;
+use crate::SLOTS;
+use crate::Slot;
+use crate::user::byte_sum;
+use crate::user::judge_line;
+use refusal::Excess;
+use refusal::Item;
+use refusal::Reason;
+use refusal::Verdict;
+use refusal::Written;
+
+// Writes a packet at the front of out.
+pub fn write(p: Packet, rows: [[u8; ROW_BYTES]; SLOTS], out: &mut [u16]) -> Written
+    ensures { λ r. ⌜ Writes p rows (now (out .entry)) r (now (out .exit)) ⌝ }
+{
+    let refusal = refusal::told(judge_value(p, rows, out.len()));
+    if refusal.number != 0 {
+        return Written { refusal, len: 0 };
+    }
+    put(p, rows, out);
+    Written {
+        refusal,
+        len: MIN_WORDS + 45 * count(p),
+    }
+}
+
+// 01, "Which refusal comes first": 15 of the counter; 15 and 7 of each slot in order; then 1, which five structures cannot meet, then 14.
+fn judge_value(p: Packet, rows: [[u8; ROW_BYTES]; SLOTS], room: usize) -> Verdict
+    ensures { λ r. ⌜ r ≡ valueVerdict (held p rows) room ⌝ }
+{
+    if 65535 < p.counter {
+        return Verdict::Refused(Reason::Unholdable(Excess::Counter), Item::Whole);
+    }
+    let mut i = 0;
+    while i < SLOTS {
+        let slot = p.slots[i];
+        let verdict = judge_slot(slot, rows[i]);
+        if let Verdict::Refused(_, _) = verdict {
+            return verdict;
+        }
+        i += 1;
+    }
+    if room < MIN_WORDS + 45 * count(p) {
+        return Verdict::Refused(Reason::NoRoom, Item::Whole);
+    }
+    Verdict::Accepted
+}
+
+fn judge_slot(s: Slot, row: [u8; ROW_BYTES]) -> Verdict
+    ensures { λ r. ⌜ r ≡ slotVerdict (together s row) ⌝ }
+{
+    if 1 < s.full {
+        return Verdict::Refused(Reason::Unholdable(Excess::SlotMark), Item::Whole);
+    }
+    if 31 < s.line {
+        return Verdict::Refused(Reason::Unholdable(Excess::SlotLine), Item::Whole);
+    }
+    if 3 < s.reserved {
+        return Verdict::Refused(Reason::Unholdable(Excess::SlotReserved), Item::Whole);
+    }
+    if 1 < s.field.0 {
+        return Verdict::Refused(Reason::Unholdable(Excess::SlotField), Item::Whole);
+    }
+    if is_unwritable(s, row) {
+        return Verdict::Refused(Reason::Unholdable(Excess::SlotUnwritable), Item::Whole);
+    }
+    judge_line(s.line, Item::Whole)
+}
+
+// A full slot whose descriptor is 0, or an empty one that holds anything else.
+fn is_unwritable(s: Slot, row: [u8; ROW_BYTES]) -> bool
+    ensures { λ r. ⌜ r ≡ unwritable (s .full) (Value·descriptor s) (allZero row) ⌝ }
+{
+    let d = descriptor(s);
+    if s.full != 0 {
+        return d == 0;
+    }
+    if d != 0 {
+        return true;
+    }
+    !is_blank(row)
+}
+
+fn is_blank(row: [u8; ROW_BYTES]) -> bool
+    ensures { λ r. ⌜ r ≡ allZero row ⌝ }
+{
+    let mut sum: u16 = 0;
+    let mut j = 0;
+    while j < ROW_BYTES {
+        sum += row[j] as u16;
+        j += 1;
+    }
+    sum == 0
+}
+
+// The descriptor of a slot. 16 bits hold it even where its numbers are too large.
+fn descriptor(s: Slot) -> u16
+    ensures { λ r. ⌜ r ≡ Value·descriptor s ⌝ }
+{
+    s.line as u16 + 32 * s.reserved as u16 + 128 * s.field.0 as u16
+}
+
+// How many structures the slots bring.
+fn count(p: Packet) -> usize
+    ensures { λ r. ⌜ r ≡ Layout·count (map Value·descriptor (p .slots)) ⌝ }
+{
+    let mut k = 0;
+    let mut i = 0;
+    while i < SLOTS {
+        let slot = p.slots[i];
+        if descriptor(slot) != 0 {
+            k += 1;
+        }
+        i += 1;
+    }
+    k
+}
+
+// Stores the layout of a value that was judged.
+fn put(p: Packet, rows: [[u8; ROW_BYTES]; SLOTS], out: &mut [u16])
+    requires { ⌜ valueVerdict (held p rows) (length (now out)) ≡ Accepted ⌝ }
+    ensures { λ _. ⌜ now (out .exit) ≡ over (layout (held p rows)) (now (out .entry)) ⌝ }
+{
+    let k = count(p);
+    put_header((13 + 45 * k) as u8, out);
+    put_descriptors(p, &mut out[10..]);
+    put_structures(p, rows, &mut out[15..]);
+    put_footer(p.counter, &mut out[15 + 45 * k..]);
+    put_sums(18 + 45 * k, out);
+}
+
+// The flag, DID, SDID, DC, and the user bytes 51, 15, LENGTH, 02.
+fn put_header(dc: u8, out: &mut [u16])
+    requires { ⌜ 10 ≤ length (now out) ⌝ }
+    ensures { λ _. ⌜ now (out .exit) ≡ over (0x000 ∷ 0x3FF ∷ 0x3FF ∷ map wordOf (0x43 ∷ 0x02 ∷ dc ∷ 0x51 ∷ 0x15 ∷ dc ∷ 0x02 ∷ [])) (now (out .entry)) ⌝ }
+{
+    let count = anc::word(dc);
+    out[0] = 0x000;
+    out[1] = 0x3FF;
+    out[2] = 0x3FF;
+    out[3] = 0x143;
+    out[4] = 0x102;
+    out[5] = count;
+    out[6] = 0x151;
+    out[7] = 0x115;
+    out[8] = count;
+    out[9] = 0x102;
+}
+
+fn put_descriptors(p: Packet, out: &mut [u16])
+    requires { ⌜ 5 ≤ length (now out) ⌝ }
+    ensures { λ _. ⌜ now (out .exit) ≡ over (map wordOf (map byteOf (map Value·descriptor (p .slots)))) (now (out .entry)) ⌝ }
+{
+    let mut i = 0;
+    while i < SLOTS {
+        let slot = p.slots[i];
+        out[i] = anc::word((descriptor(slot) % 256) as u8);
+        i += 1;
+    }
+}
+
+// One structure for each descriptor that is not 0, one behind the other.
+fn put_structures(p: Packet, rows: [[u8; ROW_BYTES]; SLOTS], out: &mut [u16])
+    requires { ⌜ 45 * Layout·count (map Value·descriptor (p .slots)) ≤ length (now out) ⌝ }
+    ensures { λ _. ⌜ now (out .exit) ≡ over (map wordOf (structures (beside (p .slots) rows))) (now (out .entry)) ⌝ }
+{
+    let mut at = 0;
+    let mut i = 0;
+    while i < SLOTS {
+        let slot = p.slots[i];
+        if descriptor(slot) != 0 {
+            put_structure(rows[i], &mut out[at..]);
+            at += 45;
+        }
+        i += 1;
+    }
+}
+
+fn put_structure(row: [u8; ROW_BYTES], out: &mut [u16])
+    requires { ⌜ 45 ≤ length (now out) ⌝ }
+    ensures { λ _. ⌜ now (out .exit) ≡ over (map wordOf (0x55 ∷ 0x55 ∷ 0x27 ∷ row)) (now (out .entry)) ⌝ }
+{
+    out[0] = 0x255;
+    out[1] = 0x255;
+    out[2] = 0x227;
+    let mut j = 0;
+    while j < ROW_BYTES {
+        out[3 + j] = anc::word(row[j]);
+        j += 1;
+    }
+}
+
+// 74 and the counter.
+fn put_footer(counter: u32, out: &mut [u16])
+    requires { ⌜ counter < 65536 ⌝ }
+    requires { ⌜ 3 ≤ length (now out) ⌝ }
+    ensures { λ _. ⌜ now (out .exit) ≡ over (map wordOf (footer counter)) (now (out .entry)) ⌝ }
+{
+    out[0] = 0x274;
+    out[1] = anc::word((counter / 256) as u8);
+    out[2] = anc::word((counter % 256) as u8);
+}
+
+// The SDP checksum at index n, behind what was stored before it, and CS.
+fn put_sums(n: usize, out: &mut [u16])
+    requires { ⌜ (6 ≤ n) × (n + 2 ≤ length (now out)) ⌝ }
+    ensures { λ _. ⌜ now (out .exit) ≡ over (sealed (take n (now (out .entry)))) (now (out .entry)) ⌝ }
+{
+    let sum = byte_sum(&out[6..n]);
+    out[n] = anc::word(((256 - sum) % 256) as u8);
+    out[n + 1] = anc::checksum(&out[3..n + 1]);
+}
