@@ -2,8 +2,8 @@
 -- Assumes nothing.
 use Prim.Native.Nat.{ℕ, zero, suc, _<_}
 use native.Mathlib.Omega.{arith}
-use mathlib.Core.List.{List, [], _∷_}
-use lib.ListN.{length, getD, take}
+use mathlib.Core.List.{List, [], _∷_, _++_}
+use lib.ListN.{length, getD, take, drop}
 use Rattle.lists.specs.Each.{Each}
 
 module _ {A : Type 0} (P : A → Type 0) (d : A) where
@@ -23,6 +23,15 @@ module _ {A : Type 0} (P : A → Type 0) where
   each-take zero xs h = tt
   each-take (suc k) [] h = tt
   each-take (suc k) (x ∷ xs) h = (h .0, each-take k xs (h .1))
+
+  pub each-drop : (k : ℕ) (xs : List A) → Each P xs → Each P (drop k xs)
+  each-drop zero xs h = h
+  each-drop (suc k) [] h = tt
+  each-drop (suc k) (x ∷ xs) h = each-drop k xs (h .1)
+
+  pub each-append : (xs ys : List A) → Each P xs → Each P ys → Each P (xs ++ ys)
+  each-append [] ys h g = g
+  each-append (x ∷ xs) ys h g = (h .0, each-append xs ys (h .1) g)
 
 module _ {A : Type 0} (P Q R : A → Type 0) (f : (x : A) → P x → Q x → R x) where
   pub each-both : (xs : List A) → Each P xs → Each Q xs → Each R xs

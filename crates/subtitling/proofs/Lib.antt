@@ -1,1 +1,10 @@
 pub mod Slots
+pub mod Structures
+pub mod Numbers
+pub mod Accepted
+pub mod Rules
+pub mod Packets
+pub mod Back
+pub mod Illegal
+pub mod Beside
+pub mod Theorems

@@ -77,10 +77,13 @@ found (Refused reason item) v = none
 abbrev pub readOf : List ℕ → Answer
 readOf s = record { refusal = refusalOf (packetVerdict s); packet = numbersOf (found (packetVerdict s) (valueOf s)) }
 
+abbrev pub readRowsOf : List ℕ → List (List ℕ)
+readRowsOf s = rowsOf (found (packetVerdict s) (valueOf s))
+
 -- the promise of `read`: refusal, counter and the slots' numbers
 abbrev pub Reads : List ℕ → Answer → Type 0
 Reads s r = r ≡ readOf s
 
 -- the promise of `read_rows`: the slots' rows
 abbrev pub ReadsRows : List ℕ → List (List ℕ) → Type 0
-ReadsRows s rows = rows ≡ rowsOf (found (packetVerdict s) (valueOf s))
+ReadsRows s rows = rows ≡ readRowsOf s

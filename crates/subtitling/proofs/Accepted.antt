@@ -1,0 +1,143 @@
+-- What a packet satisfies that the checks of reading accept, part by part.
+-- Assumes nothing.
+use Prim.Native.Nat.{ℕ, _+_, _-_, _%_, _≤_}
+use mathlib.Core.Path.{_≡_}
+use mathlib.Core.Bool.{not}
+use mathlib.Core.List.{List}
+use lib.Dec.{eqb, ltb}
+use lib.ListN.{length, getD, drop}
+use borrow.Author.Tests.{eqb-true, ltb-false, not-false}
+use Rattle.lists.specs.Sum.{sum}
+use Rattle.refusal.specs.declared.Reason.{Reason}
+use Rattle.refusal.specs.declared.Item.{Item}
+use Rattle.refusal.specs.declared.Verdict.the-variants.{Accepted}
+use Rattle.refusal.specs.Checks.{refuseIf}
+use Rattle.refusal.proofs.Checks.{refuseIf-accepted, andThen-accepted}
+use Rattle.anc.specs.Words.{wordsVerdict, sumVerdict, checksumOf}
+use Rattle.subtitling.specs.Layout.{userLength}
+use Rattle.subtitling.specs.User.{descriptorsIn, descriptorsVerdict, structuresIn, structuresVerdict, headVerdict, tailVerdict, userVerdict}
+use Rattle.subtitling.specs.Reading.{coveredIn, userIn, lastOf, formVerdict, headerVerdict, checksumVerdict, packetVerdict}
+
+-- a check that two numbers are equal
+same : (a b : ℕ) (reason : Reason) (item : Item) → refuseIf (not (eqb a b)) reason item ≡ Accepted → a ≡ b
+same a b reason item e = eqb-true a b (not-false (eqb a b) (refuseIf-accepted (not (eqb a b)) reason item e))
+
+-- a check that a number is not below another
+enough : (a b : ℕ) (reason : Reason) (item : Item) → refuseIf (ltb a b) reason item ≡ Accepted → b ≤ a
+enough a b reason item e = ltb-false a b (refuseIf-accepted (ltb a b) reason item e)
+
+-- what stands before the structures
+pub record Head (dc : ℕ) (u : List ℕ) : Type 0 where
+  pub long : 13 ≤ length u
+  pub first : getD u 0 0 ≡ 0x51
+  pub second : getD u 1 0 ≡ 0x15
+  pub counted : getD u 2 0 ≡ length u
+  pub format : getD u 3 0 ≡ 0x02
+  pub lines : descriptorsVerdict (dc + 5) (descriptorsIn u) ≡ Accepted
+  pub whole : length u ≡ userLength (structuresIn u)
+
+pub accepted-head : (dc : ℕ) (u : List ℕ) → headVerdict dc u ≡ Accepted → Head dc u
+unfolding headVerdict
+accepted-head dc u e =
+    let long = andThen-accepted _ _ e in
+    let first = andThen-accepted _ _ (long .1) in
+    let second = andThen-accepted _ _ (first .1) in
+    let counted = andThen-accepted _ _ (second .1) in
+    let format = andThen-accepted _ _ (counted .1) in
+    let lines = andThen-accepted _ _ (format .1) in
+    let whole = andThen-accepted _ _ (lines .1) in
+    record {
+      long = enough _ _ _ _ (long .0);
+      first = same _ _ _ _ (first .0);
+      second = same _ _ _ _ (second .0);
+      counted = same _ _ _ _ (counted .0);
+      format = same _ _ _ _ (format .0);
+      lines = lines .0;
+      whole = same _ _ _ _ (whole .0);
+    }
+
+-- the structures and what stands behind them
+pub record Tail (dc : ℕ) (u : List ℕ) : Type 0 where
+  pub fixed : structuresVerdict (dc + 10) (structuresIn u) (drop 9 u) ≡ Accepted
+  pub footer : getD u (length u - 4) 0 ≡ 0x74
+  pub total : sum u % 256 ≡ 0
+
+pub accepted-tail : (dc : ℕ) (u : List ℕ) → tailVerdict dc u ≡ Accepted → Tail dc u
+unfolding tailVerdict
+accepted-tail dc u e =
+    let fixed = andThen-accepted _ _ e in
+    let footer = andThen-accepted _ _ (fixed .1) in
+    let total = andThen-accepted _ _ (footer .1) in
+    record { fixed = fixed .0; footer = same _ _ _ _ (footer .0); total = same _ _ _ _ (total .0) }
+
+-- the length, the flag, and that each word is one
+pub record Form (s : List ℕ) : Type 0 where
+  pub short : length s ≤ 245
+  pub long : 20 ≤ length s
+  pub flag0 : getD s 0 0 ≡ 0x000
+  pub flag1 : getD s 1 0 ≡ 0x3FF
+  pub flag2 : getD s 2 0 ≡ 0x3FF
+  pub words : wordsVerdict 3 (coveredIn s) ≡ Accepted
+  pub last : sumVerdict (length s - 1) (lastOf s) ≡ Accepted
+
+pub accepted-form : (s : List ℕ) → formVerdict s ≡ Accepted → Form s
+unfolding formVerdict
+accepted-form s e =
+    let short = andThen-accepted _ _ e in
+    let long = andThen-accepted _ _ (short .1) in
+    let flag0 = andThen-accepted _ _ (long .1) in
+    let flag1 = andThen-accepted _ _ (flag0 .1) in
+    let flag2 = andThen-accepted _ _ (flag1 .1) in
+    let words = andThen-accepted _ _ (flag2 .1) in
+    let last = andThen-accepted _ _ (words .1) in
+    record {
+      short = enough _ _ _ _ (short .0);
+      long = enough _ _ _ _ (long .0);
+      flag0 = same _ _ _ _ (flag0 .0);
+      flag1 = same _ _ _ _ (flag1 .0);
+      flag2 = same _ _ _ _ (flag2 .0);
+      words = words .0;
+      last = last .0;
+    }
+
+-- DID, SDID, DC
+pub record Header (s : List ℕ) : Type 0 where
+  pub did : getD s 3 0 ≡ 0x143
+  pub sdid : getD s 4 0 ≡ 0x102
+  pub dc : getD s 5 0 % 256 ≡ length s - 7
+
+pub accepted-header : (s : List ℕ) → headerVerdict s ≡ Accepted → Header s
+unfolding headerVerdict
+accepted-header s e =
+    let did = andThen-accepted _ _ e in
+    let sdid = andThen-accepted _ _ (did .1) in
+    let dc = andThen-accepted _ _ (sdid .1) in
+    record { did = same _ _ _ _ (did .0); sdid = same _ _ _ _ (sdid .0); dc = same _ _ _ _ (dc .0) }
+
+pub accepted-checksum : (s : List ℕ) → checksumVerdict s ≡ Accepted → lastOf s ≡ checksumOf (coveredIn s)
+unfolding checksumVerdict
+accepted-checksum s e = same _ _ _ _ e
+
+-- the whole packet
+pub record Whole (s : List ℕ) : Type 0 where
+  pub form : Form s
+  pub header : Header s
+  pub head : Head 5 (userIn s)
+  pub tail : Tail 5 (userIn s)
+  pub checksum : lastOf s ≡ checksumOf (coveredIn s)
+
+pub accepted-packet : (s : List ℕ) → packetVerdict s ≡ Accepted → Whole s
+unfolding packetVerdict
+accepted-packet s e =
+    let form = andThen-accepted _ _ e in
+    let header = andThen-accepted _ _ (form .1) in
+    let user = andThen-accepted _ _ (header .1) in
+    let checksum = andThen-accepted _ _ (user .1) in
+    let both = andThen-accepted (headVerdict 5 (userIn s)) (tailVerdict 5 (userIn s)) (user .0) in
+    record {
+      form = accepted-form s (form .0);
+      header = accepted-header s (header .0);
+      head = accepted-head 5 (userIn s) (both .0);
+      tail = accepted-tail 5 (userIn s) (both .1);
+      checksum = accepted-checksum s (checksum .0);
+    }

@@ -1,0 +1,228 @@
+-- The theorems of the subtitling packet (document 01, demands 1 to 3). What they speak of is defined in specs/: a value and when it is legal in Value;
+-- its words in Layout, without the reader; the rules over user words in User; what reading answers in Reading; what writing answers and leaves
+-- in Writing.
+--
+-- The contracts of `read`, `read_rows` and `write` are the promises `Reads`, `ReadsRows` and `Writes`. `Reads s r` says that r is the answer to the words
+-- s, `ReadsRows s rows` that these are the rows in it, and `Writes p rows out r exit` that writing p with its rows to an output that held `out`
+-- answers r and leaves `exit`. So each theorem speaks of every call. Assumes nothing.
+use Prim.Native.Nat.{ℕ, _+_, _*_, _%_, _≤_, _<_}
+use native.Mathlib.Omega.{arith}
+use mathlib.Core.Path.{_≡_, _∙_, ap, ap₂, sym, subst, refl}
+use mathlib.Core.Logic.{_↔_, ⊎-elim}
+use mathlib.Core.List.{List}
+use borrow.Author.Tests.{lt-ltb, le-ltb}
+use lib.ListN.{length, take, drop, length-map}
+use lib.Seq.{take-append-seam}
+use Rattle.lists.specs.Room.{over}
+use Rattle.lists.specs.Sum.{sum}
+use Rattle.refusal.specs.declared.Refusal.{Refusal}
+use Rattle.refusal.specs.declared.Written.{Written}
+use Rattle.refusal.specs.declared.Verdict.{Verdict}
+use Rattle.refusal.specs.declared.Verdict.the-variants.{Accepted, Refused}
+use Rattle.refusal.specs.Numbers.{refusalOf}
+use Rattle.refusal.proofs.Acceptance.{told-accepted}
+use Rattle.refusal.proofs.Outputs.{wrote-accepted, accepted-wrote, wrote-refusal, success-left, refusal-left, wrote-determined}
+use Rattle.subtitling.specs.declared.Packet.{Packet}
+use Rattle.subtitling.specs.declared.Answer.{Answer}
+use Rattle.subtitling.specs.Value.{SlotRow, Sdp, LegalSlot, Legal, descriptor, none, held, numbersOf, rowsOf}
+use Rattle.subtitling.specs.Layout.{descriptorsOf, count, userLength, userBytes, layout}
+use Rattle.subtitling.specs.Reading.{formVerdict, packetVerdict, valueOf, found, Reads, ReadsRows}
+use Rattle.subtitling.specs.Writing.{valueVerdict, Writes}
+use Rattle.subtitling.proofs.Beside.{held-apart, numbers-held, rows-held}
+use Rattle.subtitling.proofs.Numbers.{count-most, length-user, length-layout, slots-accepted, accepted-value, value-accepted, legal-held}
+use Rattle.subtitling.proofs.Rules.{sum-user}
+use Rattle.subtitling.proofs.Back.{layout-accepted, value-layout, packet-legal}
+use Rattle.subtitling.proofs.Illegal.{Is15or7, illegal-15-or-7}
+
+-- number and place 0
+abbrev accepted : Refusal
+accepted = record { number = 0; place = 0 }
+
+-- a number of 01, and no place
+abbrev refused : ℕ → Refusal
+refused number = record { number = number; place = 0 }
+
+-- READING
+
+-- The answer to a legal value's words is that value: its numbers,
+pub the-answer : (v : Sdp) → Legal v → (r : Answer) → Reads (layout v) r → r ≡ record { refusal = accepted; packet = numbersOf v }
+the-answer v h r p =
+    p ∙ ap₂ answered (layout-accepted v h) (value-layout v h)
+  where
+    answered : Verdict → Sdp → Answer
+    answered verdict value = record { refusal = refusalOf verdict; packet = numbersOf (found verdict value) }
+
+-- and its rows.
+pub the-rows : (v : Sdp) → Legal v → (rows : List (List ℕ)) → ReadsRows (layout v) rows → rows ≡ rowsOf v
+the-rows v h rows p = p ∙ ap₂ (λ (verdict : Verdict) (value : Sdp). rowsOf (found verdict value)) (layout-accepted v h) (value-layout v h)
+
+-- an answer of number 0 is an acceptance
+accepts : (s : List ℕ) (r : Answer) → Reads s r → r .refusal .number ≡ 0 → packetVerdict s ≡ Accepted
+accepts s r p e = told-accepted (packetVerdict s) (sym (ap (λ (a : Answer). a .refusal .number) p) ∙ e)
+
+-- Words are accepted exactly when some legal value has them as its layout.
+pub accepted-exactly : (s : List ℕ) (r : Answer) → Reads s r → r .refusal .number ≡ 0 ↔ ((v : Sdp) × Legal v × (layout v ≡ s))
+accepted-exactly s r p = (
+  λ e. let back = packet-legal s (accepts s r p e) in (valueOf s, back .legal, back .same),
+  λ w. ap (λ (a : Answer). a .refusal .number) (the-answer (w .0) (w .1) r (subst (λ (t : List ℕ). Reads t r) (sym (w .2)) p)),
+)
+
+-- That value is the only one,
+pub only-one : (v w : Sdp) → Legal v → Legal w → layout v ≡ layout w → v ≡ w
+only-one v w hv hw e = sym (value-layout v hv) ∙ ap valueOf e ∙ value-layout w hw
+
+-- and its numbers and rows, put together, are the value.
+pub held-together : (v : Sdp) → held (numbersOf v) (rowsOf v) ≡ v
+held-together = held-apart
+
+-- A refusal is that of the first check, in 01's order, that finds a fault.
+pub refused-in-order : (s : List ℕ) (r : Answer) → Reads s r → r .refusal ≡ refusalOf (packetVerdict s)
+refused-in-order s r p = ap (λ (a : Answer). a .refusal) p
+
+refused-nothing : (verdict : Verdict) (v : Sdp) → (refusalOf verdict .number ≡ 0 → ⊥) → found verdict v ≡ none
+refused-nothing Accepted v h = absurd (h refl)
+refused-nothing (Refused reason item) v h = refl
+
+-- It comes without slots: all else in it is zero.
+pub refused-zero : (s : List ℕ) (r : Answer) (rows : List (List ℕ)) → Reads s r → ReadsRows s rows → (r .refusal .number ≡ 0 → ⊥)
+    → (r .packet ≡ numbersOf none) × (rows ≡ rowsOf none)
+refused-zero s r rows p q h =
+    let nothing = refused-nothing (packetVerdict s) (valueOf s) (λ e. h (ap (λ (a : Answer). a .refusal .number) p ∙ e)) in
+    (ap (λ (a : Answer). a .packet) p ∙ ap numbersOf nothing, q ∙ ap rowsOf nothing)
+
+-- SIZES
+
+-- A packet with k structures has 20 + 45k words, 20 to 245.
+pub layout-size : (v : Sdp) → Legal v → (length (layout v) ≡ 20 + 45 * count (descriptorsOf (v .slots))) × (count (descriptorsOf (v .slots)) ≤ 5)
+layout-size v h = (length-layout v h, omega (arith, count-most (descriptorsOf (v .slots)), length-map (v .slots) (λ (x : SlotRow). descriptor (x .slot)), h .five))
+
+pub accepted-size : (s : List ℕ) (r : Answer) → Reads s r → r .refusal .number ≡ 0 → (k : ℕ) × (k ≤ 5) × (length s ≡ 20 + 45 * k)
+accepted-size s r p e =
+    let back = packet-legal s (accepts s r p e) in
+    let size = layout-size (valueOf s) (back .legal) in
+    (count (descriptorsOf (valueOf s .slots)), size .1, sym (ap length (back .same)) ∙ size .0)
+
+-- Its DC and its LENGTH are 13 + 45k, the number of its user bytes, and these add up to 0 modulo 256.
+pub user-size : (v : Sdp) → Legal v → length (userBytes v) ≡ userLength (count (descriptorsOf (v .slots)))
+user-size = length-user
+
+pub user-sum : (v : Sdp) → Legal v → sum (userBytes v) % 256 ≡ 0
+user-sum = sum-user
+
+-- A slot is empty exactly when its descriptor is 0; 80 (line 0, odd field) is a full one.
+pub empty-exactly : (x : SlotRow) → LegalSlot x → (x .slot .full ≡ 0) ↔ (descriptor (x .slot) ≡ 0)
+empty-exactly x h = (
+  λ e. ⊎-elim (λ same. ap (λ (y : SlotRow). descriptor (y .slot)) same) (λ full. let f : ⊥ = omega (arith, full .mark) in absurd f) h,
+  λ e. ⊎-elim (λ same. ap (λ (y : SlotRow). y .slot .full) same) (λ full. let f : ⊥ = omega (arith, full .some) in absurd f) h,
+)
+
+-- Longer ones are refused with 1, shorter ones with 5, whatever they hold.
+pub refused-1 : (s : List ℕ) (r : Answer) → Reads s r → 245 < length s → r .refusal ≡ refused 1
+unfolding packetVerdict formVerdict
+refused-1 s r p h = ap (λ (a : Answer). a .refusal) p ∙ simp (lt-ltb 245 (length s) h)
+
+pub refused-5 : (s : List ℕ) (r : Answer) → Reads s r → length s < 20 → r .refusal ≡ refused 5
+unfolding packetVerdict formVerdict
+refused-5 s r p h = let short : length s ≤ 245 = omega arith in ap (λ (a : Answer). a .refusal) p ∙ simp (le-ltb 245 (length s) short, lt-ltb (length s) 20 h)
+
+-- WRITING
+
+-- Writing succeeds exactly when the value is legal and the result fits limit and buffer.
+pub writes-exactly : (p : Packet) (rows : List (List ℕ)) (out : List ℕ) (r : Written) (exit : List ℕ) → Writes p rows out r exit
+    → r .refusal .number ≡ 0 ↔ (Legal (held p rows) × (length (layout (held p rows)) ≤ 245) × (length (layout (held p rows)) ≤ length out))
+writes-exactly p rows out r exit w = (
+  λ e.
+      let ok = accepted-value (held p rows) (length out) (wrote-accepted _ _ _ _ _ (w .wrote) e) in
+      (legal-held p rows (w .typed) (ok .few) (ok .each), ok .short, ok .fits),
+  λ h.
+      let v = held p rows in
+      let few : v .counter ≤ 65535 = omega (arith, h .0 .count) in
+      accepted-wrote _ _ _ _ _ (w .wrote)
+      (value-accepted v (length out) (record { few = few; each = slots-accepted (v .slots) (h .0 .each); short = h .1; fits = h .2 })),
+)
+
+-- Then exactly the layout stands at the front of the buffer, and nothing else changed.
+pub written-front : (p : Packet) (rows : List (List ℕ)) (out : List ℕ) (r : Written) (exit : List ℕ) → Writes p rows out r exit → r .refusal .number ≡ 0
+    → (r ≡ record { refusal = accepted; len = length (layout (held p rows)) }) × (exit ≡ over (layout (held p rows)) out)
+written-front p rows out r exit w e = success-left _ _ _ _ _ (w .wrote) (wrote-accepted _ _ _ _ _ (w .wrote) e)
+
+-- A value that is not legal is refused with 15 or 7.
+pub illegal-refused : (p : Packet) (rows : List (List ℕ)) (out : List ℕ) (r : Written) (exit : List ℕ) → Writes p rows out r exit → (Legal (held p rows) → ⊥)
+    → Is15or7 (r .refusal)
+illegal-refused p rows out r exit w h =
+    subst Is15or7 (sym (wrote-refusal _ _ _ _ _ (w .wrote))) (illegal-15-or-7 p rows (length out) (w .typed) h)
+
+-- A legal one is never too long, so that 1 is not given,
+pub legal-short : (v : Sdp) → Legal v → length (layout v) ≤ 245
+legal-short v h = let size = layout-size v h in omega (arith, size .0, size .1)
+
+-- and is refused with 14 where the buffer is too short.
+pub no-room-refused : (p : Packet) (rows : List (List ℕ)) (out : List ℕ) (r : Written) (exit : List ℕ) → Writes p rows out r exit → Legal (held p rows)
+    → length out < length (layout (held p rows)) → r .refusal ≡ refused 14
+unfolding valueVerdict
+no-room-refused p rows out r exit w h short =
+    let v = held p rows in
+    let few : v .counter ≤ 65535 = omega (arith, h .count) in
+    let each = slots-accepted (v .slots) (h .each) in
+    wrote-refusal _ _ _ _ _ (w .wrote)
+    ∙ simp (le-ltb 65535 (v .counter) few, each, le-ltb 245 (length (layout v)) (legal-short v h), lt-ltb (length out) (length (layout v)) short)
+
+-- A refused call counted nothing and changed nothing.
+pub refused-untouched : (p : Packet) (rows : List (List ℕ)) (out : List ℕ) (r : Written) (exit : List ℕ) → Writes p rows out r exit
+    → (r .refusal .number ≡ 0 → ⊥) → (r .len ≡ 0) × (exit ≡ out)
+refused-untouched p rows out r exit w h = refusal-left _ _ _ _ _ (w .wrote) h
+
+-- BOTH WAYS
+
+-- Reading what was written gives the value back, number for number and row for row.
+pub read-written : (p : Packet) (rows : List (List ℕ)) (out : List ℕ) (r : Written) (exit : List ℕ) → Writes p rows out r exit → r .refusal .number ≡ 0
+    → (a : Answer) (back : List (List ℕ)) → Reads (take (r .len) exit) a → ReadsRows (take (r .len) exit) back
+    → (a ≡ record { refusal = accepted; packet = p }) × (back ≡ rows)
+read-written p rows out r exit w e a back read readRows =
+    let v = held p rows in
+    let wrote = written-front p rows out r exit w e in
+    let legal = writes-exactly p rows out r exit w .0 e .0 in
+    let front : take (r .len) exit ≡ layout v =
+        ap₂ (λ (n : ℕ) (words : List ℕ). take n words) (ap (λ (x : Written). x .len) (wrote .0)) (wrote .1)
+        ∙ take-append-seam (layout v) (drop (length (layout v)) out) in (
+      the-answer v legal a (subst (λ (s : List ℕ). Reads s a) front read) ∙ ap answered (numbers-held p rows (w .typed)),
+      the-rows v legal back (subst (λ (s : List ℕ). ReadsRows s back) front readRows) ∙ rows-held p rows (w .typed),
+    )
+  where
+    answered : Packet → Answer
+    answered packet = record { refusal = accepted; packet = packet }
+
+-- Writing what was read gives the words back.
+pub written-read : (s : List ℕ) (a : Answer) (rows : List (List ℕ)) → Reads s a → ReadsRows s rows → a .refusal .number ≡ 0
+    → (out : List ℕ) (r : Written) (exit : List ℕ) → Writes (a .packet) rows out r exit → length s ≤ length out
+    → (r ≡ record { refusal = accepted; len = length s }) × (exit ≡ over s out)
+written-read s a rows read readRows e out r exit w fits =
+    let yes = accepts s a read e in
+    let back = packet-legal s yes in
+    let same : held (a .packet) rows ≡ valueOf s =
+        ap₂ held
+        (ap (λ (x : Answer). x .packet) read ∙ ap (λ (verdict : Verdict). numbersOf (found verdict (valueOf s))) yes)
+        (readRows ∙ ap (λ (verdict : Verdict). rowsOf (found verdict (valueOf s))) yes)
+        ∙ held-apart (valueOf s) in
+    let laid : layout (held (a .packet) rows) ≡ s = ap layout same ∙ back .same in
+    let legal = subst Legal (sym same) (back .legal) in
+    let room : length (layout (held (a .packet) rows)) ≤ length out = omega (arith, ap length laid) in
+    let ok = writes-exactly (a .packet) rows out r exit w .1 (legal, legal-short (held (a .packet) rows) legal, room) in
+    let wrote = written-front (a .packet) rows out r exit w ok in
+    (wrote .0 ∙ ap (λ (n : ℕ). counted n) (ap length laid), wrote .1 ∙ ap (λ (words : List ℕ). over words out) laid)
+  where
+    counted : ℕ → Written
+    counted n = record { refusal = accepted; len = n }
+
+-- ONE ANSWER
+
+-- For each function, two answers that keep its promise are equal, lent memory too.
+pub read-determined : (s : List ℕ) (a b : Answer) → Reads s a → Reads s b → a ≡ b
+read-determined s a b ra rb = ra ∙ sym rb
+
+pub rows-determined : (s : List ℕ) (a b : List (List ℕ)) → ReadsRows s a → ReadsRows s b → a ≡ b
+rows-determined s a b ra rb = ra ∙ sym rb
+
+pub write-determined : (p : Packet) (rows : List (List ℕ)) (out : List ℕ) (a : Written) (exit : List ℕ) (b : Written) (end : List ℕ)
+    → Writes p rows out a exit → Writes p rows out b end → (a ≡ b) × (exit ≡ end)
+write-determined p rows out a exit b end wa wb = wrote-determined _ _ _ _ _ (wa .wrote) b end (wb .wrote)
