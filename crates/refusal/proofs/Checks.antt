@@ -2,7 +2,7 @@
 -- Assumes nothing.
 use Prim.Native.Nat.{ℕ}
 use native.Mathlib.Omega.{arith}
-use mathlib.Core.Path.{_≡_, _∙_, ap, refl}
+use mathlib.Core.Path.{_≡_, _∙_, ap, sym, refl}
 use mathlib.Core.Bool.{Bool, true, false}
 use mathlib.Core.List.{List, [], _∷_, map}
 use Rattle.lists.specs.Each.{Each}
@@ -54,3 +54,11 @@ andThen-assoc (Refused reason item) b c = refl
 pub andThen-refused : (check next : Verdict) → (check ≡ Accepted → ⊥) → andThen check next ≡ check
 andThen-refused Accepted next h = absurd (h refl)
 andThen-refused (Refused reason item) next h = refl
+
+-- once the answer to a check is known: a refusal decides,
+pub refused-first : {answer check : Verdict} {reason : Reason} {item : Item} (next : Verdict) → answer ≡ check → answer ≡ Refused reason item → answer ≡ andThen check next
+refused-first next e told = told ∙ ap (λ (v : Verdict). andThen v next) (sym told ∙ e)
+
+-- and an acceptance leaves it to the next check
+pub accepted-first : {answer check : Verdict} (next : Verdict) → answer ≡ check → answer ≡ Accepted → andThen check next ≡ next
+accepted-first next e told = ap (λ (v : Verdict). andThen v next) (sym e ∙ told)

@@ -15,7 +15,7 @@ use Rattle.refusal.specs.Checks.{refuseIf}
 use Rattle.refusal.proofs.Checks.{refuseIf-accepted, andThen-accepted}
 use Rattle.anc.specs.Words.{wordsVerdict, sumVerdict, checksumOf}
 use Rattle.subtitling.specs.Layout.{userLength}
-use Rattle.subtitling.specs.User.{descriptorsIn, descriptorsVerdict, structuresIn, structuresVerdict, headVerdict, tailVerdict, userVerdict}
+use Rattle.subtitling.specs.User.{descriptorsIn, descriptorsVerdict, structuresIn, structuresVerdict, headVerdict, tailVerdict}
 use Rattle.subtitling.specs.Reading.{coveredIn, userIn, lastOf, formVerdict, headerVerdict, checksumVerdict, packetVerdict}
 
 -- a check that two numbers are equal

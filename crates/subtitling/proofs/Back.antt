@@ -12,7 +12,7 @@ use Rattle.lists.specs.Part.{part}
 use Rattle.lists.proofs.Each.{each-append}
 use Rattle.refusal.specs.declared.Verdict.the-variants.{Accepted}
 use Rattle.anc.proofs.Words.{bytes-bytes}
-use Rattle.subtitling.specs.Value.{SlotRow, Sdp, descriptor, zeros, LegalSlot, Legal}
+use Rattle.subtitling.specs.Value.{SlotRow, Sdp, descriptor, LegalSlot, Legal}
 use Rattle.subtitling.specs.Layout.{descriptorsOf, count, structure, structures, footer, body, sdpChecksum, userBytes, packet, layout}
 use Rattle.subtitling.specs.User.{userValue}
 use Rattle.subtitling.specs.Reading.{userIn, packetVerdict, valueOf}

@@ -1,7 +1,7 @@
 -- A value that is not legal is refused with 15 or 7 and place 0, whichever of its checks is first.
 -- Assumes nothing.
-use Prim.Native.Nat.{ℕ, _≤_}
-use mathlib.Core.Path.{_≡_, _∙_, ap, sym, subst, refl}
+use Prim.Native.Nat.{ℕ}
+use mathlib.Core.Path.{_≡_, sym, subst, refl}
 use mathlib.Core.Logic.{_⊎_, inl, inr}
 use mathlib.Core.Bool.{_&&_, _||_}
 use mathlib.Core.List.{List, [], _∷_}
@@ -59,8 +59,8 @@ pub illegal-15-or-7 : (p : Packet) (rows : List (List ℕ)) (room : ℕ) → Typ
 illegal-15-or-7 p rows room t h =
     let v = held p rows in
     let refused : andThen (counted v) (slotsVerdict (v .slots)) ≡ Accepted → ⊥ =
-        λ e.
-            let both = andThen-accepted (counted v) (slotsVerdict (v .slots)) e in
-            h (legal-held p rows t (ltb-false 65535 (p .counter) (refuseIf-accepted _ _ _ (both .0))) (both .1)) in
+    λ e.
+    let both = andThen-accepted (counted v) (slotsVerdict (v .slots)) e in
+    h (legal-held p rows t (ltb-false 65535 (p .counter) (refuseIf-accepted _ _ _ (both .0))) (both .1)) in
     subst (λ (verdict : Verdict). Is15or7 (refusalOf verdict)) (sym (value-first v room))
     (refused-gives Is15or7 (andThen (counted v) (slotsVerdict (v .slots))) (rest v room) (value-gives v) refused)

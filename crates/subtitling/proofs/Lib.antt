@@ -1,9 +1,12 @@
 pub mod Slots
-pub mod Structures
 pub mod Numbers
+pub mod Structures
 pub mod Accepted
 pub mod Rules
 pub mod Packets
+pub mod Bytes
+pub mod Descriptors
+pub mod Rows
 pub mod Back
 pub mod Illegal
 pub mod Beside

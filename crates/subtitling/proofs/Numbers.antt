@@ -1,23 +1,23 @@
 -- What the checks of writing let through: legal slots and a counter of two bytes. And how long a layout is.
 -- Assumes nothing.
-use Prim.Native.Nat.{ℕ, zero, suc, _+_, _*_, _≤_, _<_}
+use Prim.Native.Nat.{ℕ, zero, suc, _+_, _*_, _≤_}
 use native.Mathlib.Omega.{arith}
-use mathlib.Core.Path.{_≡_, _∙_, ap, ap₂, sym, subst, refl}
+use mathlib.Core.Path.{_≡_, _∙_, ap, sym, refl}
 use mathlib.Core.Logic.{inl, inr, ⊎-elim}
 use mathlib.Core.Bool.{Bool, true, false, not, _&&_, true≢false}
 use mathlib.Core.List.{List, [], _∷_, _++_, map}
 use borrow.Author.Tests.{ltb-false, le-ltb, eqb-true, eqb-false, ne-eqb, not-false}
-use lib.Dec.{eqb, ltb}
+use lib.Dec.{eqb}
 use lib.ListN.{length, replicate, length-append, length-map}
 use Rattle.lists.specs.Each.{Each}
 use Rattle.lists.proofs.Each.{each-map, each-both}
 use Rattle.refusal.specs.declared.Verdict.the-variants.{Accepted}
 use Rattle.refusal.specs.declared.Item.the-variants.{Whole}
-use Rattle.refusal.proofs.Checks.{refuseIf-accepted, andThen-accepted, each-accepted, accepted-each, andThen-last}
+use Rattle.refusal.proofs.Checks.{refuseIf-accepted, andThen-accepted, each-accepted, accepted-each}
 use Rattle.subtitling.specs.declared.Slot.{Slot}
 use Rattle.subtitling.specs.declared.Packet.{Packet}
-use Rattle.subtitling.specs.Value.{SlotRow, Sdp, descriptor, empty, zeros, together, emptyRow, LegalLine, FullSlot, LegalSlot, Legal, beside, held, Row, Typed}
-use Rattle.subtitling.specs.Layout.{descriptorsOf, count, structure, structures, userLength, body, userBytes, covered, packet, layout}
+use Rattle.subtitling.specs.Value.{SlotRow, Sdp, descriptor, zeros, together, emptyRow, LegalLine, FullSlot, LegalSlot, Legal, beside, held, Row, Typed}
+use Rattle.subtitling.specs.Layout.{descriptorsOf, count, structure, structures, userLength, body, userBytes, packet, layout}
 use Rattle.subtitling.specs.User.{lineVerdict}
 use Rattle.subtitling.specs.Writing.{allZero, unwritable, slotVerdict, slotsVerdict, valueVerdict}
 use Rattle.subtitling.proofs.Slots.{accepted-line, line-accepted, legal-below}
@@ -82,12 +82,12 @@ accepted-slot x typed e =
     let writable = andThen-accepted _ _ (field .1) in
     let legal = andThen-accepted _ _ (writable .1) in
     let small : Small s =
-        record {
-          full = ltb-false 1 (s .full) (refuseIf-accepted _ _ _ (full .0));
-          line = ltb-false 31 (s .line) (refuseIf-accepted _ _ _ (line .0));
-          reserved = ltb-false 3 (s .reserved) (refuseIf-accepted _ _ _ (reserved .0));
-          field = ltb-false 1 (s .field .0) (refuseIf-accepted _ _ _ (field .0));
-        } in
+    record {
+      full = ltb-false 1 (s .full) (refuseIf-accepted _ _ _ (full .0));
+      line = ltb-false 31 (s .line) (refuseIf-accepted _ _ _ (line .0));
+      reserved = ltb-false 3 (s .reserved) (refuseIf-accepted _ _ _ (reserved .0));
+      field = ltb-false 1 (s .field .0) (refuseIf-accepted _ _ _ (field .0));
+    } in
     legal-marked x typed small (accepted-line Whole (s .line) (legal .0)) (s .full) refl (refuseIf-accepted _ _ _ (writable .0))
 
 empty-accepted : slotVerdict emptyRow ≡ Accepted

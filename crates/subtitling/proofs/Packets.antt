@@ -1,17 +1,14 @@
 -- A packet around user bytes: the checks of its words let through exactly the packets of user bytes that the rules let through.
 -- Assumes nothing.
-use Prim.Native.Nat.{ℕ, zero, suc, _+_, _-_, _*_, _/_, _%_, _≤_, _<_}
+use Prim.Native.Nat.{ℕ, suc, _+_, _-_, _%_, _≤_, _<_}
 use native.Mathlib.Omega.{arith}
-use mathlib.Core.Path.{_≡_, _∙_, ap, ap₂, sym, subst, refl}
-use mathlib.Core.Logic.{⊎-elim}
+use mathlib.Core.Path.{_≡_, _∙_, ap, sym}
 use mathlib.Core.List.{List, [], _∷_, _++_, map}
 use borrow.Author.Tests.{eq-eqb, le-ltb}
-use lib.ListN.{length, getD, take, drop, length-append, length-map, length-drop, take-append-drop, drop-of-length-le}
+use lib.ListN.{length, getD, drop, length-map, take-append-drop, drop-of-length-le}
 use lib.Seq.{getD-at, take-at, drop-drop, drop-cons}
-use Rattle.lists.specs.Each.{Each}
 use Rattle.lists.specs.Bytes.{Bytes}
 use Rattle.lists.specs.Part.{part}
-use Rattle.lists.proofs.Each.{each-append}
 use Rattle.lists.proofs.Part.{part-cons, length-part}
 use Rattle.refusal.specs.declared.Verdict.the-variants.{Accepted}
 use Rattle.anc.specs.Words.{parityOf, wordOf, byteOf, wordsVerdict, sumVerdict, checksumOf}

@@ -1,28 +1,26 @@
 -- The rules over user bytes let through exactly the user bytes of legal values, and the value that they hold is the one that was laid.
 -- Assumes nothing.
-use Prim.Native.Nat.{ℕ, suc, _+_, _-_, _*_, _/_, _%_, _≤_, _<_}
+use Prim.Native.Nat.{ℕ, _+_, _-_, _*_, _/_, _%_, _≤_, _<_}
 use native.Mathlib.Omega.{arith}
-use mathlib.Core.Path.{_≡_, _∙_, ap, ap₂, sym, subst, refl}
+use mathlib.Core.Path.{_≡_, _∙_, ap, ap₂, sym}
 use mathlib.Core.List.{List, [], _∷_, _++_, append-assoc}
 use borrow.Author.Tests.{eq-eqb, le-ltb}
 use lib.ListN.{length, getD, drop, length-append, length-map, length-drop, take-append-drop, drop-of-length-le}
 use lib.Seq.{getD-append-add, getD-drop, take-at, drop-at, drop-drop, drop-cons}
-use Rattle.lists.specs.Each.{Each}
 use Rattle.lists.specs.Bytes.{Bytes}
-use Rattle.lists.specs.Part.{part}
 use Rattle.lists.specs.Sum.{sum}
 use Rattle.lists.proofs.Each.{each-at, each-take, each-drop}
 use Rattle.lists.proofs.Part.{length-part}
 use Rattle.lists.proofs.Sum.{sum-append}
 use Rattle.refusal.specs.declared.Verdict.the-variants.{Accepted}
 use Rattle.refusal.proofs.Checks.{accepted-andThen}
-use Rattle.subtitling.specs.Value.{SlotRow, Sdp, descriptor, LegalSlot, Legal}
+use Rattle.subtitling.specs.Value.{SlotRow, Sdp, descriptor, Legal}
 use Rattle.subtitling.specs.Layout.{descriptorsOf, count, structures, userLength, footer, body, sdpChecksum, userBytes}
 use Rattle.subtitling.specs.User.{descriptorsVerdict, structuresVerdict, descriptorsIn, structuresIn, headVerdict, tailVerdict, userVerdict, slotsIn, counterIn, userValue}
 use Rattle.subtitling.proofs.Slots.{lines-accepted}
 use Rattle.subtitling.proofs.Structures.{Laid, structures-accepted, slots-structures, structures-laid}
 use Rattle.subtitling.proofs.Accepted.{Head, Tail}
-use Rattle.subtitling.proofs.Numbers.{length-structures, length-user}
+use Rattle.subtitling.proofs.Numbers.{length-user}
 
 -- LAID, THEN READ
 

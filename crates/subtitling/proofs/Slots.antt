@@ -5,19 +5,15 @@ use native.Mathlib.Omega.{arith}
 use mathlib.Core.Path.{_≡_, _∙_, ap, sym, subst, refl}
 use mathlib.Core.Logic.{_⊎_, inl, inr, ⊎-elim}
 use mathlib.Core.Bool.{Bool, true, false, _&&_, _||_, and-false, true≢false}
-use mathlib.Core.List.{List, [], _∷_, _++_, map}
+use mathlib.Core.List.{List, [], _∷_}
 use borrow.Author.Tests.{ltb-false, lt-ltb, le-ltb}
 use lib.Dec.{ltb}
-use lib.ListN.{length, length-append}
 use Rattle.lists.specs.Each.{Each}
 use Rattle.lists.specs.Bytes.{Bytes}
-use Rattle.lists.proofs.Each.{each-map}
 use Rattle.refusal.specs.declared.Verdict.the-variants.{Accepted}
 use Rattle.refusal.specs.declared.Item.{Item}
 use Rattle.refusal.specs.declared.Item.the-variants.{Word}
-use Rattle.refusal.proofs.Checks.{refuseIf-accepted, andThen-accepted, accepted-andThen}
-use Rattle.subtitling.specs.declared.OddEven.{OddEven}
-use Rattle.subtitling.specs.declared.Slot.{Slot}
+use Rattle.refusal.proofs.Checks.{refuseIf-accepted, accepted-andThen}
 use Rattle.subtitling.specs.Value.{SlotRow, descriptor, empty, LegalLine, FullSlot, LegalSlot}
 use Rattle.subtitling.specs.Layout.{descriptorsOf}
 use Rattle.subtitling.specs.User.{lineVerdict, descriptorsVerdict, markOf, slotOf}
@@ -33,7 +29,7 @@ accepted-line item zero e = inl refl
 accepted-line item (suc m) e =
     let some : 0 < suc m = omega arith in
     let both : (ltb (suc m) 6 || ltb 22 (suc m)) ≡ false =
-        sym (ap (λ (b : Bool). b && (ltb (suc m) 6 || ltb 22 (suc m))) (lt-ltb 0 (suc m) some)) ∙ refuseIf-accepted _ _ _ e in
+    sym (ap (λ (b : Bool). b && (ltb (suc m) 6 || ltb 22 (suc m))) (lt-ltb 0 (suc m) some)) ∙ refuseIf-accepted _ _ _ e in
     let each = or-false-both (ltb (suc m) 6) (ltb 22 (suc m)) both in
     inr (ltb-false (suc m) 6 (each .0), ltb-false 22 (suc m) (each .1))
 
@@ -56,7 +52,7 @@ pub descriptor-slotOf : (d : ℕ) → d < 256 → descriptor (slotOf d) ≡ d
 unfolding slotOf
 descriptor-slotOf d h = omega arith
 
-markOf-some : (d : ℕ) → 0 < d → markOf d ≡ 1
+pub markOf-some : (d : ℕ) → 0 < d → markOf d ≡ 1
 markOf-some zero h = let f : ⊥ = omega arith in absurd f
 markOf-some (suc d) h = refl
 

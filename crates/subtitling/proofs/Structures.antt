@@ -1,21 +1,20 @@
 -- The structures behind the descriptors: what was laid is read, and what is read was laid.
 -- Assumes nothing.
-use Prim.Native.Nat.{ℕ, zero, suc, _+_, _*_, _/_, _%_, _≤_, _<_}
+use Prim.Native.Nat.{ℕ, zero, suc, _+_, _*_, _%_, _≤_, _<_}
 use native.Mathlib.Omega.{arith}
-use mathlib.Core.Path.{_≡_, _∙_, ap, ap₂, sym, subst, refl}
+use mathlib.Core.Path.{_≡_, _∙_, ap, ap₂, sym, refl}
 use mathlib.Core.Logic.{inl, inr, ⊎-elim}
 use mathlib.Core.List.{List, [], _∷_, _++_, append-assoc}
 use borrow.Author.Tests.{eqb-true, not-false}
 use lib.ListN.{length, take, drop, length-drop, take-append-drop}
-use lib.Seq.{take-at, drop-at, drop-drop, length-take-le, take-add}
+use lib.Seq.{take-at, drop-at, drop-drop, length-take-le}
 use Rattle.lists.specs.Each.{Each}
 use Rattle.lists.specs.Bytes.{Bytes}
 use Rattle.lists.proofs.Each.{each-take, each-drop}
 use Rattle.refusal.specs.declared.Verdict.the-variants.{Accepted}
 use Rattle.refusal.specs.declared.Item.the-variants.{Word}
-use Rattle.refusal.proofs.Checks.{refuseIf-accepted, andThen-accepted, accepted-andThen}
-use Rattle.subtitling.specs.declared.Slot.{Slot}
-use Rattle.subtitling.specs.Value.{SlotRow, together, descriptor, empty, emptyRow, zeros, FullSlot, LegalSlot}
+use Rattle.refusal.proofs.Checks.{refuseIf-accepted, andThen-accepted}
+use Rattle.subtitling.specs.Value.{SlotRow, together, descriptor, zeros, FullSlot, LegalSlot}
 use Rattle.subtitling.specs.Layout.{descriptorsOf, count, structure, structures}
 use Rattle.subtitling.specs.User.{lineVerdict, descriptorsVerdict, structureVerdict, structuresVerdict, slotOf, rowIn, behind, slotsIn}
 use Rattle.subtitling.proofs.Numbers.{legal-wide}

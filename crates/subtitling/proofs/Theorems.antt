@@ -183,8 +183,8 @@ read-written p rows out r exit w e a back read readRows =
     let wrote = written-front p rows out r exit w e in
     let legal = writes-exactly p rows out r exit w .0 e .0 in
     let front : take (r .len) exit ≡ layout v =
-        ap₂ (λ (n : ℕ) (words : List ℕ). take n words) (ap (λ (x : Written). x .len) (wrote .0)) (wrote .1)
-        ∙ take-append-seam (layout v) (drop (length (layout v)) out) in (
+    ap₂ (λ (n : ℕ) (words : List ℕ). take n words) (ap (λ (x : Written). x .len) (wrote .0)) (wrote .1)
+    ∙ take-append-seam (layout v) (drop (length (layout v)) out) in (
       the-answer v legal a (subst (λ (s : List ℕ). Reads s a) front read) ∙ ap answered (numbers-held p rows (w .typed)),
       the-rows v legal back (subst (λ (s : List ℕ). ReadsRows s back) front readRows) ∙ rows-held p rows (w .typed),
     )
@@ -200,10 +200,10 @@ written-read s a rows read readRows e out r exit w fits =
     let yes = accepts s a read e in
     let back = packet-legal s yes in
     let same : held (a .packet) rows ≡ valueOf s =
-        ap₂ held
-        (ap (λ (x : Answer). x .packet) read ∙ ap (λ (verdict : Verdict). numbersOf (found verdict (valueOf s))) yes)
-        (readRows ∙ ap (λ (verdict : Verdict). rowsOf (found verdict (valueOf s))) yes)
-        ∙ held-apart (valueOf s) in
+    ap₂ held
+    (ap (λ (x : Answer). x .packet) read ∙ ap (λ (verdict : Verdict). numbersOf (found verdict (valueOf s))) yes)
+    (readRows ∙ ap (λ (verdict : Verdict). rowsOf (found verdict (valueOf s))) yes)
+    ∙ held-apart (valueOf s) in
     let laid : layout (held (a .packet) rows) ≡ s = ap layout same ∙ back .same in
     let legal = subst Legal (sym same) (back .legal) in
     let room : length (layout (held (a .packet) rows)) ≤ length out = omega (arith, ap length laid) in

@@ -61,7 +61,7 @@ fn last(n: usize) -> u8
 
 // Fills an output with what stands in it before a call, so that a store that should not be shows.
 pub fn pattern(out: &mut [u8])
-    ensures { λ _. ⌜ Patterned (length (now (out .entry))) (now (out .exit)) ⌝ }
+    ensures { λ _. ⌜ Patterned 256 (length (now (out .entry))) (now (out .exit)) ⌝ }
 {
     let mut i = 0;
     while i < out.len() {
@@ -72,7 +72,7 @@ pub fn pattern(out: &mut [u8])
 
 // The index is cut first, so that the product fits.
 fn pattern_at(i: usize) -> u8
-    ensures { λ r. ⌜ r ≡ patternAt i ⌝ }
+    ensures { λ r. ⌜ r ≡ patternAt 256 i ⌝ }
 {
     (((i % 256) * 37 + 11) % 256) as u8
 }

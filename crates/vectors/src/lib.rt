@@ -11,6 +11,7 @@ mod hex;
 mod line;
 mod lines;
 mod tally;
+mod words;
 
 pub use bytes::byte;
 pub use bytes::number;
@@ -38,3 +39,6 @@ pub use tally::print_tally;
 pub use tally::print_unnoticed;
 pub use tally::print_unreadable;
 pub use tally::print_wrong;
+pub use words::put_word;
+pub use words::word;
+pub use words::word_pattern;

@@ -1,7 +1,6 @@
 -- `anc::judge_words` meets its contract. The loop's invariant: the words from i on decide as all of them do.
 -- Assumes nothing.
 use Prim.Native.Nat.{ℕ, _+_, _-_, _≤_, _<_}
-use native.Mathlib.Omega.{arith}
 use native.Mathlib.Numerals.{add-one}
 use mathlib.Core.Path.{_≡_, _∙_, ap, sym, refl}
 use mathlib.Core.List.{List}

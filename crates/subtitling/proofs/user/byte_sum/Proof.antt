@@ -1,6 +1,6 @@
 -- `subtitling::user::byte_sum` meets its contract. The loop's invariant: sum is that of the first i words' bytes.
 -- Assumes nothing.
-use Prim.Native.Nat.{ℕ, _+_, _-_, _%_}
+use Prim.Native.Nat.{ℕ, _-_, _%_}
 use native.Mathlib.Omega.{arith}
 use mathlib.Core.Path.{_≡_, ap, refl}
 use mathlib.Core.List.{List, map}

@@ -1,24 +1,17 @@
 -- `vectors::pattern` leaves the pattern's byte at every index. The invariant: those before i have it.
 -- Assumes nothing.
-use Prim.Native.Nat.{ℕ, _+_, _≤_, _<_, _-_}
-use mathlib.Core.Path.{_≡_, _∙_}
-use mathlib.Core.List.{List}
-use borrow.Author.Count.{below-more}
+use Prim.Native.Nat.{ℕ, _≤_, _<_, _-_}
+use mathlib.Core.Path.{_≡_}
 use borrow.Author.Needs.{needs}
 use native.Mathlib.Omega.{arith}
-use lib.ListN.{length, getD, set, length-set}
-use lib.Seq.{getD-set-same, getD-set-other}
+use lib.ListN.{length, getD, length-set}
 use Rattle.vectors.specs.Numbers.{patternAt}
+use Rattle.vectors.proofs.Patterns.{one-more}
 use Rattle.vectors.proofs.bytes.pattern.Statement.{statement}
 use Rattle.vectors.proofs.bytes.pattern.Tie as tie
 
-one-more : (l : List ℕ) (i v : ℕ) → i < length l → ((k : ℕ) → k < i → getD l k 0 ≡ patternAt k) → v ≡ patternAt i →
-    (k : ℕ) → k < i + 1 → getD (set l i v) k 0 ≡ patternAt k
-one-more l i v h all here =
-    below-more _ i (λ k lt. getD-set-other l i k v 0 (λ e. omega arith) ∙ all k lt) (getD-set-same l i v 0 h ∙ here)
-
 abbrev Inv-loop : tie.InvT-loop
-Inv-loop out₀ i₀ out i = (i ≤ length out) × (length out ≡ length out₀) × ((k : ℕ) → k < i → getD out k 0 ≡ patternAt k)
+Inv-loop out₀ i₀ out i = (i ≤ length out) × (length out ≡ length out₀) × ((k : ℕ) → k < i → getD out k 0 ≡ patternAt 256 k)
 
 abbrev μ-loop : tie.MeasureT-loop
 μ-loop out₀ i₀ out i = length out - i
@@ -33,7 +26,7 @@ loop-again : tie.Need-loop-again Inv-loop μ-loop
 loop-again c = (
   simp length-set (omega arith),
   simp length-set (omega arith),
-  one-more (c .before .before .loop .out) (c .before .before .loop .i) _ (omega arith) (c .before .before .loop .inv .2) (c .pattern-at .ensures),
+  one-more 256 (c .before .before .loop .out) (c .before .before .loop .i) _ (omega arith) (c .before .before .loop .inv .2) (c .pattern-at .ensures),
 )
 
 same-length : tie.Need-same-length Inv-loop μ-loop

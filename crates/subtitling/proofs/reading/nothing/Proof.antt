@@ -1,0 +1,20 @@
+-- `subtitling::reading::nothing` meets its contract: the slot that descriptor 0 tells of is the empty one.
+-- Assumes nothing.
+use mathlib.Core.Path.{ap}
+use borrow.Author.Needs.{needs}
+use lib.ListN.{replicate}
+use Rattle.subtitling.specs.declared.Slot.{Slot}
+use Rattle.subtitling.specs.declared.Packet.{Packet}
+use Rattle.subtitling.specs.User.{slotOf}
+use Rattle.subtitling.proofs.reading.nothing.Statement.{statement}
+use Rattle.subtitling.proofs.reading.nothing.Tie as tie
+
+five : Slot → Packet
+five slot = record { counter = 0; slots = replicate 5 slot }
+
+returns : tie.Need-returns
+unfolding five slotOf
+returns c = ap five (c .slot-of .ensures)
+
+pub nothing-spec : {M : Type 1} → statement M
+nothing-spec = tie.close (tie.spec (λ c κs. search needs) returns)
