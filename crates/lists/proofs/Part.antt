@@ -1,12 +1,12 @@
 -- A part of a list that a loop walks through: its first element and the rest.
 -- Assumes nothing.
-use Prim.Native.Nat.{ℕ, suc, _+_, _-_, _≤_, _<_}
+use Prim.Native.Nat.{ℕ, zero, suc, _+_, _-_, _≤_, _<_}
 use native.Mathlib.Omega.{arith}
 use native.Mathlib.Numerals.{add-one}
 use mathlib.Core.Path.{_≡_, _∙_, ap, ap₂, sym}
 use mathlib.Core.List.{List, [], _∷_}
 use lib.ListN.{length, getD, take, drop, length-drop}
-use lib.Seq.{drop-cons, length-take-le}
+use lib.Seq.{take-nil, drop-cons, length-take-le}
 use Rattle.lists.specs.Part.{part}
 
 module _ {A : Type 0} where
@@ -23,3 +23,10 @@ module _ {A : Type 0} where
   length-part xs from to h =
       let fits : to - from ≤ length (drop from xs) = omega (arith, length-drop from xs) in
       length-take-le (to - from) (drop from xs) fits
+
+  -- a part that begins at a is what the front up to n has from a on
+  pub part-front : (a n : ℕ) (xs : List A) → part a n xs ≡ drop a (take n xs)
+  part-front zero n xs = let same : n - 0 ≡ n = omega arith in ap (λ (k : ℕ). take k xs) same
+  part-front (suc a) zero xs = let none : 0 - suc a ≡ 0 = omega arith in ap (λ (k : ℕ). take k (drop (suc a) xs)) none
+  part-front (suc a) (suc n) [] = take-nil (suc n - suc a)
+  part-front (suc a) (suc n) (x ∷ xs) = let less : suc n - suc a ≡ n - a = omega arith in ap (λ (k : ℕ). take k (drop a xs)) less ∙ part-front a n xs

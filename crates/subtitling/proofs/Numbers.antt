@@ -5,7 +5,7 @@ use native.Mathlib.Omega.{arith}
 use mathlib.Core.Path.{_≡_, _∙_, ap, sym, refl}
 use mathlib.Core.Logic.{inl, inr, ⊎-elim}
 use mathlib.Core.Bool.{Bool, true, false, not, _&&_, true≢false}
-use mathlib.Core.List.{List, [], _∷_, _++_, map}
+use mathlib.Core.List.{List, [], _∷_, map}
 use borrow.Author.Tests.{ltb-false, le-ltb, eqb-true, eqb-false, ne-eqb, not-false}
 use lib.Dec.{eqb}
 use lib.ListN.{length, replicate, length-append, length-map}
@@ -140,13 +140,8 @@ count-most [] = omega arith
 count-most (zero ∷ ds) = omega (arith, count-most ds)
 count-most (suc d ∷ ds) = omega (arith, count-most ds)
 
-pub count-append : (ds es : List ℕ) → count (ds ++ es) ≡ count ds + count es
-count-append [] es = omega arith
-count-append (zero ∷ ds) es = count-append ds es
-count-append (suc d ∷ ds) es = omega (arith, count-append ds es)
-
 -- five slots, of which each has 42 bytes
-abbrev Wide : SlotRow → Type 0
+abbrev pub Wide : SlotRow → Type 0
 Wide x = length (x .row) ≡ 42
 
 pub record Shaped (v : Sdp) : Type 0 where
@@ -163,7 +158,7 @@ length-structure : (d : ℕ) (ds row : List ℕ) → length row ≡ 42 → lengt
 length-structure zero ds row h = omega arith
 length-structure (suc d) ds row h = omega arith
 
-length-wide : (xs : List SlotRow) → Each Wide xs → length (structures xs) ≡ 45 * count (descriptorsOf xs)
+pub length-wide : (xs : List SlotRow) → Each Wide xs → length (structures xs) ≡ 45 * count (descriptorsOf xs)
 length-wide [] h = refl
 length-wide (x ∷ xs) h =
     length-append (structure (descriptor (x .slot)) (x .row)) (structures xs)

@@ -1,6 +1,6 @@
 // Reading a packet: its numbers, or its rows.
 ghost use mathlib.Core.Path.{_≡_};
-ghost use Prim.Native.Nat.{_+_, _≤_};
+ghost use Prim.Native.Nat.{_+_, _/_, _≤_};
 ghost use mathlib.Core.List.{map};
 ghost use lib.ListN.{length, take, drop};
 ghost use Rattle.anc.specs.Words.{byteOf};
@@ -145,8 +145,18 @@ fn slot_of(descriptor: u8) -> Slot
         full,
         line: descriptor % 32,
         reserved: descriptor / 32 % 4,
-        field: OddEven(descriptor / 128),
+        field: field_of(descriptor),
     }
+}
+
+// The field that b7 of a descriptor tells: 1 odd, 0 even.
+fn field_of(descriptor: u8) -> OddEven
+    ensures { λ r. ⌜ r .0 ≡ descriptor / 128 ⌝ }
+{
+    if descriptor < 128 {
+        return OddEven(0);
+    }
+    OddEven(1)
 }
 
 // The numbers that the user words hold.
