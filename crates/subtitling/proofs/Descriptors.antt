@@ -18,11 +18,6 @@ use Rattle.subtitling.proofs.Bytes.{byte-from}
 pub mark-some : (d : ℕ) → (d ≡ 0 → ⊥) → markOf d ≡ 1
 mark-some d h = let some : 0 < d = omega (arith, h) in markOf-some d some
 
--- one descriptor more, at the front
-pub count-cons : (d : ℕ) (ds : List ℕ) → count (d ∷ ds) ≡ markOf d + count ds
-count-cons zero ds = omega arith
-count-cons (suc d) ds = omega arith
-
 -- five descriptors tell of no more than five structures
 pub few-structures : (u : List ℕ) → structuresIn u ≤ 5
 few-structures u = omega (arith, count-most (descriptorsIn u), length-take 5 (drop 4 u))

@@ -7,6 +7,7 @@ ghost use Rattle.lists.specs.Sum.{sum};
 ghost use Rattle.anc.specs.Words.{byteOf};
 ghost use Rattle.subtitling.specs.Layout.{userLength};
 ghost use Rattle.subtitling.specs.User.{lineVerdict, descriptorsIn, descriptorsVerdict, structureVerdict, structuresIn, structuresVerdict, headVerdict, tailVerdict, userVerdict};
+use crate::SLOTS;
 use refusal::Fixed;
 use refusal::Item;
 use refusal::Misfit;
@@ -121,9 +122,9 @@ fn structures(user: &[u16]) -> usize
     ensures { λ r. ⌜ r ≡ structuresIn (map byteOf (now (user .entry))) ⌝ }
 {
     let mut k = 0;
-    let mut i = DESCRIPTORS;
-    while i < STRUCTURES {
-        if user[i] % 256 != 0 {
+    let mut i = 0;
+    while i < SLOTS {
+        if user[DESCRIPTORS + i] % 256 != 0 {
             k += 1;
         }
         i += 1;
