@@ -9,9 +9,11 @@ use Prim.Native.Nat.{ℕ, _+_, _*_, _%_, _≤_, _<_}
 use native.Mathlib.Omega.{arith}
 use mathlib.Core.Path.{_≡_, _∙_, ap, ap₂, sym, subst, refl}
 use mathlib.Core.Logic.{_↔_, ⊎-elim}
+use mathlib.Core.Bool.{Bool, true, false, not}
 use mathlib.Core.List.{List}
-use borrow.Author.Tests.{lt-ltb, le-ltb}
-use lib.ListN.{length, take, drop, length-map}
+use borrow.Author.Tests.{eqb-true, lt-ltb, le-ltb}
+use lib.Dec.{eqb}
+use lib.ListN.{length, getD, take, drop, length-map}
 use lib.Seq.{take-append-seam}
 use Rattle.lists.specs.Room.{over}
 use Rattle.lists.specs.Sum.{sum}
@@ -19,7 +21,11 @@ use Rattle.refusal.specs.declared.Refusal.{Refusal}
 use Rattle.refusal.specs.declared.Written.{Written}
 use Rattle.refusal.specs.declared.Verdict.{Verdict}
 use Rattle.refusal.specs.declared.Verdict.the-variants.{Accepted, Refused}
+use Rattle.refusal.specs.declared.Reason.the-variants.{NoStart}
+use Rattle.refusal.specs.declared.Item.the-variants.{Word}
+use Rattle.refusal.specs.Checks.{refuseIf, andThen}
 use Rattle.refusal.specs.Numbers.{refusalOf}
+use Rattle.refusal.proofs.Checks.{andThen-refused}
 use Rattle.refusal.proofs.Acceptance.{told-accepted}
 use Rattle.refusal.proofs.Outputs.{wrote-accepted, accepted-wrote, wrote-refusal, success-left, refusal-left, wrote-determined}
 use Rattle.subtitling.specs.declared.Packet.{Packet}
@@ -124,6 +130,29 @@ refused-1 s r p h = ap (λ (a : Answer). a .refusal) p ∙ simp (lt-ltb 245 (len
 pub refused-5 : (s : List ℕ) (r : Answer) → Reads s r → length s < 20 → r .refusal ≡ refused 5
 unfolding packetVerdict formVerdict
 refused-5 s r p h = let short : length s ≤ 245 = omega arith in ap (λ (a : Answer). a .refusal) p ∙ simp (le-ltb 245 (length s) short, lt-ltb (length s) 20 h)
+
+-- One of the right length whose first three words are not the flag is refused with 2, whatever follows.
+flag-refused : (a b c : Bool) (next : Verdict) → (a ≡ true → b ≡ true → c ≡ true → ⊥)
+    → refusalOf (andThen (refuseIf (not a) NoStart (Word 0)) (andThen (refuseIf (not b) NoStart (Word 1)) (andThen (refuseIf (not c) NoStart (Word 2)) next))) ≡ refused 2
+flag-refused false b c next h = refl
+flag-refused true false c next h = refl
+flag-refused true true false next h = refl
+flag-refused true true true next h = absurd (h refl refl refl)
+
+form-refused : (s : List ℕ) → 20 ≤ length s → length s ≤ 245 → (getD s 0 0 ≡ 0x000 → getD s 1 0 ≡ 0x3FF → getD s 2 0 ≡ 0x3FF → ⊥) → refusalOf (formVerdict s) ≡ refused 2
+unfolding formVerdict
+form-refused s long short h =
+    simp (le-ltb 245 (length s) short, le-ltb (length s) 20 long)
+    (flag-refused (eqb (getD s 0 0) 0x000) (eqb (getD s 1 0) 0x3FF) (eqb (getD s 2 0) 0x3FF) _
+    (λ a b c. h (eqb-true (getD s 0 0) 0x000 a) (eqb-true (getD s 1 0) 0x3FF b) (eqb-true (getD s 2 0) 0x3FF c)))
+
+pub refused-2 : (s : List ℕ) (r : Answer) → Reads s r → 20 ≤ length s → length s ≤ 245
+    → (getD s 0 0 ≡ 0x000 → getD s 1 0 ≡ 0x3FF → getD s 2 0 ≡ 0x3FF → ⊥) → r .refusal ≡ refused 2
+unfolding packetVerdict
+refused-2 s r p long short h =
+    let two = form-refused s long short h in
+    let refuses : formVerdict s ≡ Accepted → ⊥ = λ e. omega (arith, sym (ap (λ (v : Verdict). refusalOf v .number) e) ∙ ap (λ (x : Refusal). x .number) two) in
+    ap (λ (a : Answer). a .refusal) p ∙ ap refusalOf (andThen-refused (formVerdict s) _ refuses) ∙ two
 
 -- WRITING
 

@@ -22,7 +22,7 @@ const STRUCTURES: usize = 9;
 const STRUCTURE_WORDS: usize = 45;
 
 // 01's rules over user words. dc is the word of the packet in which DC stands; they follow it.
-pub fn judge_user(user: &[u16], dc: u16) -> Verdict
+pub(crate) fn judge_user(user: &[u16], dc: u16) -> Verdict
     ensures { λ r. ⌜ r ≡ userVerdict dc (map byteOf (now (user .entry))) ⌝ }
 {
     let verdict = judge_head(user, dc);
@@ -84,7 +84,7 @@ fn judge_tail(user: &[u16], dc: u16) -> Verdict
 }
 
 // 7 of a descriptor's line.
-pub fn judge_line(line: u8, item: Item) -> Verdict
+pub(crate) fn judge_line(line: u8, item: Item) -> Verdict
     ensures { λ r. ⌜ r ≡ lineVerdict item line ⌝ }
 {
     if line == 0 {
@@ -168,7 +168,7 @@ fn judge_structure(user: &[u16], dc: u16, i: usize) -> Verdict
 }
 
 // The sum of the words' bytes, modulo 256.
-pub fn byte_sum(words: &[u16]) -> u16
+pub(crate) fn byte_sum(words: &[u16]) -> u16
     ensures { λ r. ⌜ r ≡ sum (map byteOf (now (words .entry))) % 256 ⌝ }
 {
     let mut sum = 0;
