@@ -12,7 +12,7 @@ use Rattle.subtitling.specs.Layout.{userBytes, packet, layout}
 use Rattle.subtitling.specs.User.{userValue}
 use Rattle.subtitling.specs.Reading.{userIn, packetVerdict, valueOf}
 use Rattle.subtitling.proofs.Accepted.{accepted-packet}
-use Rattle.subtitling.proofs.Octets.{user-bytes, user-long, user-short}
+use Rattle.subtitling.proofs.LegalBytes.{user-bytes, user-long, user-short}
 use Rattle.subtitling.proofs.Rules.{user-accepted, value-user, user-back}
 use Rattle.subtitling.proofs.Packets.{user-packet, packet-accepted, packet-back}
 

@@ -4,7 +4,7 @@ pub mod Numbers
 pub mod Descriptors
 pub mod Rows
 pub mod Structures
-pub mod Octets
+pub mod LegalBytes
 pub mod Accepted
 pub mod Rules
 pub mod Packets

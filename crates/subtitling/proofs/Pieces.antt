@@ -14,7 +14,7 @@ use Rattle.subtitling.specs.Layout.{descriptorsOf, count, structures, us
 use Rattle.subtitling.specs.Writing.{summed, sealed}
 use Rattle.subtitling.proofs.Slots.{descriptors-below}
 use Rattle.subtitling.proofs.Numbers.{length-user, descriptors-held}
-use Rattle.subtitling.proofs.Octets.{body-bytes}
+use Rattle.subtitling.proofs.LegalBytes.{body-bytes}
 use Rattle.subtitling.proofs.HeldStructures.{length-structures-held}
 
 -- SEALED

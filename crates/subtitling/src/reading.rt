@@ -16,6 +16,9 @@ use crate::Packet;
 use crate::ROW_BYTES;
 use crate::SLOTS;
 use crate::Slot;
+use crate::user::DESCRIPTORS;
+use crate::user::STRUCTURE_WORDS;
+use crate::user::STRUCTURES;
 use crate::user::judge_user;
 use refusal::Fixed;
 use refusal::Item;
@@ -23,12 +26,8 @@ use refusal::Misfit;
 use refusal::Reason;
 use refusal::Verdict;
 
-// The user words: 51, 15, LENGTH, 02, five descriptors, then the structures.
-const DESCRIPTORS: usize = 4;
-
-const STRUCTURES: usize = 9;
-
-const STRUCTURE_WORDS: usize = 45;
+// A packet: the flag, DID, SDID, DC, the user words, CS.
+const USER: usize = 6;
 
 // Reads a packet's numbers.
 pub fn read(words: &[u16]) -> Answer
@@ -39,7 +38,7 @@ pub fn read(words: &[u16]) -> Answer
     match verdict {
         Verdict::Accepted => {
             let n = words.len();
-            let packet = packet_in(&words[6..n - 1]);
+            let packet = packet_in(&words[USER..n - 1]);
             Answer { refusal, packet }
         }
         Verdict::Refused(_, _) => {
@@ -55,7 +54,7 @@ pub fn read_rows(words: &[u16]) -> [[u8; ROW_BYTES]; SLOTS]
 {
     if let Verdict::Accepted = judge(words) {
         let n = words.len();
-        return rows_in(&words[6..n - 1]);
+        return rows_in(&words[USER..n - 1]);
     }
     [[0; ROW_BYTES]; SLOTS]
 }
@@ -73,7 +72,7 @@ fn judge(words: &[u16]) -> Verdict
         return header;
     }
     let n = words.len();
-    let user = judge_user(&words[6..n - 1], 5);
+    let user = judge_user(&words[USER..n - 1], 5);
     if let Verdict::Refused(_, _) = user {
         return user;
     }

@@ -14,12 +14,12 @@ use refusal::Misfit;
 use refusal::Reason;
 use refusal::Verdict;
 
-// The user words begin 51, 15, LENGTH, 02; then the descriptors, then the structures.
-const DESCRIPTORS: usize = 4;
+// The user words: 51, 15, LENGTH, 02, five descriptors, the structures, the footer and the SDP checksum.
+pub(crate) const DESCRIPTORS: usize = 4;
 
-const STRUCTURES: usize = 9;
+pub(crate) const STRUCTURES: usize = 9;
 
-const STRUCTURE_WORDS: usize = 45;
+pub(crate) const STRUCTURE_WORDS: usize = 45;
 
 // 01's rules over user words. dc is the word of the packet in which DC stands; they follow it.
 pub(crate) fn judge_user(user: &[u16], dc: u16) -> Verdict

@@ -14,6 +14,7 @@ use crate::Packet;
 use crate::ROW_BYTES;
 use crate::SLOTS;
 use crate::Slot;
+use crate::user::STRUCTURE_WORDS;
 use crate::user::byte_sum;
 use crate::user::judge_line;
 use refusal::Excess;
@@ -33,7 +34,7 @@ pub fn write(p: Packet, rows: [[u8; ROW_BYTES]; SLOTS], out: &mut [u16]) -> Writ
     put(p, rows, out);
     Written {
         refusal,
-        len: MIN_WORDS + 45 * count(p),
+        len: MIN_WORDS + STRUCTURE_WORDS * count(p),
     }
 }
 
@@ -53,7 +54,7 @@ fn judge_value(p: Packet, rows: [[u8; ROW_BYTES]; SLOTS], room: usize) -> Verdic
         }
         i += 1;
     }
-    if room < MIN_WORDS + 45 * count(p) {
+    if room < MIN_WORDS + STRUCTURE_WORDS * count(p) {
         return Verdict::Refused(Reason::NoRoom, Item::Whole);
     }
     Verdict::Accepted
@@ -135,11 +136,11 @@ fn put(p: Packet, rows: [[u8; ROW_BYTES]; SLOTS], out: &mut [u16])
     ensures { λ _. ⌜ now (out .exit) ≡ over (layout (held p rows)) (now (out .entry)) ⌝ }
 {
     let k = count(p);
-    put_header((13 + 45 * k) as u8, out);
+    put_header((13 + STRUCTURE_WORDS * k) as u8, out);
     put_descriptors(p, &mut out[10..]);
     put_structures(p, rows, &mut out[15..]);
-    put_footer(p.counter, &mut out[15 + 45 * k..]);
-    put_sums(18 + 45 * k, out);
+    put_footer(p.counter, &mut out[15 + STRUCTURE_WORDS * k..]);
+    put_sums(18 + STRUCTURE_WORDS * k, out);
 }
 
 // The flag, DID, SDID, DC, and the user bytes 51, 15, LENGTH, 02.
@@ -183,7 +184,7 @@ fn put_structures(p: Packet, rows: [[u8; ROW_BYTES]; SLOTS], out: &mut [u16])
         let slot = p.slots[i];
         if descriptor(slot) != 0 {
             put_structure(rows[i], &mut out[at..]);
-            at += 45;
+            at += STRUCTURE_WORDS;
         }
         i += 1;
     }
