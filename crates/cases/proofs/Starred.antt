@@ -3,7 +3,7 @@
 use mathlib.Core.Path.{refl}
 use Rattle.anc.specs.Words.{parityOf, wordOf, wordVerdict, nineBitSum, checksumOf, sumVerdict}
 use Rattle.line21.specs.Reading.{lengthVerdict, readUnit}
-use Rattle.subtitling.specs.User.{lineVerdict, structureVerdict, headVerdict, tailVerdict, slotOf, counterIn}
+use Rattle.sdp.specs.User.{lineVerdict, structureVerdict, headVerdict, tailVerdict, slotOf, counterIn}
 use Rattle.subtitling.specs.Reading.{formVerdict, headerVerdict, checksumVerdict, packetVerdict}
 use Rattle.cases.specs.Table.{All, table}
 

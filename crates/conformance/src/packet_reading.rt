@@ -5,9 +5,9 @@ ghost use lib.ListN.{length};
 use crate::Outcome;
 use crate::judged;
 use refusal::Refusal;
-use subtitling::ROW_BYTES;
-use subtitling::SLOTS;
-use subtitling::Slot;
+use sdp::ROW_BYTES;
+use sdp::SLOTS;
+use sdp::Slot;
 
 // An input must fit: some are far longer than a packet may be.
 const INPUT_WORDS: usize = 32768;

@@ -6,11 +6,11 @@ use crate::Outcome;
 use crate::ROOM;
 use crate::judged;
 use crate::packet_reading::SLOT;
-use subtitling::OddEven;
-use subtitling::Packet;
-use subtitling::ROW_BYTES;
-use subtitling::SLOTS;
-use subtitling::Slot;
+use sdp::OddEven;
+use sdp::Packet;
+use sdp::ROW_BYTES;
+use sdp::SLOTS;
+use sdp::Slot;
 
 // A lent output must fit.
 const OUT_WORDS: usize = 20480;

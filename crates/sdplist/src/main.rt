@@ -6,11 +6,11 @@ use libc::STDIN_FILENO;
 use refusal::Item;
 use refusal::Reason;
 use refusal::Verdict;
+use sdp::Packet;
+use sdp::ROW_BYTES;
+use sdp::SLOTS;
+use sdp::Slot;
 use subtitling::MAX_WORDS;
-use subtitling::Packet;
-use subtitling::ROW_BYTES;
-use subtitling::SLOTS;
-use subtitling::Slot;
 
 // One word more than a packet may have, so that longer input is noticed.
 const ROOM: usize = MAX_WORDS + 1;

@@ -7,13 +7,14 @@ use lib.ListN.{length}
 use Rattle.lists.specs.Part.{part}
 use Rattle.refusal.specs.declared.Verdict.the-variants.{Accepted}
 use Rattle.anc.proofs.Words.{bytes-bytes}
-use Rattle.subtitling.specs.Value.{Sdp, Legal}
-use Rattle.subtitling.specs.Layout.{userBytes, packet, layout}
-use Rattle.subtitling.specs.User.{userValue}
+use Rattle.sdp.specs.Value.{Sdp, Legal}
+use Rattle.sdp.specs.Layout.{userBytes}
+use Rattle.subtitling.specs.Layout.{packet, layout}
+use Rattle.sdp.specs.User.{userValue}
 use Rattle.subtitling.specs.Reading.{userIn, packetVerdict, valueOf}
 use Rattle.subtitling.proofs.Accepted.{accepted-packet}
-use Rattle.subtitling.proofs.LegalBytes.{user-bytes, user-long, user-short}
-use Rattle.subtitling.proofs.Rules.{user-accepted, value-user, user-back}
+use Rattle.sdp.proofs.LegalBytes.{user-bytes, user-long, user-short}
+use Rattle.sdp.proofs.Rules.{user-accepted, value-user, user-back}
 use Rattle.subtitling.proofs.Packets.{user-packet, packet-accepted, packet-back}
 
 module _ (v : Sdp) (h : Legal v) where

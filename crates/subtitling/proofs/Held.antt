@@ -13,12 +13,15 @@ use Rattle.refusal.specs.declared.Reason.the-variants.{NoRoom}
 use Rattle.refusal.specs.declared.Item.the-variants.{Whole}
 use Rattle.refusal.specs.Checks.{refuseIf, andThen}
 use Rattle.refusal.proofs.Checks.{andThen-last}
-use Rattle.subtitling.specs.declared.Slot.{Slot}
-use Rattle.subtitling.specs.declared.Packet.{Packet}
-use Rattle.subtitling.specs.Value.{SlotRow, descriptor, empty, together, beside, held, Typed}
-use Rattle.subtitling.specs.Layout.{count, layout}
-use Rattle.subtitling.specs.Writing.{slotVerdict, slotsVerdict, valueVerdict}
-use Rattle.subtitling.proofs.Numbers.{count-most, length-shaped, length-held, descriptors-held, held-shaped}
+use Rattle.sdp.specs.declared.Slot.{Slot}
+use Rattle.sdp.specs.declared.Packet.{Packet}
+use Rattle.sdp.specs.Value.{SlotRow, descriptor, empty, together, beside, held, Typed}
+use Rattle.sdp.specs.Layout.{count}
+use Rattle.subtitling.specs.Layout.{layout}
+use Rattle.sdp.specs.Holdable.{slotVerdict, slotsVerdict}
+use Rattle.subtitling.specs.Writing.{valueVerdict}
+use Rattle.sdp.proofs.Numbers.{count-most, length-held, descriptors-held, held-shaped}
+use Rattle.subtitling.proofs.Numbers.{length-shaped}
 
 -- no slot and no row: what stands beyond the last
 abbrev pub beyond : SlotRow

@@ -7,10 +7,10 @@ use mathlib.Core.Path.{_≡_, _∙_, ap, sym, refl}
 use mathlib.Core.List.{List, [], _∷_, _++_, map, append-assoc, append-nil}
 use lib.ListN.{length, take, drop, getD, length-append, take-append-drop}
 use lib.Seq.{take-suc}
-use Rattle.subtitling.specs.declared.Packet.{Packet}
-use Rattle.subtitling.specs.Value.{SlotRow, descriptor, empty, held, Typed}
-use Rattle.subtitling.specs.Layout.{count, structure, structures}
-use Rattle.subtitling.proofs.Numbers.{length-wide, length-held, descriptors-held, held-shaped}
+use Rattle.sdp.specs.declared.Packet.{Packet}
+use Rattle.sdp.specs.Value.{SlotRow, descriptor, empty, held, Typed}
+use Rattle.sdp.specs.Layout.{count, structure, structures}
+use Rattle.sdp.proofs.Numbers.{length-wide, length-held, descriptors-held, held-shaped}
 use Rattle.subtitling.proofs.Held.{beyond, held-at}
 
 pub structure-none : (d : ℕ) (row : List ℕ) → d ≡ 0 → structure d row ≡ []

@@ -18,12 +18,13 @@ use Rattle.refusal.specs.Numbers.{refusalOf}
 use Rattle.refusal.specs.Checks.{refuseIf, andThen, first}
 use Rattle.refusal.proofs.Checks.{refuseIf-accepted, andThen-accepted, andThen-assoc}
 use Rattle.refusal.proofs.Gives.{Gives, refuseIf-gives, andThen-gives, each-gives, refused-gives}
-use Rattle.subtitling.specs.declared.Packet.{Packet}
-use Rattle.subtitling.specs.Value.{SlotRow, Sdp, Typed, Legal, descriptor, held}
+use Rattle.sdp.specs.declared.Packet.{Packet}
+use Rattle.sdp.specs.Value.{SlotRow, Sdp, Typed, Legal, descriptor, held}
 use Rattle.subtitling.specs.Layout.{layout}
-use Rattle.subtitling.specs.User.{lineVerdict}
-use Rattle.subtitling.specs.Writing.{allZero, unwritable, slotVerdict, slotsVerdict, valueVerdict}
-use Rattle.subtitling.proofs.Numbers.{legal-held}
+use Rattle.sdp.specs.User.{lineVerdict}
+use Rattle.sdp.specs.Holdable.{allZero, unwritable, slotVerdict, slotsVerdict}
+use Rattle.subtitling.specs.Writing.{valueVerdict}
+use Rattle.sdp.proofs.Numbers.{legal-held}
 
 abbrev pub Is15or7 : Refusal → Type 0
 Is15or7 r = (r ≡ record { number = 15; place = 0 }) ⊎ (r ≡ record { number = 7; place = 0 })

@@ -1,17 +1,8 @@
-pub mod Slots
-pub mod Bytes
 pub mod Numbers
-pub mod Descriptors
 pub mod Rows
-pub mod Structures
-pub mod LegalBytes
 pub mod Accepted
-pub mod Rules
 pub mod Packets
 pub mod Back
-pub mod Beside
-pub mod Types
-pub mod Blank
 pub mod Held
 pub mod HeldStructures
 pub mod Pieces

@@ -14,7 +14,7 @@ use Rattle.refusal.specs.declared.Verdict.the-variants.{Accepted}
 use Rattle.anc.specs.Words.{parityOf, wordOf, byteOf, wordsVerdict, sumVerdict, checksumOf}
 use Rattle.anc.proofs.Words.{byte-word, bytes-words, words-accepted, accepted-words, sum-accepted}
 use Rattle.subtitling.specs.Layout.{covered, packet}
-use Rattle.subtitling.specs.User.{userVerdict}
+use Rattle.sdp.specs.User.{userVerdict}
 use Rattle.subtitling.specs.Reading.{coveredIn, userIn, lastOf, formVerdict, headerVerdict, checksumVerdict, packetVerdict}
 use Rattle.subtitling.proofs.Numbers.{length-packet}
 use Rattle.subtitling.proofs.Accepted.{Whole}

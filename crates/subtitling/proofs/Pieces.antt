@@ -8,13 +8,14 @@ use lib.ListN.{length, drop, length-map, length-append}
 use Rattle.lists.specs.Bytes.{Bytes}
 use Rattle.anc.specs.Words.{wordOf, byteOf, checksumOf}
 use Rattle.anc.proofs.Words.{bytes-words}
-use Rattle.subtitling.specs.declared.Packet.{Packet}
-use Rattle.subtitling.specs.Value.{Sdp, Typed, Legal, descriptor, held}
-use Rattle.subtitling.specs.Layout.{descriptorsOf, count, structures, userLength, footer, body, sdpChecksum, userBytes, covered, layout}
+use Rattle.sdp.specs.declared.Packet.{Packet}
+use Rattle.sdp.specs.Value.{Sdp, Typed, Legal, descriptor, held}
+use Rattle.sdp.specs.Layout.{descriptorsOf, count, structures, userLength, footer, body, sdpChecksum, userBytes}
+use Rattle.subtitling.specs.Layout.{covered, layout}
 use Rattle.subtitling.specs.Writing.{summed, sealed}
-use Rattle.subtitling.proofs.Slots.{descriptors-below}
-use Rattle.subtitling.proofs.Numbers.{length-user, descriptors-held}
-use Rattle.subtitling.proofs.LegalBytes.{body-bytes}
+use Rattle.sdp.proofs.Slots.{descriptors-below}
+use Rattle.sdp.proofs.Numbers.{length-user, descriptors-held}
+use Rattle.sdp.proofs.LegalBytes.{body-bytes}
 use Rattle.subtitling.proofs.HeldStructures.{length-structures-held}
 
 -- SEALED

@@ -6,10 +6,10 @@ use mathlib.Core.Path.{_≡_, _∙_, ap, sym, refl}
 use mathlib.Core.List.{List, [], _∷_, map}
 use lib.ListN.{length, getD, take, drop}
 use lib.Seq.{drop-drop}
-use Rattle.subtitling.specs.declared.Slot.{Slot}
-use Rattle.subtitling.specs.Value.{SlotRow, zeros}
-use Rattle.subtitling.specs.Layout.{count}
-use Rattle.subtitling.specs.User.{descriptorsIn, slotOf, rowIn, behind, slotsIn}
+use Rattle.sdp.specs.declared.Slot.{Slot}
+use Rattle.sdp.specs.Value.{SlotRow, zeros}
+use Rattle.sdp.specs.Layout.{count}
+use Rattle.sdp.specs.User.{descriptorsIn, slotOf, rowIn, behind, slotsIn}
 
 -- the numbers are what the descriptors tell
 pub slots-numbers : (ds v : List ℕ) → map (λ (x : SlotRow). x .slot) (slotsIn ds v) ≡ map slotOf ds

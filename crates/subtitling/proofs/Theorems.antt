@@ -1,14 +1,14 @@
--- The theorems of the subtitling packet (document 01, demands 1 to 3). What they speak of is defined in specs/: a value and when it is legal in Value;
--- its words in Layout, without the reader; the rules over user words in User; what reading answers in Reading; what writing answers and leaves
--- in Writing.
+-- The theorems of the subtitling packet (document 01, demands 1 to 3). What they speak of is defined in specs/: its words in Layout, without the
+-- reader; what reading answers in Reading; what writing answers and leaves in Writing. A value, when it is legal, its user bytes and the rules over
+-- them are those of `sdp`, which has a page of theorems too.
 --
 -- The contracts of `read`, `read_rows` and `write` are the promises `Reads`, `ReadsRows` and `Writes`. `Reads s r` says that r is the answer to the words
 -- s, `ReadsRows s rows` that these are the rows in it, and `Writes p rows out r exit` that writing p with its rows to an output that held `out`
 -- answers r and leaves `exit`. So each theorem speaks of every call. Assumes nothing.
-use Prim.Native.Nat.{ℕ, _+_, _*_, _%_, _≤_, _<_}
+use Prim.Native.Nat.{ℕ, _+_, _*_, _≤_, _<_}
 use native.Mathlib.Omega.{arith}
 use mathlib.Core.Path.{_≡_, _∙_, ap, ap₂, sym, subst, refl}
-use mathlib.Core.Logic.{_↔_, ⊎-elim}
+use mathlib.Core.Logic.{_↔_}
 use mathlib.Core.Bool.{Bool, true, false, not}
 use mathlib.Core.List.{List}
 use borrow.Author.Tests.{eqb-true, lt-ltb, le-ltb}
@@ -16,7 +16,6 @@ use lib.Dec.{eqb}
 use lib.ListN.{length, getD, take, drop, length-map}
 use lib.Seq.{take-append-seam}
 use Rattle.lists.specs.Room.{over}
-use Rattle.lists.specs.Sum.{sum}
 use Rattle.refusal.specs.declared.Refusal.{Refusal}
 use Rattle.refusal.specs.declared.Written.{Written}
 use Rattle.refusal.specs.declared.Verdict.{Verdict}
@@ -28,15 +27,16 @@ use Rattle.refusal.specs.Numbers.{refusalOf}
 use Rattle.refusal.proofs.Checks.{andThen-refused}
 use Rattle.refusal.proofs.Acceptance.{told-accepted}
 use Rattle.refusal.proofs.Outputs.{wrote-accepted, accepted-wrote, wrote-refusal, success-left, refusal-left, wrote-determined}
-use Rattle.subtitling.specs.declared.Packet.{Packet}
+use Rattle.sdp.specs.declared.Packet.{Packet}
 use Rattle.subtitling.specs.declared.Answer.{Answer}
-use Rattle.subtitling.specs.Value.{SlotRow, Sdp, LegalSlot, Legal, descriptor, none, held, numbersOf, rowsOf}
-use Rattle.subtitling.specs.Layout.{descriptorsOf, count, userLength, userBytes, layout}
+use Rattle.sdp.specs.Value.{SlotRow, Sdp, Legal, descriptor, none, held, numbersOf, rowsOf}
+use Rattle.sdp.specs.Layout.{descriptorsOf, count}
+use Rattle.subtitling.specs.Layout.{layout}
 use Rattle.subtitling.specs.Reading.{formVerdict, packetVerdict, valueOf, found, Reads, ReadsRows}
 use Rattle.subtitling.specs.Writing.{valueVerdict, Writes}
-use Rattle.subtitling.proofs.Beside.{held-apart, numbers-held, rows-held}
-use Rattle.subtitling.proofs.Numbers.{count-most, length-user, length-layout, slots-accepted, accepted-value, value-accepted, legal-held}
-use Rattle.subtitling.proofs.Rules.{sum-user}
+use Rattle.sdp.proofs.Beside.{held-apart, numbers-held, rows-held}
+use Rattle.sdp.proofs.Numbers.{count-most, slots-accepted, legal-held}
+use Rattle.subtitling.proofs.Numbers.{length-layout, accepted-value, value-accepted}
 use Rattle.subtitling.proofs.Back.{layout-accepted, value-layout, packet-legal}
 use Rattle.subtitling.proofs.Illegal.{Is15or7, illegal-15-or-7}
 
@@ -107,20 +107,6 @@ accepted-size s r p e =
     let back = packet-legal s (accepts s r p e) in
     let size = layout-size (valueOf s) (back .legal) in
     (count (descriptorsOf (valueOf s .slots)), size .1, sym (ap length (back .same)) ∙ size .0)
-
--- Its DC and its LENGTH are 13 + 45k, the number of its user bytes, and these add up to 0 modulo 256.
-pub user-size : (v : Sdp) → Legal v → length (userBytes v) ≡ userLength (count (descriptorsOf (v .slots)))
-user-size = length-user
-
-pub user-sum : (v : Sdp) → Legal v → sum (userBytes v) % 256 ≡ 0
-user-sum = sum-user
-
--- A slot is empty exactly when its descriptor is 0; 80 (line 0, odd field) is a full one.
-pub empty-exactly : (x : SlotRow) → LegalSlot x → (x .slot .full ≡ 0) ↔ (descriptor (x .slot) ≡ 0)
-empty-exactly x h = (
-  λ e. ⊎-elim (λ same. ap (λ (y : SlotRow). descriptor (y .slot)) same) (λ full. let f : ⊥ = omega (arith, full .mark) in absurd f) h,
-  λ e. ⊎-elim (λ same. ap (λ (y : SlotRow). y .slot .full) same) (λ full. let f : ⊥ = omega (arith, full .some) in absurd f) h,
-)
 
 -- Longer ones are refused with 1, shorter ones with 5, whatever they hold.
 pub refused-1 : (s : List ℕ) (r : Answer) → Reads s r → 245 < length s → r .refusal ≡ refused 1

@@ -17,8 +17,8 @@ use Rattle.refusal.specs.Checks.{refuseIf, first}
 use Rattle.refusal.specs.Numbers.{refusalOf}
 use Rattle.anc.specs.Words.{byteOf, wordsVerdict, sumVerdict, checksumOf}
 use Rattle.subtitling.specs.declared.Answer.{Answer}
-use Rattle.subtitling.specs.Value.{Sdp, none, numbersOf, rowsOf}
-use Rattle.subtitling.specs.User.{userVerdict, userValue}
+use Rattle.sdp.specs.Value.{Sdp, none, numbersOf, rowsOf}
+use Rattle.sdp.specs.User.{userVerdict, userValue}
 
 -- the words from DID to the last user word, which CS covers
 abbrev pub coveredIn : List ℕ → List ℕ

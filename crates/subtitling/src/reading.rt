@@ -1,30 +1,27 @@
 // Reading a packet: its numbers, or its rows.
 ghost use mathlib.Core.Path.{_≡_};
-ghost use Prim.Native.Nat.{_+_, _/_, _≤_};
+ghost use Prim.Native.Nat.{_+_, _≤_};
 ghost use mathlib.Core.List.{map};
 ghost use lib.ListN.{length, take, drop};
 ghost use Rattle.anc.specs.Words.{byteOf};
-ghost use Rattle.subtitling.specs.Value.{none, numbersOf, rowsOf};
-ghost use Rattle.subtitling.specs.Layout.{userLength};
-ghost use Rattle.subtitling.specs.User.{structuresIn, slotOf, userValue};
+ghost use Rattle.sdp.specs.Value.{none, numbersOf, rowsOf};
+ghost use Rattle.sdp.specs.Layout.{userLength};
+ghost use Rattle.sdp.specs.User.{structuresIn, userValue};
 ghost use Rattle.subtitling.specs.Reading.{formVerdict, headerVerdict, checksumVerdict, packetVerdict, Reads, ReadsRows};
 use crate::Answer;
 use crate::MAX_WORDS;
 use crate::MIN_WORDS;
-use crate::OddEven;
-use crate::Packet;
-use crate::ROW_BYTES;
-use crate::SLOTS;
-use crate::Slot;
-use crate::user::DESCRIPTORS;
-use crate::user::STRUCTURE_WORDS;
-use crate::user::STRUCTURES;
-use crate::user::judge_user;
 use refusal::Fixed;
 use refusal::Item;
 use refusal::Misfit;
 use refusal::Reason;
 use refusal::Verdict;
+use sdp::DESCRIPTORS;
+use sdp::Packet;
+use sdp::ROW_BYTES;
+use sdp::SLOTS;
+use sdp::STRUCTURE_WORDS;
+use sdp::STRUCTURES;
 
 // A packet: the flag, DID, SDID, DC, the user words, CS.
 const USER: usize = 6;
@@ -72,7 +69,7 @@ fn judge(words: &[u16]) -> Verdict
         return header;
     }
     let n = words.len();
-    let user = judge_user(&words[USER..n - 1], 5);
+    let user = sdp::judge_user(&words[USER..n - 1], 5);
     if let Verdict::Refused(_, _) = user {
         return user;
     }
@@ -135,39 +132,16 @@ fn judge_checksum(words: &[u16]) -> Verdict
     Verdict::Accepted
 }
 
-// The slot that a descriptor tells of: empty exactly when it is 0.
-fn slot_of(descriptor: u8) -> Slot
-    ensures { λ r. ⌜ r ≡ slotOf descriptor ⌝ }
-{
-    let full = if descriptor == 0 { 0 } else { 1 };
-    Slot {
-        full,
-        line: descriptor % 32,
-        reserved: descriptor / 32 % 4,
-        field: field_of(descriptor),
-    }
-}
-
-// The field that b7 of a descriptor tells: 1 odd, 0 even.
-fn field_of(descriptor: u8) -> OddEven
-    ensures { λ r. ⌜ r .0 ≡ descriptor / 128 ⌝ }
-{
-    if descriptor < 128 {
-        return OddEven(0);
-    }
-    OddEven(1)
-}
-
 // The numbers that the user words hold.
 fn packet_in(user: &[u16]) -> Packet
     requires { ⌜ 13 ≤ length (now user) ⌝ }
     ensures { λ r. ⌜ r ≡ numbersOf (userValue (map byteOf (now (user .entry)))) ⌝ }
 {
     let n = user.len();
-    let mut slots = [slot_of(0); SLOTS];
+    let mut slots = [sdp::slot_of(0); SLOTS];
     let mut i = 0;
     while i < SLOTS {
-        slots[i] = slot_of((user[DESCRIPTORS + i] % 256) as u8);
+        slots[i] = sdp::slot_of((user[DESCRIPTORS + i] % 256) as u8);
         i += 1;
     }
     let high = (user[n - 3] % 256) as u32;
@@ -214,6 +188,6 @@ fn row_at(user: &[u16], at: usize) -> [u8; ROW_BYTES]
 fn nothing() -> Packet
     ensures { λ r. ⌜ r ≡ numbersOf none ⌝ }
 {
-    let slots = [slot_of(0); SLOTS];
+    let slots = [sdp::slot_of(0); SLOTS];
     Packet { counter: 0, slots }
 }

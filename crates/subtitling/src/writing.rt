@@ -6,22 +6,20 @@ ghost use lib.ListN.{length, take};
 ghost use Rattle.lists.specs.Room.{over};
 ghost use Rattle.anc.specs.Words.{wordOf, byteOf};
 ghost use Rattle.refusal.specs.declared.Verdict.the-variants.{Accepted};
-ghost use Rattle.subtitling.specs.Value.{descriptor as Value·descriptor, together, held, beside};
-ghost use Rattle.subtitling.specs.Layout.{count as Layout·count, structures, footer, layout};
-ghost use Rattle.subtitling.specs.Writing.{allZero, unwritable, slotVerdict, valueVerdict, sealed, Writes};
+ghost use Rattle.sdp.specs.Value.{descriptor as Value·descriptor, held, beside};
+ghost use Rattle.sdp.specs.Layout.{count as Layout·count, structures, footer};
+ghost use Rattle.subtitling.specs.Layout.{layout};
+ghost use Rattle.subtitling.specs.Writing.{valueVerdict, sealed, Writes};
 use crate::MIN_WORDS;
-use crate::Packet;
-use crate::ROW_BYTES;
-use crate::SLOTS;
-use crate::Slot;
-use crate::user::STRUCTURE_WORDS;
-use crate::user::byte_sum;
-use crate::user::judge_line;
 use refusal::Excess;
 use refusal::Item;
 use refusal::Reason;
 use refusal::Verdict;
 use refusal::Written;
+use sdp::Packet;
+use sdp::ROW_BYTES;
+use sdp::SLOTS;
+use sdp::STRUCTURE_WORDS;
 
 // Writes a packet at the front of out.
 pub fn write(p: Packet, rows: [[u8; ROW_BYTES]; SLOTS], out: &mut [u16]) -> Written
@@ -34,7 +32,7 @@ pub fn write(p: Packet, rows: [[u8; ROW_BYTES]; SLOTS], out: &mut [u16]) -> Writ
     put(p, rows, out);
     Written {
         refusal,
-        len: MIN_WORDS + STRUCTURE_WORDS * count(p),
+        len: MIN_WORDS + STRUCTURE_WORDS * sdp::count(p),
     }
 }
 
@@ -48,86 +46,16 @@ fn judge_value(p: Packet, rows: [[u8; ROW_BYTES]; SLOTS], room: usize) -> Verdic
     let mut i = 0;
     while i < SLOTS {
         let slot = p.slots[i];
-        let verdict = judge_slot(slot, rows[i]);
+        let verdict = sdp::judge_slot(slot, rows[i]);
         if let Verdict::Refused(_, _) = verdict {
             return verdict;
         }
         i += 1;
     }
-    if room < MIN_WORDS + STRUCTURE_WORDS * count(p) {
+    if room < MIN_WORDS + STRUCTURE_WORDS * sdp::count(p) {
         return Verdict::Refused(Reason::NoRoom, Item::Whole);
     }
     Verdict::Accepted
-}
-
-fn judge_slot(s: Slot, row: [u8; ROW_BYTES]) -> Verdict
-    ensures { λ r. ⌜ r ≡ slotVerdict (together s row) ⌝ }
-{
-    if 1 < s.full {
-        return Verdict::Refused(Reason::Unholdable(Excess::SlotMark), Item::Whole);
-    }
-    if 31 < s.line {
-        return Verdict::Refused(Reason::Unholdable(Excess::SlotLine), Item::Whole);
-    }
-    if 3 < s.reserved {
-        return Verdict::Refused(Reason::Unholdable(Excess::SlotReserved), Item::Whole);
-    }
-    if 1 < s.field.0 {
-        return Verdict::Refused(Reason::Unholdable(Excess::SlotField), Item::Whole);
-    }
-    if is_unwritable(s, row) {
-        return Verdict::Refused(Reason::Unholdable(Excess::SlotUnwritable), Item::Whole);
-    }
-    judge_line(s.line, Item::Whole)
-}
-
-// A full slot whose descriptor is 0, or an empty one that holds anything else.
-fn is_unwritable(s: Slot, row: [u8; ROW_BYTES]) -> bool
-    ensures { λ r. ⌜ r ≡ unwritable (s .full) (Value·descriptor s) (allZero row) ⌝ }
-{
-    let d = descriptor(s);
-    if s.full != 0 {
-        return d == 0;
-    }
-    if d != 0 {
-        return true;
-    }
-    !is_blank(row)
-}
-
-fn is_blank(row: [u8; ROW_BYTES]) -> bool
-    ensures { λ r. ⌜ r ≡ allZero row ⌝ }
-{
-    let mut sum: u16 = 0;
-    let mut j = 0;
-    while j < ROW_BYTES {
-        sum += row[j] as u16;
-        j += 1;
-    }
-    sum == 0
-}
-
-// The descriptor of a slot. 16 bits hold it even where its numbers are too large.
-fn descriptor(s: Slot) -> u16
-    ensures { λ r. ⌜ r ≡ Value·descriptor s ⌝ }
-{
-    s.line as u16 + 32 * s.reserved as u16 + 128 * s.field.0 as u16
-}
-
-// How many structures the slots bring.
-fn count(p: Packet) -> usize
-    ensures { λ r. ⌜ r ≡ Layout·count (map Value·descriptor (p .slots)) ⌝ }
-{
-    let mut k = 0;
-    let mut i = 0;
-    while i < SLOTS {
-        let slot = p.slots[i];
-        if descriptor(slot) != 0 {
-            k += 1;
-        }
-        i += 1;
-    }
-    k
 }
 
 // Stores the layout of a value that was judged.
@@ -135,7 +63,7 @@ fn put(p: Packet, rows: [[u8; ROW_BYTES]; SLOTS], out: &mut [u16])
     requires { ⌜ valueVerdict (held p rows) (length (now out)) ≡ Accepted ⌝ }
     ensures { λ _. ⌜ now (out .exit) ≡ over (layout (held p rows)) (now (out .entry)) ⌝ }
 {
-    let k = count(p);
+    let k = sdp::count(p);
     put_header((13 + STRUCTURE_WORDS * k) as u8, out);
     put_descriptors(p, &mut out[10..]);
     put_structures(p, rows, &mut out[15..]);
@@ -168,7 +96,7 @@ fn put_descriptors(p: Packet, out: &mut [u16])
     let mut i = 0;
     while i < SLOTS {
         let slot = p.slots[i];
-        out[i] = anc::word((descriptor(slot) % 256) as u8);
+        out[i] = anc::word((sdp::descriptor(slot) % 256) as u8);
         i += 1;
     }
 }
@@ -182,7 +110,7 @@ fn put_structures(p: Packet, rows: [[u8; ROW_BYTES]; SLOTS], out: &mut [u16])
     let mut i = 0;
     while i < SLOTS {
         let slot = p.slots[i];
-        if descriptor(slot) != 0 {
+        if sdp::descriptor(slot) != 0 {
             put_structure(rows[i], &mut out[at..]);
             at += STRUCTURE_WORDS;
         }
@@ -220,7 +148,7 @@ fn put_sums(n: usize, out: &mut [u16])
     requires { ⌜ (6 ≤ n) × (n + 2 ≤ length (now out)) ⌝ }
     ensures { λ _. ⌜ now (out .exit) ≡ over (sealed (take n (now (out .entry)))) (now (out .entry)) ⌝ }
 {
-    let sum = byte_sum(&out[6..n]);
+    let sum = sdp::byte_sum(&out[6..n]);
     out[n] = anc::word(((256 - sum) % 256) as u8);
     out[n + 1] = anc::checksum(&out[3..n + 1]);
 }

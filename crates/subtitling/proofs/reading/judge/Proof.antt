@@ -7,7 +7,7 @@ use borrow.Author.Needs.{needs}
 use denote.Ref.{now}
 use Rattle.refusal.specs.Checks.{first}
 use Rattle.refusal.proofs.Checks.{andThen-last, refused-first, accepted-first}
-use Rattle.subtitling.specs.User.{userVerdict}
+use Rattle.sdp.specs.User.{userVerdict}
 use Rattle.subtitling.specs.Reading.{userIn, headerVerdict, checksumVerdict, packetVerdict}
 use Rattle.subtitling.proofs.Accepted.{Form, accepted-form}
 use Rattle.subtitling.proofs.reading.judge.Statement.{statement}

@@ -3,9 +3,9 @@
 use mathlib.Core.Path.{ap}
 use borrow.Author.Needs.{needs}
 use lib.ListN.{replicate}
-use Rattle.subtitling.specs.declared.Slot.{Slot}
-use Rattle.subtitling.specs.declared.Packet.{Packet}
-use Rattle.subtitling.specs.User.{slotOf}
+use Rattle.sdp.specs.declared.Slot.{Slot}
+use Rattle.sdp.specs.declared.Packet.{Packet}
+use Rattle.sdp.specs.User.{slotOf}
 use Rattle.subtitling.proofs.reading.nothing.Statement.{statement}
 use Rattle.subtitling.proofs.reading.nothing.Tie as tie
 

@@ -9,11 +9,11 @@ use denote.Ref.{now}
 use lib.ListN.{length, getD, take, drop, replicate, length-map, List·getD-map}
 use Rattle.lists.specs.Room.{filled}
 use Rattle.anc.specs.Words.{byteOf}
-use Rattle.subtitling.specs.declared.Slot.{Slot}
-use Rattle.subtitling.specs.declared.Packet.{Packet}
-use Rattle.subtitling.specs.User.{descriptorsIn, slotOf, counterIn}
-use Rattle.subtitling.proofs.Bytes.{byte-at}
-use Rattle.subtitling.proofs.Descriptors.{descriptor-at, length-descriptors}
+use Rattle.sdp.specs.declared.Slot.{Slot}
+use Rattle.sdp.specs.declared.Packet.{Packet}
+use Rattle.sdp.specs.User.{descriptorsIn, slotOf, counterIn}
+use Rattle.sdp.proofs.Bytes.{byte-at}
+use Rattle.sdp.proofs.Descriptors.{descriptor-at, length-descriptors}
 use Rattle.lists.proofs.Fill.{filled-next, filled-all}
 use Rattle.subtitling.proofs.Rows.{slots-numbers}
 use Rattle.subtitling.proofs.reading.packet_in.Statement.{statement}

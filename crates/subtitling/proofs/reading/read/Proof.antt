@@ -12,9 +12,9 @@ use Rattle.refusal.specs.declared.Refusal.{Refusal}
 use Rattle.refusal.specs.declared.Verdict.{Verdict}
 use Rattle.refusal.specs.Numbers.{refusalOf}
 use Rattle.anc.specs.Words.{byteOf}
-use Rattle.subtitling.specs.declared.Packet.{Packet}
+use Rattle.sdp.specs.declared.Packet.{Packet}
 use Rattle.subtitling.specs.declared.Answer.{Answer}
-use Rattle.subtitling.specs.Value.{numbersOf}
+use Rattle.sdp.specs.Value.{numbersOf}
 use Rattle.subtitling.specs.Reading.{valueOf, found}
 use Rattle.subtitling.proofs.Accepted.{Whole, accepted-packet}
 use Rattle.subtitling.proofs.reading.read.Statement.{statement}

@@ -10,7 +10,7 @@ use lib.ListN.{length, length-map}
 use Rattle.lists.specs.Part.{part}
 use Rattle.refusal.specs.declared.Verdict.{Verdict}
 use Rattle.anc.specs.Words.{byteOf}
-use Rattle.subtitling.specs.Value.{rowsOf}
+use Rattle.sdp.specs.Value.{rowsOf}
 use Rattle.subtitling.specs.Reading.{valueOf, found}
 use Rattle.subtitling.proofs.Accepted.{Whole, accepted-packet}
 use Rattle.subtitling.proofs.reading.read_rows.Statement.{statement}

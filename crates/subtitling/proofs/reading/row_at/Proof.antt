@@ -9,7 +9,7 @@ use lib.ListN.{length, getD, take, drop, length-map, length-drop}
 use lib.Seq.{length-take-le, getD-take}
 use Rattle.lists.specs.Room.{filled}
 use Rattle.anc.specs.Words.{byteOf}
-use Rattle.subtitling.proofs.Bytes.{byte-from}
+use Rattle.sdp.proofs.Bytes.{byte-from}
 use Rattle.lists.proofs.Fill.{filled-next, filled-all}
 use Rattle.subtitling.proofs.reading.row_at.Statement.{statement}
 use Rattle.subtitling.proofs.reading.row_at.Tie as tie

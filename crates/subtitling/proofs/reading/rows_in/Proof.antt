@@ -10,10 +10,10 @@ use denote.Ref.{now}
 use lib.ListN.{length, getD, take, drop}
 use Rattle.lists.specs.Room.{filled}
 use Rattle.anc.specs.Words.{byteOf}
-use Rattle.subtitling.specs.Value.{zeros}
-use Rattle.subtitling.specs.Layout.{count}
-use Rattle.subtitling.specs.User.{descriptorsIn, markOf}
-use Rattle.subtitling.proofs.Descriptors.{mark-some, count-front, count-more, descriptor-at, length-descriptors}
+use Rattle.sdp.specs.Value.{zeros}
+use Rattle.sdp.specs.Layout.{count}
+use Rattle.sdp.specs.User.{descriptorsIn, markOf}
+use Rattle.sdp.proofs.Descriptors.{mark-some, count-front, count-more, descriptor-at, length-descriptors}
 use Rattle.lists.proofs.Fill.{filled-next, filled-same, filled-all}
 use Rattle.subtitling.proofs.Rows.{rowsIn, length-rowsIn, row-some, row-none}
 use Rattle.subtitling.proofs.reading.rows_in.Statement.{statement}

@@ -12,11 +12,12 @@ use Rattle.refusal.specs.declared.Verdict.{Verdict}
 use Rattle.refusal.specs.declared.Reason.the-variants.{NoRoom}
 use Rattle.refusal.specs.declared.Item.the-variants.{Whole}
 use Rattle.refusal.specs.Checks.{refuseIf, andThen}
-use Rattle.subtitling.specs.Value.{SlotRow, Typed, descriptor, held}
-use Rattle.subtitling.specs.Layout.{count}
-use Rattle.subtitling.specs.Writing.{slotsVerdict, valueVerdict}
-use Rattle.subtitling.proofs.Types.{typed}
-use Rattle.subtitling.proofs.Numbers.{length-held}
+use Rattle.sdp.specs.Value.{SlotRow, Typed, descriptor, held}
+use Rattle.sdp.specs.Layout.{count}
+use Rattle.sdp.specs.Holdable.{slotsVerdict}
+use Rattle.subtitling.specs.Writing.{valueVerdict}
+use Rattle.sdp.proofs.Types.{typed}
+use Rattle.sdp.proofs.Numbers.{length-held}
 use Rattle.subtitling.proofs.Held.{held-from, verdict-few, few-structures}
 use Rattle.subtitling.proofs.writing.judge_value.Statement.{statement}
 use Rattle.subtitling.proofs.writing.judge_value.Tie as tie

@@ -12,11 +12,12 @@ use lib.ListN.{length, take}
 use Rattle.lists.specs.Room.{over}
 use Rattle.lists.proofs.Lay.{length-over, take-over, over-again, laid-more, length-rest}
 use Rattle.anc.specs.Words.{wordOf, byteOf}
-use Rattle.subtitling.specs.Value.{Typed, Legal, descriptor, held}
-use Rattle.subtitling.specs.Layout.{structures, footer}
+use Rattle.sdp.specs.Value.{Typed, Legal, descriptor, held}
+use Rattle.sdp.specs.Layout.{structures, footer}
 use Rattle.subtitling.specs.Writing.{sealed}
-use Rattle.subtitling.proofs.Types.{typed}
-use Rattle.subtitling.proofs.Numbers.{Writable, accepted-value, legal-held}
+use Rattle.sdp.proofs.Types.{typed}
+use Rattle.sdp.proofs.Numbers.{legal-held}
+use Rattle.subtitling.proofs.Numbers.{Writable, accepted-value}
 use Rattle.subtitling.proofs.Held.{few-structures, length-layout-held}
 use Rattle.subtitling.proofs.Pieces.{header, structuresOf, headed, described, structured, footed, length-described, length-structured, length-footed, sealed-longer, pieces-layout}
 use Rattle.subtitling.proofs.writing.put.Statement.{statement}

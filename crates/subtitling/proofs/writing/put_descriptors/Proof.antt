@@ -12,9 +12,9 @@ use lib.Seq.{take-suc, take-all, length-take-le}
 use Rattle.lists.specs.Room.{over}
 use Rattle.lists.proofs.Lay.{length-over, store-next}
 use Rattle.anc.specs.Words.{wordOf, byteOf}
-use Rattle.subtitling.specs.declared.Slot.{Slot}
-use Rattle.subtitling.specs.Value.{descriptor, empty}
-use Rattle.subtitling.proofs.Types.{five}
+use Rattle.sdp.specs.declared.Slot.{Slot}
+use Rattle.sdp.specs.Value.{descriptor, empty}
+use Rattle.sdp.proofs.Types.{five}
 use Rattle.subtitling.proofs.writing.put_descriptors.Statement.{statement}
 use Rattle.subtitling.proofs.writing.put_descriptors.Tie as tie
 

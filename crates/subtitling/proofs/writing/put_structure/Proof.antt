@@ -12,7 +12,7 @@ use lib.Seq.{sets-eq, take-suc, take-all, length-take-le}
 use Rattle.lists.specs.Room.{over}
 use Rattle.lists.proofs.Lay.{length-over, store-next, over-store}
 use Rattle.anc.specs.Words.{parityOf, wordOf}
-use Rattle.subtitling.proofs.Types.{row}
+use Rattle.sdp.proofs.Types.{row}
 use Rattle.subtitling.proofs.writing.put_structure.Statement.{statement}
 use Rattle.subtitling.proofs.writing.put_structure.Tie as tie
 

@@ -14,11 +14,11 @@ use Rattle.lists.specs.Room.{over}
 use Rattle.lists.proofs.Each.{each-at}
 use Rattle.lists.proofs.Lay.{length-over, laid-more, length-rest}
 use Rattle.anc.specs.Words.{wordOf}
-use Rattle.subtitling.specs.declared.Packet.{Packet}
-use Rattle.subtitling.specs.Value.{SlotRow, Row, Typed, descriptor, empty, held}
-use Rattle.subtitling.specs.Layout.{count, structure, structures}
-use Rattle.subtitling.proofs.Types.{typed}
-use Rattle.subtitling.proofs.Numbers.{length-held}
+use Rattle.sdp.specs.declared.Packet.{Packet}
+use Rattle.sdp.specs.Value.{SlotRow, Row, Typed, descriptor, empty, held}
+use Rattle.sdp.specs.Layout.{count, structure, structures}
+use Rattle.sdp.proofs.Types.{typed}
+use Rattle.sdp.proofs.Numbers.{length-held}
 use Rattle.subtitling.proofs.Held.{few-structures}
 use Rattle.subtitling.proofs.HeldStructures.{structure-none, structure-some, structures-more, structures-front}
 use Rattle.subtitling.proofs.writing.put_structures.Statement.{statement}

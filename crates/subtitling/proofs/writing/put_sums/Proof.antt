@@ -13,7 +13,7 @@ use Rattle.lists.specs.Room.{over}
 use Rattle.lists.proofs.Lay.{store-next}
 use Rattle.lists.proofs.Part.{part-front}
 use Rattle.anc.specs.Words.{wordOf, byteOf, checksumOf}
-use Rattle.subtitling.specs.Layout.{sdpChecksum}
+use Rattle.sdp.specs.Layout.{sdpChecksum}
 use Rattle.subtitling.proofs.writing.put_sums.Statement.{statement}
 use Rattle.subtitling.proofs.writing.put_sums.Tie as tie
 

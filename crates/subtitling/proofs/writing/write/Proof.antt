@@ -13,10 +13,10 @@ use Rattle.refusal.specs.Numbers.{refusalOf}
 use Rattle.refusal.specs.Answers.{Wrote}
 use Rattle.refusal.proofs.Acceptance.{told-accepted}
 use Rattle.refusal.proofs.Outputs.{wrote-nothing, wrote-laid}
-use Rattle.subtitling.specs.Value.{Typed, held}
+use Rattle.sdp.specs.Value.{Typed, held}
 use Rattle.subtitling.specs.Layout.{layout}
 use Rattle.subtitling.specs.Writing.{valueVerdict}
-use Rattle.subtitling.proofs.Types.{typed}
+use Rattle.sdp.proofs.Types.{typed}
 use Rattle.subtitling.proofs.Held.{few-structures, length-layout-held}
 use Rattle.subtitling.proofs.writing.write.Statement.{statement}
 use Rattle.subtitling.proofs.writing.write.Tie as tie

@@ -1,0 +1,12 @@
+pub mod Slots
+pub mod Bytes
+pub mod Numbers
+pub mod Descriptors
+pub mod Structures
+pub mod LegalBytes
+pub mod Accepted
+pub mod Rules
+pub mod Beside
+pub mod Types
+pub mod Blank
+pub mod Theorems

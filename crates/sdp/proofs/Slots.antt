@@ -1,0 +1,107 @@
+-- A slot and its descriptor: each legal slot has a descriptor of one byte that tells all its numbers.
+-- Assumes nothing.
+use Prim.Native.Nat.{ℕ, zero, suc, _+_, _*_, _/_, _%_, _≤_, _<_}
+use native.Mathlib.Omega.{arith}
+use mathlib.Core.Path.{_≡_, _∙_, ap, sym, subst, refl}
+use mathlib.Core.Logic.{_⊎_, inl, inr, ⊎-elim}
+use mathlib.Core.Bool.{Bool, true, false, _&&_, _||_, and-false, true≢false}
+use mathlib.Core.List.{List, [], _∷_}
+use borrow.Author.Tests.{ltb-false, lt-ltb, le-ltb}
+use lib.Dec.{ltb}
+use Rattle.lists.specs.Each.{Each}
+use Rattle.lists.specs.Bytes.{Bytes}
+use Rattle.refusal.specs.declared.Verdict.the-variants.{Accepted}
+use Rattle.refusal.specs.declared.Item.{Item}
+use Rattle.refusal.specs.declared.Item.the-variants.{Word}
+use Rattle.refusal.proofs.Checks.{refuseIf-accepted, accepted-andThen}
+use Rattle.sdp.specs.Value.{SlotRow, descriptor, empty, LegalLine, FullSlot, LegalSlot}
+use Rattle.sdp.specs.Layout.{descriptorsOf}
+use Rattle.sdp.specs.User.{lineVerdict, descriptorsVerdict, markOf, slotOf}
+
+or-false-both : (a b : Bool) → (a || b) ≡ false → (a ≡ false) × (b ≡ false)
+or-false-both true b e = absurd (true≢false e)
+or-false-both false b e = (refl, e)
+
+-- the check of a line lets through exactly 0 and 6 to 22
+pub accepted-line : (item : Item) (l : ℕ) → lineVerdict item l ≡ Accepted → LegalLine l
+unfolding lineVerdict
+accepted-line item zero e = inl refl
+accepted-line item (suc m) e =
+    let some : 0 < suc m = omega arith in
+    let both : (ltb (suc m) 6 || ltb 22 (suc m)) ≡ false =
+    sym (ap (λ (b : Bool). b && (ltb (suc m) 6 || ltb 22 (suc m))) (lt-ltb 0 (suc m) some)) ∙ refuseIf-accepted _ _ _ e in
+    let each = or-false-both (ltb (suc m) 6) (ltb 22 (suc m)) both in
+    inr (ltb-false (suc m) 6 (each .0), ltb-false 22 (suc m) (each .1))
+
+line-none : (item : Item) (l : ℕ) → l ≡ 0 → lineVerdict item l ≡ Accepted
+unfolding lineVerdict
+line-none item l e = let none : l ≤ 0 = omega arith in simp (le-ltb 0 l none)
+
+line-some : (item : Item) (l : ℕ) → (6 ≤ l) × (l ≤ 22) → lineVerdict item l ≡ Accepted
+unfolding lineVerdict
+line-some item l h = simp (le-ltb l 6 (h .0), le-ltb 22 l (h .1), and-false)
+
+pub line-accepted : (item : Item) (l : ℕ) → LegalLine l → lineVerdict item l ≡ Accepted
+line-accepted item l h = ⊎-elim (line-none item l) (line-some item l) h
+
+pub legal-below : (l : ℕ) → LegalLine l → l < 32
+legal-below l h = ⊎-elim (λ e. omega arith) (λ w. omega (arith, w .1)) h
+
+-- a byte is the descriptor of the slot that it tells of
+pub descriptor-slotOf : (d : ℕ) → d < 256 → descriptor (slotOf d) ≡ d
+unfolding slotOf
+descriptor-slotOf d h = omega arith
+
+pub markOf-some : (d : ℕ) → 0 < d → markOf d ≡ 1
+markOf-some zero h = let f : ⊥ = omega arith in absurd f
+markOf-some (suc d) h = refl
+
+-- and a legal slot is what its descriptor tells of
+full-slotOf : (x : SlotRow) → FullSlot x → slotOf (descriptor (x .slot)) ≡ x .slot
+unfolding slotOf
+full-slotOf x h =
+    let s = x .slot in
+    let below : s .line < 32 = legal-below (s .line) (h .line) in
+    let two = h .field in
+    let four = h .reserved in
+    let mark : markOf (descriptor s) ≡ s .full = markOf-some (descriptor s) (h .some) ∙ sym (h .mark) in
+    let line : descriptor s % 32 ≡ s .line = omega arith in
+    let upper : descriptor s / 32 ≡ s .reserved + 4 * s .field .0 = omega arith in
+    let lower : (s .reserved + 4 * s .field .0) % 4 ≡ s .reserved = omega arith in
+    let reserved : descriptor s / 32 % 4 ≡ s .reserved = ap (λ (n : ℕ). n % 4) upper ∙ lower in
+    let field : descriptor s / 128 ≡ s .field .0 = omega arith in
+    λ i. record { full = mark i; line = line i; reserved = reserved i; field = record { 0 = field i } }
+
+empty-slotOf : slotOf 0 ≡ empty
+unfolding slotOf
+empty-slotOf = refl
+
+pub slotOf-descriptor : (x : SlotRow) → LegalSlot x → slotOf (descriptor (x .slot)) ≡ x .slot
+slotOf-descriptor x h = ⊎-elim (λ e. subst (λ (y : SlotRow). slotOf (descriptor (y .slot)) ≡ y .slot) (sym e) empty-slotOf) (full-slotOf x) h
+
+pub descriptor-below : (x : SlotRow) → LegalSlot x → descriptor (x .slot) < 256
+descriptor-below x h =
+    ⊎-elim (λ e. subst (λ (y : SlotRow). descriptor (y .slot) < 256) (sym e) (omega arith)) (λ full. one full) h
+  where
+    one : FullSlot x → descriptor (x .slot) < 256
+    one full =
+        let below : x .slot .line < 32 = legal-below (x .slot .line) (full .line) in
+        omega (arith, full .reserved, full .field)
+
+pub descriptors-below : (xs : List SlotRow) → Each LegalSlot xs → Bytes (descriptorsOf xs)
+descriptors-below [] h = tt
+descriptors-below (x ∷ xs) h = (descriptor-below x (h .0), descriptors-below xs (h .1))
+
+legal-line : (x : SlotRow) → LegalSlot x → LegalLine (descriptor (x .slot) % 32)
+legal-line x h = ⊎-elim (λ e. subst (λ (y : SlotRow). LegalLine (descriptor (y .slot) % 32)) (sym e) (inl refl)) (λ full. one full) h
+  where
+    one : FullSlot x → LegalLine (descriptor (x .slot) % 32)
+    one full =
+        let below : x .slot .line < 32 = legal-below (x .slot .line) (full .line) in
+        let line : descriptor (x .slot) % 32 ≡ x .slot .line = omega arith in
+        subst LegalLine (sym line) (full .line)
+
+pub lines-accepted : (at : ℕ) (xs : List SlotRow) → Each LegalSlot xs → descriptorsVerdict at (descriptorsOf xs) ≡ Accepted
+lines-accepted at [] h = refl
+lines-accepted at (x ∷ xs) h =
+    accepted-andThen _ _ (line-accepted (Word at) (descriptor (x .slot) % 32) (legal-line x (h .0))) (lines-accepted (suc at) xs (h .1))

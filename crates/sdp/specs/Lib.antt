@@ -1,0 +1,4 @@
+pub mod Value
+pub mod Layout
+pub mod User
+pub mod Holdable
