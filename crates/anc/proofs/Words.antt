@@ -7,13 +7,13 @@ use mathlib.Core.Path.{_≡_, ap₂, refl, sym}
 use mathlib.Core.Bool.{not}
 use mathlib.Core.List.{List, [], _∷_, map}
 use lib.Dec.{eqb, ltb}
-use borrow.Author.Tests.{eqb-true, eq-eqb, ne-eqb, le-ltb, not-false}
+use borrow.Author.Tests.{eq-eqb, ne-eqb, le-ltb}
 use Rattle.lists.specs.Bytes.{Bytes}
 use Rattle.refusal.specs.declared.Verdict.the-variants.{Accepted}
 use Rattle.refusal.specs.declared.Reason.the-variants.{WordRange, WordParity}
 use Rattle.refusal.specs.declared.Item.the-variants.{Word}
 use Rattle.refusal.specs.Checks.{refuseIf, andThen}
-use Rattle.refusal.proofs.Checks.{refuseIf-accepted, andThen-accepted, accepted-andThen}
+use Rattle.refusal.proofs.Checks.{andThen-accepted, accepted-andThen, equal-accepted}
 use Rattle.anc.specs.Words.{parityOf, wordOf, byteOf, wordVerdict, wordsVerdict, nineBitSum, checksumOf, sumVerdict}
 
 -- a parity is a bit
@@ -50,7 +50,7 @@ unfolding wordVerdict
 accepted-word place w e =
     let parity = refuseIf (not (eqb w (wordOf (byteOf w)))) WordParity (Word place) in
     let two = andThen-accepted parity Accepted (andThen-accepted (refuseIf (ltb 1023 w) WordRange (Word place)) (andThen parity Accepted) e .1) in
-    sym (eqb-true w (wordOf (byteOf w)) (not-false _ (refuseIf-accepted _ WordParity (Word place) (two .0))))
+    sym (equal-accepted w (wordOf (byteOf w)) WordParity (Word place) (two .0))
 
 -- the words of bytes are accepted
 pub words-accepted : (place : ℕ) (bs : List ℕ) → Bytes bs → wordsVerdict place (map wordOf bs) ≡ Accepted

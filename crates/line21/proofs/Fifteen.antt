@@ -4,7 +4,6 @@ use Prim.Native.Nat.{ℕ}
 use mathlib.Core.Path.{_≡_, _∙_, ap, sym, refl}
 use mathlib.Core.Logic.{inl}
 use mathlib.Core.List.{[], _∷_}
-use borrow.Author.Tests.{ltb-false}
 use lib.Dec.{ltb}
 use lib.ListN.{length}
 use Rattle.refusal.specs.declared.Refusal.{Refusal}
@@ -15,7 +14,7 @@ use Rattle.refusal.specs.declared.Excess.the-variants.{Count, CcValid, Padding}
 use Rattle.refusal.specs.declared.Item.the-variants.{Whole}
 use Rattle.refusal.specs.Numbers.{refusalOf}
 use Rattle.refusal.specs.Checks.{refuseIf, andThen, first}
-use Rattle.refusal.proofs.Checks.{refuseIf-accepted, andThen-accepted, andThen-assoc}
+use Rattle.refusal.proofs.Checks.{andThen-accepted, andThen-assoc, within-accepted}
 use Rattle.refusal.proofs.Gives.{Gives, refuseIf-gives, andThen-gives, each-gives, refused-gives}
 use Rattle.line21.specs.declared.AccessUnit.{AccessUnit}
 use Rattle.line21.specs.declared.Payload.{Payload}
@@ -54,7 +53,7 @@ numbers-legal : (p : Payload) → Typed p → numbers p ≡ Accepted → LegalPa
 unfolding numbers
 numbers-legal p t e =
     let both = andThen-accepted (refuseIf (ltb 291 (p .m)) (Unholdable Count) Whole) (unitsVerdict (held p .units)) e in
-    checked-legal p t (ltb-false 291 (p .m) (refuseIf-accepted _ _ _ (both .0))) (both .1)
+    checked-legal p t (within-accepted 291 (p .m) _ _ (both .0)) (both .1)
 
 pub illegal-15 : (p : Payload) (room : ℕ) → Typed p → (LegalPayload p → ⊥) → refusalOf (valueVerdict p room) ≡ record { number = 15; place = 0 }
 illegal-15 p room t h =

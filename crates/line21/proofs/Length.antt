@@ -3,9 +3,9 @@
 use Prim.Native.Nat.{ℕ, _+_, _-_, _*_, _%_, _≤_}
 use native.Mathlib.Omega.{arith}
 use mathlib.Core.Path.{_≡_}
-use borrow.Author.Tests.{eqb-true, eqb-false, ltb-false, not-false, ne-eqb, le-ltb, eq-eqb}
+use borrow.Author.Tests.{eqb-false, ne-eqb, le-ltb, eq-eqb}
 use Rattle.refusal.specs.declared.Verdict.the-variants.{Accepted}
-use Rattle.refusal.proofs.Checks.{refuseIf-accepted, andThen-accepted}
+use Rattle.refusal.proofs.Checks.{refuseIf-accepted, andThen-accepted, equal-accepted, within-accepted}
 use Rattle.line21.specs.Reading.{lengthVerdict, unitCount}
 
 pub record WholeUnits (n : ℕ) : Type 0 where
@@ -19,8 +19,8 @@ accepted-whole n e =
     let long = andThen-accepted _ _ (start .1) in
     let fit = andThen-accepted _ _ (long .1) in
     let some = eqb-false n 0 (refuseIf-accepted _ _ _ (start .0)) in
-    let within : n ≤ 1456 = ltb-false 1456 n (refuseIf-accepted _ _ _ (long .0)) in
-    let whole : (n - 1) % 5 ≡ 0 = eqb-true ((n - 1) % 5) 0 (not-false _ (refuseIf-accepted _ _ _ (fit .0))) in
+    let within : n ≤ 1456 = within-accepted 1456 n _ _ (long .0) in
+    let whole : (n - 1) % 5 ≡ 0 = equal-accepted ((n - 1) % 5) 0 _ _ (fit .0) in
     record { exact = omega arith; most = omega arith }
 
 pub whole-accepted : (n m : ℕ) → n ≡ 1 + 5 * m → m ≤ 291 → lengthVerdict n ≡ Accepted

@@ -8,14 +8,14 @@ use mathlib.Core.List.{List}
 use lib.Dec.{ltb}
 use lib.ListN.{length, drop, getD}
 use lib.Seq.{drop-cons, length-take-le}
-use borrow.Author.Tests.{ltb-false, le-ltb}
+use borrow.Author.Tests.{le-ltb}
 use Rattle.lists.specs.Each.{Each}
 use Rattle.lists.proofs.Each.{each-at, each-take, each-map, each-both}
 use Rattle.refusal.specs.declared.Verdict.the-variants.{Accepted}
 use Rattle.refusal.specs.declared.Reason.the-variants.{NoRoom}
 use Rattle.refusal.specs.declared.Item.the-variants.{Whole}
 use Rattle.refusal.specs.Checks.{refuseIf, andThen}
-use Rattle.refusal.proofs.Checks.{refuseIf-accepted, andThen-accepted, each-accepted, accepted-each, andThen-last}
+use Rattle.refusal.proofs.Checks.{andThen-accepted, each-accepted, accepted-each, andThen-last, within-accepted}
 use Rattle.line21.specs.declared.AccessUnit.{AccessUnit}
 use Rattle.line21.specs.declared.Payload.{Payload}
 use Rattle.line21.specs.Value.{HoldableUnit, LegalUnit, ByteUnit, LegalPayload, Typed, blank, held}
@@ -29,9 +29,9 @@ accepted-unit u e =
     let one = andThen-accepted _ _ e in
     let two = andThen-accepted _ _ (one .1) in
     let three = andThen-accepted _ _ (two .1) in
-    let a = ltb-false 1 (u .«cc_valid_1») (refuseIf-accepted _ _ _ (one .0)) in
-    let b = ltb-false 1 (u .«cc_valid_2») (refuseIf-accepted _ _ _ (two .0)) in
-    let c = ltb-false 63 (u .padding) (refuseIf-accepted _ _ _ (three .0)) in
+    let a = within-accepted 1 (u .«cc_valid_1») _ _ (one .0) in
+    let b = within-accepted 1 (u .«cc_valid_2») _ _ (two .0) in
+    let c = within-accepted 63 (u .padding) _ _ (three .0) in
     record { valid-1 = omega arith; valid-2 = omega arith; pad = omega arith }
 
 pub unit-accepted : (u : AccessUnit) → HoldableUnit u → unitVerdict u ≡ Accepted
@@ -92,10 +92,10 @@ accepted-value p room e =
     let long = andThen-accepted _ _ (units .1) in
     let fit = andThen-accepted _ _ (long .1) in
     record {
-      few = ltb-false 291 (p .m) (refuseIf-accepted _ _ _ (count .0));
+      few = within-accepted 291 (p .m) _ _ (count .0);
       each = units .0;
-      short = ltb-false 1456 (length (layout (held p))) (refuseIf-accepted _ _ _ (long .0));
-      fits = ltb-false room (length (layout (held p))) (refuseIf-accepted _ _ _ (fit .0));
+      short = within-accepted 1456 (length (layout (held p))) _ _ (long .0);
+      fits = within-accepted room (length (layout (held p))) _ _ (fit .0);
     }
 
 pub value-accepted : (p : Payload) (room : ℕ) → Writable p room → valueVerdict p room ≡ Accepted

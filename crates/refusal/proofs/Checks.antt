@@ -1,10 +1,12 @@
 -- An order of checks accepts exactly where each of its checks does.
 -- Assumes nothing.
-use Prim.Native.Nat.{ℕ}
+use Prim.Native.Nat.{ℕ, _≤_}
 use native.Mathlib.Omega.{arith}
 use mathlib.Core.Path.{_≡_, _∙_, ap, sym, refl}
-use mathlib.Core.Bool.{Bool, true, false}
+use mathlib.Core.Bool.{Bool, true, false, not}
 use mathlib.Core.List.{List, [], _∷_, map}
+use borrow.Author.Tests.{eqb-true, ltb-false, not-false}
+use lib.Dec.{eqb, ltb}
 use Rattle.lists.specs.Each.{Each}
 use Rattle.refusal.specs.declared.Reason.{Reason}
 use Rattle.refusal.specs.declared.Item.{Item}
@@ -19,6 +21,13 @@ refused-not-accepted reason item e = let z : _≡_ {A = ℕ} 0 1 = cc in let f :
 pub refuseIf-accepted : (fault : Bool) (reason : Reason) (item : Item) → refuseIf fault reason item ≡ Accepted → fault ≡ false
 refuseIf-accepted true reason item e = refused-not-accepted reason item e
 refuseIf-accepted false reason item e = refl
+
+-- a check that two numbers are equal, and one that a number is not above its limit
+pub equal-accepted : (a b : ℕ) (reason : Reason) (item : Item) → refuseIf (not (eqb a b)) reason item ≡ Accepted → a ≡ b
+equal-accepted a b reason item e = eqb-true a b (not-false (eqb a b) (refuseIf-accepted (not (eqb a b)) reason item e))
+
+pub within-accepted : (limit n : ℕ) (reason : Reason) (item : Item) → refuseIf (ltb limit n) reason item ≡ Accepted → n ≤ limit
+within-accepted limit n reason item e = ltb-false limit n (refuseIf-accepted (ltb limit n) reason item e)
 
 pub accepted-refuseIf : (fault : Bool) (reason : Reason) (item : Item) → fault ≡ false → refuseIf fault reason item ≡ Accepted
 accepted-refuseIf fault reason item e = ap (λ (t : Bool). refuseIf t reason item) e

@@ -2,27 +2,13 @@
 -- Assumes nothing.
 use Prim.Native.Nat.{ℕ, _+_, _-_, _%_, _≤_}
 use mathlib.Core.Path.{_≡_}
-use mathlib.Core.Bool.{not}
 use mathlib.Core.List.{List}
-use lib.Dec.{eqb, ltb}
 use lib.ListN.{length, getD, drop}
-use borrow.Author.Tests.{eqb-true, ltb-false, not-false}
 use Rattle.lists.specs.Sum.{sum}
-use Rattle.refusal.specs.declared.Reason.{Reason}
-use Rattle.refusal.specs.declared.Item.{Item}
 use Rattle.refusal.specs.declared.Verdict.the-variants.{Accepted}
-use Rattle.refusal.specs.Checks.{refuseIf}
-use Rattle.refusal.proofs.Checks.{refuseIf-accepted, andThen-accepted}
+use Rattle.refusal.proofs.Checks.{andThen-accepted, equal-accepted, within-accepted}
 use Rattle.sdp.specs.Layout.{userLength}
 use Rattle.sdp.specs.User.{descriptorsIn, descriptorsVerdict, structuresIn, structuresVerdict, headVerdict, tailVerdict}
-
--- a check that two numbers are equal
-pub same : (a b : ℕ) (reason : Reason) (item : Item) → refuseIf (not (eqb a b)) reason item ≡ Accepted → a ≡ b
-same a b reason item e = eqb-true a b (not-false (eqb a b) (refuseIf-accepted (not (eqb a b)) reason item e))
-
--- a check that a number is not below another
-pub enough : (a b : ℕ) (reason : Reason) (item : Item) → refuseIf (ltb a b) reason item ≡ Accepted → b ≤ a
-enough a b reason item e = ltb-false a b (refuseIf-accepted (ltb a b) reason item e)
 
 -- what stands before the structures
 pub record Head (dc : ℕ) (u : List ℕ) : Type 0 where
@@ -45,13 +31,13 @@ accepted-head dc u e =
     let lines = andThen-accepted _ _ (format .1) in
     let whole = andThen-accepted _ _ (lines .1) in
     record {
-      long = enough _ _ _ _ (long .0);
-      first = same _ _ _ _ (first .0);
-      second = same _ _ _ _ (second .0);
-      counted = same _ _ _ _ (counted .0);
-      format = same _ _ _ _ (format .0);
+      long = within-accepted _ _ _ _ (long .0);
+      first = equal-accepted _ _ _ _ (first .0);
+      second = equal-accepted _ _ _ _ (second .0);
+      counted = equal-accepted _ _ _ _ (counted .0);
+      format = equal-accepted _ _ _ _ (format .0);
       lines = lines .0;
-      whole = same _ _ _ _ (whole .0);
+      whole = equal-accepted _ _ _ _ (whole .0);
     }
 
 -- the structures and what stands behind them
@@ -66,4 +52,4 @@ accepted-tail dc u e =
     let fixed = andThen-accepted _ _ e in
     let footer = andThen-accepted _ _ (fixed .1) in
     let total = andThen-accepted _ _ (footer .1) in
-    record { fixed = fixed .0; footer = same _ _ _ _ (footer .0); total = same _ _ _ _ (total .0) }
+    record { fixed = fixed .0; footer = equal-accepted _ _ _ _ (footer .0); total = equal-accepted _ _ _ _ (total .0) }

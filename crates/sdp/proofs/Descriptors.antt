@@ -11,12 +11,8 @@ use Rattle.lists.proofs.Part.{length-part}
 use Rattle.anc.specs.Words.{byteOf}
 use Rattle.sdp.specs.Layout.{count}
 use Rattle.sdp.specs.User.{descriptorsIn, structuresIn, markOf}
-use Rattle.sdp.proofs.Slots.{markOf-some}
 use Rattle.sdp.proofs.Numbers.{count-most}
 use Rattle.sdp.proofs.Bytes.{byte-from}
-
-pub mark-some : (d : ℕ) → (d ≡ 0 → ⊥) → markOf d ≡ 1
-mark-some d h = let some : 0 < d = omega (arith, h) in markOf-some d some
 
 -- five descriptors tell of no more than five structures
 pub few-structures : (u : List ℕ) → structuresIn u ≤ 5

@@ -6,14 +6,14 @@ use mathlib.Core.Path.{_≡_, _∙_, ap, sym, refl}
 use mathlib.Core.Logic.{inl, inr, ⊎-elim}
 use mathlib.Core.Bool.{Bool, true, false, not, _&&_, true≢false}
 use mathlib.Core.List.{List, [], _∷_, map}
-use borrow.Author.Tests.{ltb-false, le-ltb, eqb-true, eqb-false, ne-eqb, not-false}
+use borrow.Author.Tests.{le-ltb, eqb-true, eqb-false, ne-eqb, not-false}
 use lib.Dec.{eqb}
 use lib.ListN.{length, replicate, length-append, length-map}
 use Rattle.lists.specs.Each.{Each}
 use Rattle.lists.proofs.Each.{each-map, each-both}
 use Rattle.refusal.specs.declared.Verdict.the-variants.{Accepted}
 use Rattle.refusal.specs.declared.Item.the-variants.{Whole}
-use Rattle.refusal.proofs.Checks.{refuseIf-accepted, andThen-accepted, each-accepted, accepted-each}
+use Rattle.refusal.proofs.Checks.{refuseIf-accepted, andThen-accepted, each-accepted, accepted-each, within-accepted}
 use Rattle.sdp.specs.declared.Slot.{Slot}
 use Rattle.sdp.specs.declared.Packet.{Packet}
 use Rattle.sdp.specs.Value.{SlotRow, Sdp, descriptor, zeros, together, emptyRow, LegalLine, FullSlot, LegalSlot, Legal, beside, held, Row, Typed}
@@ -83,10 +83,10 @@ accepted-slot x typed e =
     let legal = andThen-accepted _ _ (writable .1) in
     let small : Small s =
     record {
-      full = ltb-false 1 (s .full) (refuseIf-accepted _ _ _ (full .0));
-      line = ltb-false 31 (s .line) (refuseIf-accepted _ _ _ (line .0));
-      reserved = ltb-false 3 (s .reserved) (refuseIf-accepted _ _ _ (reserved .0));
-      field = ltb-false 1 (s .field .0) (refuseIf-accepted _ _ _ (field .0));
+      full = within-accepted 1 (s .full) _ _ (full .0);
+      line = within-accepted 31 (s .line) _ _ (line .0);
+      reserved = within-accepted 3 (s .reserved) _ _ (reserved .0);
+      field = within-accepted 1 (s .field .0) _ _ (field .0);
     } in
     legal-marked x typed small (accepted-line Whole (s .line) (legal .0)) (s .full) refl (refuseIf-accepted _ _ _ (writable .0))
 

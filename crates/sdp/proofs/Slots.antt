@@ -52,9 +52,9 @@ pub descriptor-slotOf : (d : ℕ) → d < 256 → descriptor (slotOf d) ≡ d
 unfolding slotOf
 descriptor-slotOf d h = omega arith
 
-pub markOf-some : (d : ℕ) → 0 < d → markOf d ≡ 1
-markOf-some zero h = let f : ⊥ = omega arith in absurd f
-markOf-some (suc d) h = refl
+pub mark-some : (d : ℕ) → (d ≡ 0 → ⊥) → markOf d ≡ 1
+mark-some zero h = absurd (h refl)
+mark-some (suc d) h = refl
 
 -- and a legal slot is what its descriptor tells of
 full-slotOf : (x : SlotRow) → FullSlot x → slotOf (descriptor (x .slot)) ≡ x .slot
@@ -64,7 +64,7 @@ full-slotOf x h =
     let below : s .line < 32 = legal-below (s .line) (h .line) in
     let two = h .field in
     let four = h .reserved in
-    let mark : markOf (descriptor s) ≡ s .full = markOf-some (descriptor s) (h .some) ∙ sym (h .mark) in
+    let mark : markOf (descriptor s) ≡ s .full = mark-some (descriptor s) (λ e. omega (arith, h .some)) ∙ sym (h .mark) in
     let line : descriptor s % 32 ≡ s .line = omega arith in
     let upper : descriptor s / 32 ≡ s .reserved + 4 * s .field .0 = omega arith in
     let lower : (s .reserved + 4 * s .field .0) % 4 ≡ s .reserved = omega arith in

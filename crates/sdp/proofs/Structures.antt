@@ -5,7 +5,6 @@ use native.Mathlib.Omega.{arith}
 use mathlib.Core.Path.{_≡_, _∙_, ap, ap₂, sym, refl}
 use mathlib.Core.Logic.{inl, inr, ⊎-elim}
 use mathlib.Core.List.{List, [], _∷_, _++_, append-assoc}
-use borrow.Author.Tests.{eqb-true, not-false}
 use lib.ListN.{length, take, drop, length-drop, take-append-drop}
 use lib.Seq.{take-at, drop-at, drop-drop, length-take-le}
 use Rattle.lists.specs.Each.{Each}
@@ -13,7 +12,7 @@ use Rattle.lists.specs.Bytes.{Bytes}
 use Rattle.lists.proofs.Each.{each-take, each-drop}
 use Rattle.refusal.specs.declared.Verdict.the-variants.{Accepted}
 use Rattle.refusal.specs.declared.Item.the-variants.{Word}
-use Rattle.refusal.proofs.Checks.{refuseIf-accepted, andThen-accepted}
+use Rattle.refusal.proofs.Checks.{andThen-accepted, equal-accepted}
 use Rattle.sdp.specs.Value.{SlotRow, together, descriptor, zeros, FullSlot, LegalSlot}
 use Rattle.sdp.specs.Layout.{descriptorsOf, count, structure, structures}
 use Rattle.sdp.specs.User.{lineVerdict, descriptorsVerdict, structureVerdict, structuresVerdict, slotOf, rowIn, behind, slotsIn}
@@ -104,9 +103,9 @@ begins at (a ∷ b ∷ c ∷ u) h e =
     let one = andThen-accepted _ _ e in
     let two = andThen-accepted _ _ (one .1) in
     let three = andThen-accepted _ _ (two .1) in
-    let first : a ≡ 0x55 = eqb-true a 0x55 (not-false _ (refuseIf-accepted _ _ _ (one .0))) in
-    let second : b ≡ 0x55 = eqb-true b 0x55 (not-false _ (refuseIf-accepted _ _ _ (two .0))) in
-    let third : c ≡ 0x27 = eqb-true c 0x27 (not-false _ (refuseIf-accepted _ _ _ (three .0))) in
+    let first : a ≡ 0x55 = equal-accepted a 0x55 _ _ (one .0) in
+    let second : b ≡ 0x55 = equal-accepted b 0x55 _ _ (two .0) in
+    let third : c ≡ 0x27 = equal-accepted c 0x27 _ _ (three .0) in
     λ i. first i ∷ second i ∷ third i ∷ u
 
 -- the structure of a descriptor that is not 0, and what stands behind it

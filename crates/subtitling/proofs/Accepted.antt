@@ -5,10 +5,10 @@ use mathlib.Core.Path.{_≡_}
 use mathlib.Core.List.{List}
 use lib.ListN.{length, getD}
 use Rattle.refusal.specs.declared.Verdict.the-variants.{Accepted}
-use Rattle.refusal.proofs.Checks.{andThen-accepted}
+use Rattle.refusal.proofs.Checks.{andThen-accepted, equal-accepted, within-accepted}
 use Rattle.anc.specs.Words.{wordsVerdict, sumVerdict, checksumOf}
 use Rattle.sdp.specs.User.{headVerdict, tailVerdict}
-use Rattle.sdp.proofs.Accepted.{same, enough, Head, accepted-head, Tail, accepted-tail}
+use Rattle.sdp.proofs.Accepted.{Head, accepted-head, Tail, accepted-tail}
 use Rattle.subtitling.specs.Reading.{coveredIn, userIn, lastOf, formVerdict, headerVerdict, checksumVerdict, packetVerdict}
 
 -- the length, the flag, and that each word is one
@@ -32,11 +32,11 @@ accepted-form s e =
     let words = andThen-accepted _ _ (flag2 .1) in
     let last = andThen-accepted _ _ (words .1) in
     record {
-      short = enough _ _ _ _ (short .0);
-      long = enough _ _ _ _ (long .0);
-      flag0 = same _ _ _ _ (flag0 .0);
-      flag1 = same _ _ _ _ (flag1 .0);
-      flag2 = same _ _ _ _ (flag2 .0);
+      short = within-accepted _ _ _ _ (short .0);
+      long = within-accepted _ _ _ _ (long .0);
+      flag0 = equal-accepted _ _ _ _ (flag0 .0);
+      flag1 = equal-accepted _ _ _ _ (flag1 .0);
+      flag2 = equal-accepted _ _ _ _ (flag2 .0);
       words = words .0;
       last = last .0;
     }
@@ -53,11 +53,11 @@ accepted-header s e =
     let did = andThen-accepted _ _ e in
     let sdid = andThen-accepted _ _ (did .1) in
     let dc = andThen-accepted _ _ (sdid .1) in
-    record { did = same _ _ _ _ (did .0); sdid = same _ _ _ _ (sdid .0); dc = same _ _ _ _ (dc .0) }
+    record { did = equal-accepted _ _ _ _ (did .0); sdid = equal-accepted _ _ _ _ (sdid .0); dc = equal-accepted _ _ _ _ (dc .0) }
 
 pub accepted-checksum : (s : List ℕ) → checksumVerdict s ≡ Accepted → lastOf s ≡ checksumOf (coveredIn s)
 unfolding checksumVerdict
-accepted-checksum s e = same _ _ _ _ e
+accepted-checksum s e = equal-accepted _ _ _ _ e
 
 -- the whole packet
 pub record Whole (s : List ℕ) : Type 0 where

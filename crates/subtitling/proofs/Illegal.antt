@@ -5,7 +5,6 @@ use mathlib.Core.Path.{_≡_, sym, subst, refl}
 use mathlib.Core.Logic.{_⊎_, inl, inr}
 use mathlib.Core.Bool.{_&&_, _||_}
 use mathlib.Core.List.{List, [], _∷_}
-use borrow.Author.Tests.{ltb-false}
 use lib.Dec.{ltb}
 use lib.ListN.{length}
 use Rattle.refusal.specs.declared.Refusal.{Refusal}
@@ -16,7 +15,7 @@ use Rattle.refusal.specs.declared.Excess.the-variants.{Counter, SlotMark, SlotL
 use Rattle.refusal.specs.declared.Item.the-variants.{Whole}
 use Rattle.refusal.specs.Numbers.{refusalOf}
 use Rattle.refusal.specs.Checks.{refuseIf, andThen, first}
-use Rattle.refusal.proofs.Checks.{refuseIf-accepted, andThen-accepted, andThen-assoc}
+use Rattle.refusal.proofs.Checks.{andThen-accepted, andThen-assoc, within-accepted}
 use Rattle.refusal.proofs.Gives.{Gives, refuseIf-gives, andThen-gives, each-gives, refused-gives}
 use Rattle.sdp.specs.declared.Packet.{Packet}
 use Rattle.sdp.specs.Value.{SlotRow, Sdp, Typed, Legal, descriptor, held}
@@ -62,6 +61,6 @@ illegal-15-or-7 p rows room t h =
     let refused : andThen (counted v) (slotsVerdict (v .slots)) ≡ Accepted → ⊥ =
     λ e.
     let both = andThen-accepted (counted v) (slotsVerdict (v .slots)) e in
-    h (legal-held p rows t (ltb-false 65535 (p .counter) (refuseIf-accepted _ _ _ (both .0))) (both .1)) in
+    h (legal-held p rows t (within-accepted 65535 (p .counter) _ _ (both .0)) (both .1)) in
     subst (λ (verdict : Verdict). Is15or7 (refusalOf verdict)) (sym (value-first v room))
     (refused-gives Is15or7 (andThen (counted v) (slotsVerdict (v .slots))) (rest v room) (value-gives v) refused)

@@ -4,10 +4,10 @@ use Prim.Native.Nat.{ℕ, _+_, _*_, _≤_}
 use native.Mathlib.Omega.{arith}
 use mathlib.Core.Path.{_≡_}
 use mathlib.Core.List.{List}
-use borrow.Author.Tests.{ltb-false, le-ltb}
+use borrow.Author.Tests.{le-ltb}
 use lib.ListN.{length, length-append, length-map}
 use Rattle.refusal.specs.declared.Verdict.the-variants.{Accepted}
-use Rattle.refusal.proofs.Checks.{refuseIf-accepted, andThen-accepted}
+use Rattle.refusal.proofs.Checks.{andThen-accepted, within-accepted}
 use Rattle.sdp.specs.Value.{Sdp, Legal}
 use Rattle.sdp.specs.Layout.{descriptorsOf, count, userBytes}
 use Rattle.sdp.proofs.Numbers.{Shaped, legal-shaped, length-user-shaped}
@@ -41,10 +41,10 @@ accepted-value v room e =
     let long = andThen-accepted _ _ (slots .1) in
     let fit = andThen-accepted _ _ (long .1) in
     record {
-      few = ltb-false 65535 (v .counter) (refuseIf-accepted _ _ _ (count .0));
+      few = within-accepted 65535 (v .counter) _ _ (count .0);
       each = slots .0;
-      short = ltb-false 245 (length (layout v)) (refuseIf-accepted _ _ _ (long .0));
-      fits = ltb-false room (length (layout v)) (refuseIf-accepted _ _ _ (fit .0));
+      short = within-accepted 245 (length (layout v)) _ _ (long .0);
+      fits = within-accepted room (length (layout v)) _ _ (fit .0);
     }
 
 pub value-accepted : (v : Sdp) (room : ℕ) → Writable v room → valueVerdict v room ≡ Accepted

@@ -13,7 +13,7 @@ use mathlib.Core.Bool.{Bool, true, false, not}
 use mathlib.Core.List.{List}
 use borrow.Author.Tests.{eqb-true, lt-ltb, le-ltb}
 use lib.Dec.{eqb}
-use lib.ListN.{length, getD, take, drop, length-map}
+use lib.ListN.{length, getD, take, drop}
 use lib.Seq.{take-append-seam}
 use Rattle.lists.specs.Room.{over}
 use Rattle.refusal.specs.declared.Refusal.{Refusal}
@@ -29,13 +29,14 @@ use Rattle.refusal.proofs.Acceptance.{told-accepted}
 use Rattle.refusal.proofs.Outputs.{wrote-accepted, accepted-wrote, wrote-refusal, success-left, refusal-left, wrote-determined}
 use Rattle.sdp.specs.declared.Packet.{Packet}
 use Rattle.subtitling.specs.declared.Answer.{Answer}
-use Rattle.sdp.specs.Value.{SlotRow, Sdp, Legal, descriptor, none, held, numbersOf, rowsOf}
+use Rattle.sdp.specs.Value.{Sdp, Legal, none, held, numbersOf, rowsOf}
 use Rattle.sdp.specs.Layout.{descriptorsOf, count}
 use Rattle.subtitling.specs.Layout.{layout}
 use Rattle.subtitling.specs.Reading.{formVerdict, packetVerdict, valueOf, found, Reads, ReadsRows}
 use Rattle.subtitling.specs.Writing.{valueVerdict, Writes}
 use Rattle.sdp.proofs.Beside.{held-apart, numbers-held, rows-held}
-use Rattle.sdp.proofs.Numbers.{count-most, slots-accepted, legal-held}
+use Rattle.sdp.proofs.Numbers.{slots-accepted, legal-held}
+use Rattle.sdp.proofs.LegalBytes.{few}
 use Rattle.subtitling.proofs.Numbers.{length-layout, accepted-value, value-accepted}
 use Rattle.subtitling.proofs.Back.{layout-accepted, value-layout, packet-legal}
 use Rattle.subtitling.proofs.Illegal.{Is15or7, illegal-15-or-7}
@@ -100,7 +101,7 @@ refused-zero s r rows p q h =
 
 -- A packet with k structures has 20 + 45k words, 20 to 245.
 pub layout-size : (v : Sdp) → Legal v → (length (layout v) ≡ 20 + 45 * count (descriptorsOf (v .slots))) × (count (descriptorsOf (v .slots)) ≤ 5)
-layout-size v h = (length-layout v h, omega (arith, count-most (descriptorsOf (v .slots)), length-map (v .slots) (λ (x : SlotRow). descriptor (x .slot)), h .five))
+layout-size v h = (length-layout v h, few v h)
 
 pub accepted-size : (s : List ℕ) (r : Answer) → Reads s r → r .refusal .number ≡ 0 → (k : ℕ) × (k ≤ 5) × (length s ≡ 20 + 45 * k)
 accepted-size s r p e =

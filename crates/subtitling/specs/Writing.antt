@@ -27,7 +27,7 @@ valueVerdict v room =
     ∷ refuseIf (ltb room (length (layout v))) NoRoom Whole
     ∷ [])
 
--- a packet without its two checksums, and then with them
+-- a packet without its two checksums, and then with them: what the last step of the code does. The promise below does not use them
 abbrev pub summed : List ℕ → List ℕ
 summed front = front ++ (wordOf (sdpChecksum (map byteOf (drop 6 front))) ∷ [])
 

@@ -58,7 +58,7 @@ fn judge_value(p: Packet, rows: [[u8; ROW_BYTES]; SLOTS], room: usize) -> Verdic
     Verdict::Accepted
 }
 
-// Stores the layout of a value that was judged.
+// Stores the layout of a value that was judged: 10 words up to the descriptors, these 5, the structures, 3 of the footer, and the two sums.
 fn put(p: Packet, rows: [[u8; ROW_BYTES]; SLOTS], out: &mut [u16])
     requires { ⌜ valueVerdict (held p rows) (length (now out)) ≡ Accepted ⌝ }
     ensures { λ _. ⌜ now (out .exit) ≡ over (layout (held p rows)) (now (out .entry)) ⌝ }

@@ -12,7 +12,8 @@ use Rattle.sdp.specs.Value.{descriptor, empty}
 use Rattle.sdp.specs.Layout.{count}
 use Rattle.sdp.specs.User.{markOf}
 use Rattle.sdp.proofs.Types.{five}
-use Rattle.sdp.proofs.Descriptors.{mark-some, count-more}
+use Rattle.sdp.proofs.Slots.{mark-some}
+use Rattle.sdp.proofs.Descriptors.{count-more}
 use Rattle.sdp.proofs.holding.count.Statement.{statement}
 use Rattle.sdp.proofs.holding.count.Tie as tie
 

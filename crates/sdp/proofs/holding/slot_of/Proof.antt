@@ -6,7 +6,7 @@ use mathlib.Core.Logic.{⊎-elim}
 use borrow.Author.Needs.{needs}
 use Rattle.sdp.specs.declared.Slot.{Slot}
 use Rattle.sdp.specs.User.{markOf, slotOf}
-use Rattle.sdp.proofs.Descriptors.{mark-some}
+use Rattle.sdp.proofs.Slots.{mark-some}
 use Rattle.sdp.proofs.holding.slot_of.Statement.{statement}
 use Rattle.sdp.proofs.holding.slot_of.Tie as tie
 

@@ -11,7 +11,8 @@ use lib.Seq.{take-all}
 use Rattle.anc.specs.Words.{byteOf}
 use Rattle.sdp.specs.Layout.{count}
 use Rattle.sdp.specs.User.{descriptorsIn, markOf}
-use Rattle.sdp.proofs.Descriptors.{mark-some, count-more, descriptor-at, length-descriptors}
+use Rattle.sdp.proofs.Slots.{mark-some}
+use Rattle.sdp.proofs.Descriptors.{count-more, descriptor-at, length-descriptors}
 use Rattle.sdp.proofs.user.structures.Statement.{statement}
 use Rattle.sdp.proofs.user.structures.Tie as tie
 
