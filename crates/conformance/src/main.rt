@@ -1,5 +1,8 @@
 // Runs the vectors of every carriage that come on standard input, and prints what differs and how many ran.
 // The crate `vectors` has the form of a line.
+mod area_listing;
+mod area_reading;
+mod area_units;
 mod packet_reading;
 mod packet_writing;
 mod payload_reading;
@@ -19,6 +22,9 @@ const INPUT_ROOM: usize = 131072;
 pub(crate) const ROOM: usize = 40969;
 
 enum Operation {
+    AreaCclist,
+    AreaRead,
+    AreaUnits,
     PacketRead,
     PacketWrite,
     PayloadRead,
@@ -27,7 +33,7 @@ enum Operation {
 }
 
 // The places of the operations among the tallies.
-const OPERATIONS: usize = 5;
+const OPERATIONS: usize = 8;
 
 pub(crate) enum Outcome {
     Agrees,
@@ -44,24 +50,30 @@ fn main() {
     let mut buf = [0u8; LINE_ROOM];
     let tallies = run(&mut buf);
     let ran = tallies.ran;
-    vectors::print_tally(b"packet read", ran[0]);
-    vectors::print_tally(b"packet write", ran[1]);
-    vectors::print_tally(b"payload read", ran[2]);
-    vectors::print_tally(b"payload write", ran[3]);
-    vectors::print_tally(b"not known", ran[4]);
+    vectors::print_tally(b"area cclist", ran[0]);
+    vectors::print_tally(b"area read", ran[1]);
+    vectors::print_tally(b"area units", ran[2]);
+    vectors::print_tally(b"packet read", ran[3]);
+    vectors::print_tally(b"packet write", ran[4]);
+    vectors::print_tally(b"payload read", ran[5]);
+    vectors::print_tally(b"payload write", ran[6]);
+    vectors::print_tally(b"not known", ran[7]);
     let wrong = tallies.wrong;
     vectors::print_wrong(wrong);
 }
 
 fn place(operation: Operation) -> usize
-    ensures { λ r. ⌜ r < 5 ⌝ }
+    ensures { λ r. ⌜ r < 8 ⌝ }
 {
     match operation {
-        Operation::PacketRead => 0,
-        Operation::PacketWrite => 1,
-        Operation::PayloadRead => 2,
-        Operation::PayloadWrite => 3,
-        Operation::Unknown => 4,
+        Operation::AreaCclist => 0,
+        Operation::AreaRead => 1,
+        Operation::AreaUnits => 2,
+        Operation::PacketRead => 3,
+        Operation::PacketWrite => 4,
+        Operation::PayloadRead => 5,
+        Operation::PayloadWrite => 6,
+        Operation::Unknown => 7,
     }
 }
 
@@ -112,6 +124,15 @@ fn run_line(kind: Kind, line: &[u8], tallies: Tallies) -> Tallies {
 
 fn operation_of(vector: &[u8]) -> Operation {
     let name = vectors::field(vector, 0);
+    if check::same(name, b"area-cclist") {
+        return Operation::AreaCclist;
+    }
+    if check::same(name, b"area-read") {
+        return Operation::AreaRead;
+    }
+    if check::same(name, b"area-units") {
+        return Operation::AreaUnits;
+    }
     if check::same(name, b"packet-read") {
         return Operation::PacketRead;
     }
@@ -144,6 +165,9 @@ fn outcome_of(operation: Operation, vector: &[u8]) -> Outcome {
     let n = given.len;
     let k = wanted.len;
     match operation {
+        Operation::AreaCclist => area_listing::outcome(&input[..n], &expected[..k]),
+        Operation::AreaRead => area_reading::outcome(&input[..n], &expected[..k]),
+        Operation::AreaUnits => area_units::outcome(&input[..n], &expected[..k]),
         Operation::PacketRead => packet_reading::outcome(&input[..n], &expected[..k]),
         Operation::PacketWrite => packet_writing::outcome(&input[..n], &expected[..k]),
         Operation::PayloadRead => payload_reading::outcome(&input[..n], &expected[..k]),

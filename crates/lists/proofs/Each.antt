@@ -33,6 +33,11 @@ module _ {A : Type 0} (P : A → Type 0) where
   each-append [] ys h g = g
   each-append (x ∷ xs) ys h g = (h .0, each-append xs ys (h .1) g)
 
+  -- and the other way
+  pub append-each : (xs ys : List A) → Each P (xs ++ ys) → Each P xs × Each P ys
+  append-each [] ys h = (tt, h)
+  append-each (x ∷ xs) ys h = let both = append-each xs ys (h .1) in ((h .0, both .0), both .1)
+
 module _ {A : Type 0} (P Q R : A → Type 0) (f : (x : A) → P x → Q x → R x) where
   pub each-both : (xs : List A) → Each P xs → Each Q xs → Each R xs
   each-both [] h g = tt

@@ -4,7 +4,7 @@ use Prim.Native.Nat.{ℕ}
 use Rattle.refusal.specs.declared.Reason.{Reason}
 use Rattle.refusal.specs.declared.Reason.the-variants.{TooLong, NoStart, StartCode, SecondUnit, Ends, Unfixed, FieldNumberZero, DescriptorLine, FieldFalls, LineDoesNotRise, FifthPriority, SampledVideo, WordRange, WordParity, SdpChecksum, Checksum, Unfit, NoRoom, Unholdable}
 use Rattle.refusal.specs.declared.Item.{Item}
-use Rattle.refusal.specs.declared.Item.the-variants.{Whole, Body, Word, Length}
+use Rattle.refusal.specs.declared.Item.the-variants.{Whole, Bit, Body, Word, Length}
 use Rattle.refusal.specs.declared.Verdict.{Verdict}
 use Rattle.refusal.specs.declared.Verdict.the-variants.{Accepted, Refused}
 use Rattle.refusal.specs.declared.Refusal.{Refusal}
@@ -45,9 +45,10 @@ numberOf NoRoom = 14
 -- a number that its layout cannot hold
 numberOf (Unholdable which) = 15
 
--- the first byte of an area's unit when reading inside that unit's body gives the number, else 0
+-- the first byte of an area's unit when reading inside that unit's body gives the number, else 0; a bit of a body that stands in no area has none
 abbrev pub placeOf : Item → ℕ
 placeOf Whole = 0
+placeOf (Bit bit) = 0
 placeOf (Body unit bit) = unit
 placeOf (Word w) = 0
 placeOf (Length n) = 0

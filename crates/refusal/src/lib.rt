@@ -76,6 +76,8 @@ pub enum Reason {
 pub enum Item {
     // The input or the value as a whole.
     Whole,
+    // In the body of a unit, whatever area it stands in: the bit at which the failing item begins.
+    Bit(usize),
     // In an area: the unit whose body was being read, by its first byte, and the bit of the area
     // at which the failing item begins.
     Body { unit: usize, bit: usize },
@@ -134,6 +136,7 @@ pub fn place(item: Item) -> usize
 {
     match item {
         Item::Whole => 0,
+        Item::Bit(_) => 0,
         Item::Body { unit, bit: _ } => unit,
         Item::Word(_) => 0,
         Item::Length(_) => 0,

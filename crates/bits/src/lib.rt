@@ -1,0 +1,77 @@
+// Bits in lent bytes, most significant first (document 01, "Picture area").
+ghost use mathlib.Core.Path.{_≡_};
+ghost use Prim.Native.Nat.{_*_, _<_, min};
+ghost use mathlib.Core.List.{[], _∷_};
+ghost use lib.ListN.{getD};
+ghost use Rattle.bits.specs.Bits.{num, bitsOf, reversed};
+ghost use Rattle.bits.specs.Peek.{peekOf, firstSet, leadingOf};
+
+// The number that w bits, at most 32, from bit `at` on write. Bits beyond the last byte are zero.
+pub fn peek(s: &[u8], at: usize, w: u32) -> u32
+    ensures { λ r. ⌜ r ≡ peekOf (now (s .entry)) at (min w 32) ⌝ }
+{
+    let width = if w < 32 { w } else { 32 };
+    let skipped = (at % 8) as u32;
+    let bits = window(s, at / 8) >> (40 - skipped - width);
+    (bits % (1u64 << width)) as u32
+}
+
+// The number that the five bytes from index k on write. Bytes beyond the last are zero.
+fn window(s: &[u8], k: usize) -> u64
+    requires { ⌜ k < 2305843009213693952 ⌝ }
+    ensures { λ r. ⌜ r ≡ peekOf (now (s .entry)) (8 * k) 40 ⌝ }
+{
+    if k + 5 <= s.len() {
+        return joined(s[k], s[k + 1], s[k + 2], s[k + 3], s[k + 4]);
+    }
+    joined(
+        byte_at(s, k),
+        byte_at(s, k + 1),
+        byte_at(s, k + 2),
+        byte_at(s, k + 3),
+        byte_at(s, k + 4),
+    )
+}
+
+fn joined(a: u8, b: u8, c: u8, d: u8, e: u8) -> u64
+    ensures { λ r. ⌜ r ≡ num (bitsOf (a ∷ b ∷ c ∷ d ∷ e ∷ [])) ⌝ }
+{
+    let four = ((a as u64 * 256 + b as u64) * 256 + c as u64) * 256 + d as u64;
+    four * 256 + e as u64
+}
+
+fn byte_at(s: &[u8], i: usize) -> u8
+    ensures { λ r. ⌜ r ≡ getD (now (s .entry)) i 0 ⌝ }
+{
+    if i < s.len() { s[i] } else { 0 }
+}
+
+// A byte with its bits in the other order: its halves exchanged, then the pairs in each, then the bits in each.
+pub fn reverse(b: u8) -> u8
+    ensures { λ r. ⌜ r ≡ reversed b ⌝ }
+{
+    let halves = b >> 4 | b << 4;
+    let pairs = (halves & 0xCC) >> 2 | (halves & 0x33) << 2;
+    (pairs & 0xAA) >> 1 | (pairs & 0x55) << 1
+}
+
+// Where, from index `from` on, the first byte stands that is not 0, or the end.
+pub fn first_set(s: &[u8], from: usize) -> usize
+    ensures { λ r. ⌜ r ≡ firstSet (now (s .entry)) from ⌝ }
+{
+    let mut i = from;
+    while i < s.len() {
+        if s[i] != 0 {
+            return i;
+        }
+        i += 1;
+    }
+    i
+}
+
+// How many zero bits a byte begins with.
+pub fn leading(b: u8) -> u32
+    ensures { λ r. ⌜ r ≡ leadingOf b ⌝ }
+{
+    u8::leading_zeros(b)
+}

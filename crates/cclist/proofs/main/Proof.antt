@@ -1,0 +1,34 @@
+-- `cclist::main` is safe: the bytes that it lends are within their room. Assumes nothing.
+use mathlib.Core.Path.{_≡_, sym}
+use native.Mathlib.Omega.{arith}
+use lib.ListN.{length, length-map}
+use lib.Seq.{length-take-le}
+use borrow.Author.Needs.{needs}
+use Rattle.cclist.proofs.main.Statement.{statement}
+use Rattle.cclist.proofs.main.Tie as tie
+
+-- the text's array is as long as its type says
+room : (c : tie.After-text-of) → length (c .text-of .result .bytes) ≡ 640
+room c = simp length-map at (c .text-of .ok .1 .1 .1 .0 .1 .0 .1)
+
+array-share-prefix-bytes : tie.Need-array-share-prefix-bytes
+array-share-prefix-bytes c = omega (arith, room (c .before .before))
+
+slice-aggregate-text : tie.Need-slice-aggregate-text
+slice-aggregate-text c = sym (length-take-le _ _ (omega (arith, room (c .before .before .before))))
+
+pub main-spec : {M : Type 1} → statement M
+main-spec =
+    tie.close
+    (tie.spec
+    (λ c. search needs)
+    (λ c κs. search needs)
+    (λ c. search needs)
+    (λ c. search needs)
+    (λ c κs. search needs)
+    (λ c κs. search needs)
+    array-share-prefix-bytes
+    slice-aggregate-text
+    (λ c κs. search needs)
+    (λ c. search needs)
+    (λ c. search needs))

@@ -1,0 +1,23 @@
+// Which units of an area are ours (document 01, "Picture area"). Every other unit is foreign.
+ghost use mathlib.Core.Path.{_≡_};
+ghost use Rattle.kind.specs.Ours.{ours as Ours·ours};
+
+// The kinds of caption unit.
+pub enum Kind {
+    // SCTE 20 picture user data (001, 5.4): user_data_type_code 03.
+    Scte20,
+}
+
+// Whether a unit with this body is ours, of that kind.
+pub fn ours(body: &[u8], kind: Kind) -> bool
+    ensures { λ r. ⌜ r ≡ Ours·ours kind (now (body .entry)) ⌝ }
+{
+    match kind {
+        Kind::Scte20 => {
+            if body.len() == 0 {
+                return false;
+            }
+            body[0] == 3
+        }
+    }
+}

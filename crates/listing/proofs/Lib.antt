@@ -1,0 +1,6 @@
+pub mod Building
+pub mod Digits
+pub mod Lengths
+pub mod Lines
+pub mod Types
+pub mod Theorems

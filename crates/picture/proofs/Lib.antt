@@ -1,0 +1,5 @@
+pub mod CleanBody
+pub mod Areas
+pub mod Unique
+pub mod Placing
+pub mod Theorems

@@ -1,0 +1,65 @@
+-- An area has one value: its units are the only ones, and which of them is ours tells the caption unit from the others.
+-- Assumes nothing.
+use Prim.Native.Nat.{ℕ}
+use mathlib.Core.Path.{_≡_, _∙_, ap, ap₂, sym, subst, refl}
+use mathlib.Core.Bool.{true, false, true≢false}
+use mathlib.Core.List.{List, [], _∷_, _++_, head-eq-of-cons-eq, tail-eq-of-cons-eq}
+use Rattle.lists.specs.Each.{Each}
+use Rattle.lists.proofs.Each.{each-append, append-each}
+use Rattle.kind.specs.declared.Kind.the-variants.{Scte20}
+use Rattle.kind.specs.Ours.{ours}
+use Rattle.units.specs.Layout.{Clean}
+use Rattle.units.proofs.Theorems as units
+use Rattle.scte20.specs.Value.{Content}
+use Rattle.scte20.specs.Value as scte20
+use Rattle.scte20.specs.Layout as content
+use Rattle.scte20.specs.Reading.{valueOf}
+use Rattle.scte20.proofs.Layouts.{layout-value}
+use Rattle.picture.specs.Value.{Area, bare, captioned, bodies, layout, LegalUnits, Legal}
+use Rattle.picture.proofs.CleanBody.{legal-clean}
+use Rattle.picture.proofs.Areas.{Other, foreign-clean, foreign-other, caption-ours}
+
+bodies-clean : (v : Area) → LegalUnits v → Each Clean (bodies v)
+bodies-clean (bare us) h = foreign-clean us h
+bodies-clean (captioned before c after) h =
+    each-append Clean before (content.layout c ∷ after) (foreign-clean before (h .0)) (legal-clean c (h .1), foreign-clean after (h .2))
+
+both-ways : (body : List ℕ) → ours Scte20 body ≡ true → Other body → ⊥
+both-ways body mine other = true≢false (sym mine ∙ other)
+
+-- the first body that is ours stands at one place
+pub record Same (b d : List (List ℕ)) (x y : List ℕ) (a e : List (List ℕ)) : Type 0 where
+  before : b ≡ d
+  body : x ≡ y
+  after : a ≡ e
+
+around : (b d : List (List ℕ)) (x y : List ℕ) (a e : List (List ℕ)) → Each Other b → Each Other d → ours Scte20 x ≡ true → ours Scte20 y ≡ true
+    → b ++ (x ∷ a) ≡ d ++ (y ∷ e) → Same b d x y a e
+around [] [] x y a e hb hd mx my same = record { before = refl; body = head-eq-of-cons-eq same; after = tail-eq-of-cons-eq same }
+around [] (f ∷ d) x y a e hb hd mx my same = absurd (both-ways x mx (subst Other (sym (head-eq-of-cons-eq same)) (hd .0)))
+around (f ∷ b) [] x y a e hb hd mx my same = absurd (both-ways y my (subst Other (head-eq-of-cons-eq same) (hb .0)))
+around (f ∷ b) (g ∷ d) x y a e hb hd mx my same =
+    let rest = around b d x y a e (hb .1) (hd .1) mx my (tail-eq-of-cons-eq same) in
+    record { before = ap₂ (λ (h : List ℕ) (t : List (List ℕ)). h ∷ t) (head-eq-of-cons-eq same) (rest .before); body = rest .body; after = rest .after }
+
+never : (us before : List (List ℕ)) (c : Content) (after : List (List ℕ)) → Each Other us → us ≡ before ++ (content.layout c ∷ after) → ⊥
+never us before c after h e =
+    let parts = append-each Other before (content.layout c ∷ after) (subst (λ (bs : List (List ℕ)). Each Other bs) e h) in
+    both-ways (content.layout c) (caption-ours c) (parts .1 .0)
+
+same-content : (c d : Content) → scte20.Legal c → scte20.Legal d → content.layout c ≡ content.layout d → c ≡ d
+same-content c d hc hd e = sym (layout-value c hc) ∙ ap valueOf e ∙ layout-value d hd
+
+same-bodies : (v w : Area) → LegalUnits v → LegalUnits w → bodies v ≡ bodies w → v ≡ w
+same-bodies (bare us) (bare ws) hv hw e = ap bare e
+same-bodies (bare us) (captioned before c after) hv hw e = absurd (never us before c after (foreign-other us hv) e)
+same-bodies (captioned before c after) (bare ws) hv hw e = absurd (never ws before c after (foreign-other ws hw) (sym e))
+same-bodies (captioned before c after) (captioned front d back) hv hw e =
+    let same =
+    around before front (content.layout c) (content.layout d) after back (foreign-other before (hv .0)) (foreign-other front (hw .0)) (caption-ours c) (caption-ours d) e in
+    let value : c ≡ d = same-content c d (hv .1) (hw .1) (same .body) in
+    λ i. captioned (same .before i) (value i) (same .after i)
+
+pub same-layout : (v w : Area) → Legal v → Legal w → layout v ≡ layout w → v ≡ w
+same-layout v w hv hw e =
+    same-bodies v w (hv .units) (hw .units) (units.only-one (bodies v) (bodies w) (bodies-clean v (hv .units)) (bodies-clean w (hw .units)) e)

@@ -1,0 +1,42 @@
+-- A picture area's value, when it is legal, and its bytes. Document 01, "Picture area", and demand 3: foreign units and at most one caption unit,
+-- in order. The layout is from the value alone.
+use Prim.Native.Nat.{ℕ, _≤_}
+use mathlib.Core.Path.{_≡_}
+use mathlib.Core.Bool.{false}
+use mathlib.Core.List.{List, _∷_, _++_}
+use lib.ListN.{length}
+use Rattle.lists.specs.Each.{Each}
+use Rattle.lists.specs.Bytes.{Bytes}
+use Rattle.kind.specs.declared.Kind.the-variants.{Scte20}
+use Rattle.kind.specs.Ours.{ours}
+use Rattle.units.specs.Layout as units
+use Rattle.scte20.specs.Value as scte20
+use Rattle.scte20.specs.Layout as content
+
+-- the bodies of foreign units alone; or those before a caption unit, its value, and those after it
+pub data Area : Type 0 where
+  bare : List (List ℕ) → Area
+  captioned : List (List ℕ) → scte20.Content → List (List ℕ) → Area
+
+-- the bodies of all units, in order
+abbrev pub bodies : Area → List (List ℕ)
+bodies (bare foreign) = foreign
+bodies (captioned before c after) = before ++ (content.layout c ∷ after)
+
+abbrev pub layout : Area → List ℕ
+layout v = units.layout (bodies v)
+
+-- the body of a unit that is not ours: any bytes in which no start code appears
+pub record Foreign (body : List ℕ) : Type 0 where
+  pub bytes : Bytes body
+  pub clean : units.Clean body
+  pub other : ours Scte20 body ≡ false
+
+abbrev pub LegalUnits : Area → Type 0
+LegalUnits (bare foreign) = Each Foreign foreign
+LegalUnits (captioned before c after) = Each Foreign before × scte20.Legal c × Each Foreign after
+
+-- 0 to 16,384 bytes
+pub record Legal (v : Area) : Type 0 where
+  pub units : LegalUnits v
+  pub short : length (layout v) ≤ 16384

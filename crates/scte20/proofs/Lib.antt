@@ -1,0 +1,14 @@
+pub mod Order
+pub mod Fitting
+pub mod Constructs
+pub mod Sizes
+pub mod Contents
+pub mod Layouts
+pub mod Zeros
+pub mod Quiet
+pub mod Numbered
+pub mod Bytewise
+pub mod Stepwise
+pub mod Trailing
+pub mod Answers
+pub mod Theorems

@@ -1,0 +1,104 @@
+-- The theorems of SCTE 20 caption content (document 01, demands 1 to 3). What they speak of is defined in specs/: a value and when it is legal in
+-- Value; its bits and bytes in Layout, without the reader; the rules over records in Rules; what reading answers in Reading.
+--
+-- The contract of `read` is the promise `Reads`: `Reads body r` says that r is the answer to the bytes of a unit's body. So each theorem speaks of
+-- every call. Assumes nothing.
+use Prim.Native.Nat.{ℕ, _+_, _*_, _≤_}
+use mathlib.Core.Path.{_≡_, _∙_, ap, ap₂, sym, subst, refl}
+use mathlib.Core.Logic.{_↔_}
+use mathlib.Core.List.{List}
+use lib.ListN.{length}
+use lib.Seq.{take-append-seam}
+use Rattle.refusal.specs.declared.Reason.{Reason}
+use Rattle.refusal.specs.declared.Item.{Item}
+use Rattle.refusal.specs.declared.Verdict.{Verdict}
+use Rattle.refusal.specs.declared.Verdict.the-variants.{Accepted, Refused}
+use Rattle.scte20.specs.declared.Record.{Record}
+use Rattle.scte20.specs.declared.CaptionUnit.{CaptionUnit}
+use Rattle.scte20.specs.declared.Answer.{Answer}
+use Rattle.scte20.specs.Value.{Content, Legal, none, stored, held}
+use Rattle.scte20.specs.Layout.{contentBits, contentBytes, layout, longest}
+use Rattle.scte20.specs.Reading.{contentVerdict, sizeIn, valueOf, answerOf, Reads}
+use Rattle.scte20.proofs.Contents.{content-accepted, value-legal, value-layout}
+use Rattle.scte20.proofs.Layouts.{layout-accepted, layout-value}
+use Rattle.scte20.proofs.Numbered.{AtBit, content-placed}
+use Rattle.scte20.proofs.Sizes as sizes
+use Rattle.scte20.proofs.Zeros as zeros
+
+-- READING
+
+-- The answer to a legal value's bytes is that value.
+pub the-answer : (c : Content) → Legal c → length (layout c) ≤ 16384 → (r : Answer) → Reads (layout c) r → r ≡ record { verdict = Accepted; unit = stored c }
+the-answer c h short r p = p .answer ∙ ap₂ answerOf (layout-accepted c h short) (layout-value c h)
+
+told : (body : List ℕ) (r : Answer) → Reads body r → r .verdict ≡ contentVerdict body
+told body r p = ap (λ (a : Answer). a .verdict) (p .answer) ∙ kept (contentVerdict body)
+  where
+    kept : (verdict : Verdict) → answerOf verdict (valueOf body) .verdict ≡ verdict
+    kept Accepted = refl
+    kept (Refused reason item) = refl
+
+-- Bytes, within the limit of an area, are accepted exactly when some legal value has them as its layout.
+pub accepted-exactly : (body : List ℕ) (r : Answer) → Reads body r → r .verdict ≡ Accepted ↔ ((c : Content) × Legal c × (length body ≤ 16384) × (layout c ≡ body))
+accepted-exactly body r p = (
+  λ e.
+      let ok : contentVerdict body ≡ Accepted = sym (told body r p) ∙ e in
+      (valueOf body, value-legal body (p .bytes) ok, content-accepted body ok .0 .short, value-layout body (p .bytes) ok),
+  λ w.
+      let short : length (layout (w .0)) ≤ 16384 = subst (λ (s : List ℕ). length s ≤ 16384) (sym (w .3)) (w .2) in
+      told body r p ∙ ap contentVerdict (sym (w .3)) ∙ layout-accepted (w .0) (w .1) short,
+)
+
+-- That value is the only one,
+pub only-one : (c d : Content) → Legal c → Legal d → layout c ≡ layout d → c ≡ d
+only-one c d hc hd e = sym (layout-value c hc) ∙ ap valueOf e ∙ layout-value d hd
+
+-- and the struct that holds it gives it back.
+pub stored-held : (c : Content) → held (stored c) ≡ c
+stored-held c = ap (λ (rs : List Record). record { reserved = c .reserved; flag = c .flag; records = rs; z = c .z }) (take-append-seam (c .records) _)
+
+-- A refusal is that of the first check, in 01's order, that finds a fault.
+pub refused-in-order : (body : List ℕ) (r : Answer) → Reads body r → r .verdict ≡ contentVerdict body
+refused-in-order = told
+
+-- It is 5 to 10, at a bit of the body or at its end,
+pub refused-at : (body : List ℕ) (r : Answer) → Reads body r → length body ≤ 16384 → (reason : Reason) (item : Item) → r .verdict ≡ Refused reason item
+    → AtBit 5 10 (8 * length body) reason item
+refused-at body r p short reason item e = content-placed body short reason item (sym (told body r p) ∙ e)
+
+-- and comes without records: all else in it is zero.
+pub refused-zero : (body : List ℕ) (r : Answer) → Reads body r → (r .verdict ≡ Accepted → ⊥) → r .unit ≡ stored none
+refused-zero body r p h = ap (λ (a : Answer). a .unit) (p .answer) ∙ nothing (contentVerdict body) (λ e. h (told body r p ∙ e))
+  where
+    nothing : (verdict : Verdict) → (verdict ≡ Accepted → ⊥) → answerOf verdict (valueOf body) .unit ≡ stored none
+    nothing Accepted g = absurd (g refl)
+    nothing (Refused reason item) g = refl
+
+-- SIZES
+
+-- Content takes 2 bytes with flag 0, else (25 + 26n) / 8 rounded up: 4 for n = 0, 7 for 1, 104 for 31. The stuffing is no part of it.
+pub content-size : (c : Content) → length (contentBytes c) ≡ sizeIn (c .flag) (length (c .records))
+content-size = sizes.content-size
+
+pub layout-size : (c : Content) → length (layout c) ≡ sizeIn (c .flag) (length (c .records)) + c .z
+layout-size = sizes.length-layout
+
+pub sizes-told : (sizeIn 0 0 ≡ 2) × (sizeIn 1 0 ≡ 4) × (sizeIn 1 1 ≡ 7) × (sizeIn 1 31 ≡ 104)
+sizes-told = (refl, refl, refl, refl)
+
+-- THE ZERO RUN
+
+-- No legal content, stuffing aside, holds 23 zero bits in a row,
+pub zero-run : (c : Content) → Legal c → longest (contentBits c) ≤ 22
+zero-run = zeros.zero-run
+
+-- and 22 is reached.
+pub zero-run-reached : (c : Content) × Legal c × (longest (contentBits c) ≡ 22)
+zero-run-reached = zeros.zero-run-reached
+
+-- For each function, two answers that keep its promise are equal.
+pub read-determined : (body : List ℕ) (a b : Answer) → Reads body a → Reads body b → a ≡ b
+read-determined body a b p q = p .answer ∙ sym (q .answer)
+
+pub nothing-determined : (a b : CaptionUnit) → a ≡ stored none → b ≡ stored none → a ≡ b
+nothing-determined a b p q = p ∙ sym q

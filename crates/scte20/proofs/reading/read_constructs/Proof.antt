@@ -1,0 +1,192 @@
+-- `scte20::reading::read_constructs` meets its contract. The loop's invariant: i constructs are read and accepted, `last` is what counts of their
+-- records, and the array holds them, with blanks beyond.
+-- Assumes nothing.
+use Prim.Native.Nat.{ℕ, _+_, _-_, _*_, _%_, _≤_, _<_}
+use native.Mathlib.Omega.{arith}
+use mathlib.Core.Path.{_≡_, _∙_, ap, sym, subst, refl}
+use mathlib.Core.List.{List, [], _∷_}
+use borrow.Author.Needs.{needs}
+use denote.Ref.{now}
+use lib.ListN.{length, set, replicate}
+use Rattle.refusal.specs.declared.Reason.{Reason}
+use Rattle.refusal.specs.declared.Item.{Item}
+use Rattle.refusal.specs.declared.Verdict.{Verdict}
+use Rattle.refusal.specs.declared.Verdict.the-variants.{Accepted, Refused}
+use Rattle.refusal.specs.Checks.{andThen}
+use Rattle.refusal.proofs.Checks.{refused-not-accepted, refused-first, accepted-first}
+use Rattle.bits.specs.Bits.{bitsOf, field}
+use Rattle.bits.proofs.Stream.{length-bitsOf, bitsOf-are}
+use Rattle.bits.proofs.Fields.{field-lt}
+use Rattle.bits.proofs.Beyond.{peek-inside}
+use Rattle.scte20.specs.declared.Record.{Record}
+use Rattle.scte20.specs.declared.Last.{Last}
+use Rattle.scte20.specs.Packed.{constructOf}
+use Rattle.scte20.specs.Rules.{lastOf, lastVerdict, lastAfter}
+use Rattle.scte20.specs.Reading.{missing, constructAt, markerVerdict, constructsVerdict, RunOf}
+use Rattle.scte20.proofs.Bytewise.{missing-some, missing-none}
+use Rattle.scte20.proofs.Stepwise.{construct-at, marker-one, marker-other, behind, Going, going-first, constructs-here, going-next, going-accepted, going-stored}
+use Rattle.scte20.proofs.reading.read_constructs.Statement.{statement}
+use Rattle.scte20.proofs.reading.read_constructs.Tie as tie
+
+abbrev Inv-loop : tie.InvT-loop
+Inv-loop body n records₀ last₀ i₀ records last i = Going (bitsOf body) n records last i
+
+abbrev μ-loop : tie.MeasureT-loop
+μ-loop body n records₀ last₀ i₀ records last i = n - i
+
+loop-holds : tie.Need-loop-holds Inv-loop μ-loop
+loop-holds c =
+    let body = now (c .before .before .before .args .body) in
+    let n = c .before .before .before .args .n in
+    subst (λ (last : Last). Going (bitsOf body) n (replicate 31 (c .before .blank .result)) last 0) (sym (c .first .ensures))
+    (subst (λ (r : Record). Going (bitsOf body) n (replicate 31 r) (lastOf []) 0) (sym (c .before .blank .ensures)) (going-first (bitsOf body) n))
+
+-- a turn of the loop
+module _ (c : tie.In-loop Inv-loop μ-loop) where
+  abbrev bodyOf : List ℕ
+  bodyOf = now (c .before .before .before .before .before .args .body)
+
+  abbrev nOf : ℕ
+  nOf = c .before .before .before .before .before .args .n
+
+  abbrev iOf : ℕ
+  iOf = c .before .loop .i
+
+  abbrev atOf : ℕ
+  atOf = 21 + 26 * iOf
+
+  below : iOf < 31
+  below = let h : nOf ≤ 31 = omega arith in omega arith
+
+  -- what is left to judge
+  here :
+      let xs = bitsOf bodyOf in
+      let r = constructAt atOf xs in
+      constructsVerdict [] nOf 21 xs
+      ≡ andThen (missing atOf 26 xs)
+      (andThen (lastVerdict atOf (c .before .loop .last) r)
+      (andThen (markerVerdict atOf xs) (andThen (constructsVerdict (r ∷ behind iOf xs) (nOf - (iOf + 1)) (atOf + 26) xs) Accepted)))
+  here = constructs-here (bitsOf bodyOf) nOf (c .before .loop .records) (c .before .loop .last) iOf (c .before .loop .inv) (c .loop-test .taken)
+
+-- a refusal, and whatever is in the records
+refused-run : (body : List ℕ) (n : ℕ) (verdict : Verdict) (records : List Record) (reason : Reason) (item : Item) → verdict ≡ Refused reason item
+    → verdict ≡ constructsVerdict [] n 21 (bitsOf body) → RunOf body n (record { verdict = verdict; records = records })
+refused-run body n verdict records reason item told e = record { verdict = e; records = λ accepted. refused-not-accepted reason item (sym told ∙ e ∙ accepted) }
+
+ends : tie.Need-returns Inv-loop μ-loop
+ends c =
+    let turn = c .before in
+    let short : 8 * length (bodyOf turn) < atOf turn + 26 = omega arith in
+    refused-run (bodyOf turn) (nOf turn) _ _ _ _ refl (refused-first _ (sym (missing-some (bodyOf turn) (atOf turn) 26 short)) refl ∙ sym (here turn))
+
+-- the whole construct is there
+module _ (c : tie.After-peek Inv-loop μ-loop) where
+  long : atOf (c .before .before) + 26 ≤ 8 * length (bodyOf (c .before .before))
+  long = omega arith
+
+  seen : c .peek .result ≡ field (bitsOf (bodyOf (c .before .before))) (atOf (c .before .before)) 26
+  seen = c .peek .ensures ∙ peek-inside (bodyOf (c .before .before)) (atOf (c .before .before)) 26 long
+
+  small : c .peek .result < 67108864
+  small = omega (arith, seen, field-lt (bitsOf (bodyOf (c .before .before))) (atOf (c .before .before)) 26 (bitsOf-are (bodyOf (c .before .before))))
+
+  fits : atOf (c .before .before) + 26 ≤ length (bitsOf (bodyOf (c .before .before)))
+  fits = omega (arith, long, length-bitsOf (bodyOf (c .before .before)))
+
+-- and its record is judged as the one that stands there
+module _ (c : tie.After-judge-record Inv-loop μ-loop) where
+  taken :
+      let turn = c .before .before .before .before in
+      c .before .record-of .result ≡ constructAt (atOf turn) (bitsOf (bodyOf turn))
+  taken =
+      let peeked = c .before .before in
+      let turn = peeked .before .before in
+      c .before .record-of .ensures
+      ∙ ap constructOf (seen peeked)
+      ∙ construct-at (bitsOf (bodyOf turn)) (atOf turn) (bitsOf-are (bodyOf turn)) (fits peeked)
+
+  judged :
+      let turn = c .before .before .before .before in
+      c .judge-record .result ≡ lastVerdict (atOf turn) (turn .before .loop .last) (constructAt (atOf turn) (bitsOf (bodyOf turn)))
+  judged =
+      let turn = c .before .before .before .before in
+      c .judge-record .ensures ∙ ap (lastVerdict (atOf turn) (turn .before .loop .last)) taken
+
+  whole : let turn = c .before .before .before .before in missing (atOf turn) 26 (bitsOf (bodyOf turn)) ≡ Accepted
+  whole = let turn = c .before .before .before .before in missing-none (bodyOf turn) (atOf turn) 26 (long (c .before .before))
+
+illegal : tie.Need-returns-2 Inv-loop μ-loop
+illegal c =
+    let past = c .before .before in
+    let turn = past .before .before .before .before in
+    let told = c .enum-told .given .1 in
+    refused-run (bodyOf turn) (nOf turn) _ _ _ _ told
+    (refused-first _ (judged past) told ∙ sym (here turn ∙ accepted-first _ (sym (whole past)) refl))
+
+unmarked : tie.Need-returns-3 Inv-loop μ-loop
+unmarked c =
+    let past = c .before .before .before in
+    let peeked = past .before .before in
+    let turn = peeked .before .before in
+    let body = bodyOf turn in
+    let other = marker-other (bitsOf body) (atOf turn) (bitsOf-are body) (fits peeked) (λ e. c .if2 .taken (ap (λ (k : ℕ). k % 2) (seen peeked) ∙ e)) in
+    refused-run body (nOf turn) _ _ _ _ refl
+    (refused-first _ (sym other) refl
+    ∙ sym (here turn ∙ accepted-first _ (sym (whole past)) refl ∙ accepted-first _ (judged past) (c .before .enum-told2 .given .1)))
+
+loop-again : tie.Need-loop-again Inv-loop μ-loop
+loop-again c =
+    let past = c .before .before .before .before in
+    let peeked = past .before .before in
+    let turn = peeked .before .before in
+    let at = turn .before .loop in
+    let body = bodyOf turn in
+    let xs = bitsOf body in
+    let legal = sym (judged past) ∙ c .before .before .enum-told2 .given .1 in
+    let marked = marker-one xs (atOf turn) (bitsOf-are body) (fits peeked) (ap (λ (k : ℕ). k % 2) (sym (seen peeked)) ∙ c .before .if2 .left) in
+    let room : nOf turn ≤ 31 = omega arith in
+    let after : c .after .result ≡ lastAfter (at .last) (constructAt (atOf turn) xs) = c .after .ensures ∙ ap (lastAfter (at .last)) (taken past) in
+    subst (λ (last : Last). Going xs (nOf turn) (set (at .records) (at .i) (past .before .record-of .result)) last (at .i + 1)) (sym after)
+    (subst (λ (r : Record). Going xs (nOf turn) (set (at .records) (at .i) r) (lastAfter (at .last) (constructAt (atOf turn) xs)) (at .i + 1)) (sym (taken past))
+    (going-next xs (nOf turn) (at .records) (at .last) (at .i) (at .inv) (turn .loop-test .taken) room (whole past) legal marked))
+
+done : tie.Need-returns-4 Inv-loop μ-loop
+done c =
+    let start = c .before .before .before .before .before in
+    let at = c .before .loop in
+    let xs = bitsOf (now (start .args .body)) in
+    record {
+      verdict = sym (going-accepted xs (start .args .n) (at .records) (at .last) (at .i) (at .inv) (c .loop-test .left));
+      records = λ e. going-stored xs (start .args .n) (at .records) (at .last) (at .i) (at .inv) (c .loop-test .left);
+    }
+
+pub read-constructs-spec : {M : Type 1} → statement M
+read-constructs-spec =
+    tie.close
+    (tie.spec
+    Inv-loop
+    μ-loop
+    (λ c κs. search needs)
+    (λ c κs. search needs)
+    loop-holds
+    (λ c. omega arith)
+    (λ c. omega arith)
+    (λ c. omega arith)
+    (λ c. omega arith)
+    ends
+    (λ c. omega arith)
+    (λ c κs. search needs)
+    (λ c κs. omega (arith, small c))
+    (λ c κs. omega (arith, below (c .before .before .before)))
+    (λ c. search needs)
+    illegal
+    (λ c. search needs)
+    (λ c. omega (arith, below (c .before .before .before .before .before .before .before)))
+    unmarked
+    (λ c. omega (arith, below (c .before .before .before .before .before .before .before)))
+    (λ c. below (c .before .before .before .before .before .before .before))
+    (λ c κs. omega (arith, below (c .before .before .before .before .before .before .before), c .before .before .before .before .before .before .before .before .loop .inv .few))
+    (λ c. omega (arith, below (c .before .before .before .before .before .before .before .before)))
+    (λ c. omega arith)
+    loop-again
+    done)

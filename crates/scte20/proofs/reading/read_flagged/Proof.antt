@@ -1,0 +1,168 @@
+-- `scte20::reading::read_flagged` meets its contract: the count, the constructs, then what follows them decide, each as `flagVerdict` says.
+-- Assumes nothing.
+use Prim.Native.Nat.{ℕ, _+_, _-_, _*_, _/_, _≤_, _<_}
+use native.Mathlib.Omega.{arith}
+use mathlib.Core.Path.{_≡_, _∙_, ap, ap₂, sym, refl}
+use mathlib.Core.List.{List, []}
+use borrow.Author.Needs.{needs}
+use denote.Ref.{now}
+use lib.ListN.{length, getD}
+use Rattle.lists.specs.Bytes.{Bytes}
+use Rattle.lists.specs.Room.{filled}
+use Rattle.lists.proofs.Each.{each-of}
+use Rattle.refusal.specs.declared.Verdict.{Verdict}
+use Rattle.refusal.specs.declared.Verdict.the-variants.{Accepted}
+use Rattle.refusal.specs.Checks.{andThen}
+use Rattle.refusal.proofs.Checks.{andThen-accepted, refused-first, accepted-first}
+use Rattle.bits.specs.Bits.{bitsOf}
+use Rattle.scte20.specs.declared.Record.{Record}
+use Rattle.scte20.specs.declared.Answer.{Answer}
+use Rattle.scte20.specs.Value.{Content, blank}
+use Rattle.scte20.specs.Reading.{countIn, constructsVerdict, recordsAt, sampledVerdict, restVerdict, contentVerdict, valueOf, answerOf}
+use Rattle.scte20.proofs.Bytewise.{missing-some, missing-none, count-in}
+use Rattle.scte20.proofs.Constructs.{length-records}
+use Rattle.scte20.proofs.Contents.{head-accepted}
+use Rattle.scte20.proofs.Answers.{refused-answer, accepted-answer, sampled-long, head-long, flagged-verdict, flagged-value}
+use Rattle.scte20.proofs.reading.read_flagged.Statement.{statement}
+use Rattle.scte20.proofs.reading.read_flagged.Tie as tie
+
+ends : tie.Need-returns
+ends c =
+    let start = c .before .before .before in
+    let body = now (start .args .body) in
+    let two = head-long body (start .pre .0) in
+    let short : 8 * length body < 16 + 5 = omega arith in
+    c .refused .ensures
+    ∙ refused-answer _ (valueOf body) _ _ refl
+    ∙ ap (λ (v : Verdict). answerOf v (valueOf body))
+    (refused-first _ (sym (missing-some body 16 5 short)) refl ∙ sym (flagged-verdict body (start .pre .0) (countIn (bitsOf body)) refl (start .pre .1)))
+
+-- the count is there
+module _ (c : tie.After-shared-slice-known2) where
+  abbrev bodyOf : List ℕ
+  bodyOf = now (c .before .before .before .args .body)
+
+  abbrev nOf : ℕ
+  nOf = getD bodyOf 2 0 / 8
+
+  long : 2 < length bodyOf
+  long = omega arith
+
+  bytes : Bytes bodyOf
+  bytes = each-of (λ (b : ℕ). b < 256) 0 bodyOf (λ i h. omega (arith, c .shared-slice-known2 .given i))
+
+  few : nOf ≤ 31
+  few = omega (arith, c .shared-slice-known2 .given 2)
+
+  counted : nOf ≡ countIn (bitsOf bodyOf)
+  counted = sym (count-in bodyOf bytes long)
+
+  short : length bodyOf ≤ 16384
+  short = head-accepted bodyOf (c .before .before .before .pre .0) .short
+
+  -- what is left to judge
+  left :
+      let xs = bitsOf bodyOf in
+      contentVerdict bodyOf ≡ andThen (constructsVerdict [] nOf 21 xs) (andThen (sampledVerdict (21 + 26 * nOf) xs) (restVerdict (25 + 26 * nOf) xs))
+  left =
+      let start = c .before .before .before in
+      let whole : 16 + 5 ≤ 8 * length bodyOf = omega (arith, long) in
+      flagged-verdict bodyOf (start .pre .0) nOf counted (start .pre .1) ∙ accepted-first _ (sym (missing-none bodyOf 16 5 whole)) refl
+
+illegal : tie.Need-returns-2
+illegal c =
+    let past = c .before .before .before in
+    let known = past .before in
+    let body = bodyOf known in
+    let told = c .before .enum-told .given .1 in
+    c .refused2 .ensures
+    ∙ refused-answer _ (valueOf body) _ _ told
+    ∙ ap (λ (v : Verdict). answerOf v (valueOf body)) (refused-first _ (past .read-constructs .ensures .verdict) told ∙ sym (left known))
+
+-- the constructs are accepted, and what follows them decides
+module _ (c : tie.After-judge-tail) where
+  all-accepted : let known = c .before .before .before .before in constructsVerdict [] (nOf known) 21 (bitsOf (bodyOf known)) ≡ Accepted
+  all-accepted = sym (c .before .before .before .read-constructs .ensures .verdict) ∙ c .before .enum-told2 .given .1
+
+  followed :
+      let known = c .before .before .before .before in
+      let xs = bitsOf (bodyOf known) in
+      c .judge-tail .result ≡ andThen (sampledVerdict (21 + 26 * nOf known) xs) (restVerdict (25 + 26 * nOf known) xs)
+  followed =
+      let known = c .before .before .before .before in
+      let xs = bitsOf (bodyOf known) in
+      let n = nOf known in
+      let at : 21 + 26 * n + 4 - 4 ≡ 21 + 26 * n = omega arith in
+      let end : 21 + 26 * n + 4 ≡ 25 + 26 * n = omega arith in
+      c .judge-tail .ensures ∙ ap₂ (λ (a e : ℕ). andThen (sampledVerdict a xs) (restVerdict e xs)) at end
+
+  judged : let known = c .before .before .before .before in c .judge-tail .result ≡ contentVerdict (bodyOf known)
+  judged = let known = c .before .before .before .before in followed ∙ sym (left known ∙ accepted-first _ (sym all-accepted) refl)
+
+  room : let known = c .before .before .before .before in c .judge-tail .result ≡ Accepted → 21 + 26 * nOf known + 4 ≤ 8 * length (bodyOf known)
+  room e =
+      let known = c .before .before .before .before in
+      let n = nOf known in
+      let both = andThen-accepted (sampledVerdict (21 + 26 * n) (bitsOf (bodyOf known))) _ (sym followed ∙ e) in
+      sampled-long (21 + 26 * n) (bodyOf known) (both .0)
+
+wrong : tie.Need-returns-3
+wrong c =
+    let past = c .before .before .before in
+    let body = bodyOf (past .before .before .before .before) in
+    c .refused3 .ensures
+    ∙ refused-answer _ (valueOf body) _ _ (c .before .enum-told3 .given .1)
+    ∙ ap (λ (v : Verdict). answerOf v (valueOf body)) (judged past)
+
+made : Verdict → ℕ → ℕ → List Record → ℕ → Answer
+made verdict reserved n records z = record { verdict = verdict; unit = record { reserved = reserved; «vbi_data_flag» = 1; n = n; records = records; z = z } }
+
+accepts : tie.Need-returns-4
+unfolding made
+accepts c =
+    let past = c .before .before .before .before in
+    let known = past .before .before .before .before in
+    let start = known .before .before .before in
+    let body = bodyOf known in
+    let n = nOf known in
+    let rs = recordsAt n 21 (bitsOf body) in
+    let verdict = past .judge-tail .result in
+    let reserved = getD body 1 0 / 2 in
+    let end : 21 + 26 * n + 4 ≡ 25 + 26 * n = omega arith in
+    let two : 2 ≤ length body = omega (arith, long known) in
+    ap₂ (λ (k : ℕ) (records : List Record). made verdict reserved k records (length body - (21 + 26 * n + 4 + 7) / 8)) (sym (length-records n 21 (bitsOf body)))
+    (past .before .before .before .read-constructs .ensures .records (all-accepted past))
+    ∙ ap (λ (e : ℕ). made verdict reserved (length rs) (filled rs 31 blank) (length body - (e + 7) / 8)) end
+    ∙ accepted-answer verdict _ (c .before .before .enum-told4 .given .1)
+    ∙ ap₂ (λ (v : Verdict) (content : Content). answerOf v content) (judged past) (sym (flagged-value body (bytes known) two n (counted known) (start .pre .1)))
+
+sub-t19 : tie.Need-sub-t19
+sub-t19 c =
+    let past = c .before .before .before .before in
+    omega (arith, room past (c .before .before .enum-told4 .given .1))
+
+pub read-flagged-spec : {M : Type 1} → statement M
+read-flagged-spec =
+    tie.close
+    (tie.spec
+    (λ c κs. search needs)
+    ends
+    (λ c. long c)
+    (λ c. omega (arith, few c))
+    (λ c κs. (short c, few c))
+    (λ c. search needs)
+    (λ c κs. search needs)
+    illegal
+    (λ c. search needs)
+    (λ c. omega (arith, few (c .before .before .before)))
+    (λ c. omega (arith, few (c .before .before .before)))
+    (λ c. omega (arith, few (c .before .before .before)))
+    (λ c κs. (short (c .before .before .before), (omega arith, omega (arith, few (c .before .before .before)))))
+    (λ c. search needs)
+    (λ c κs. search needs)
+    wrong
+    (λ c. search needs)
+    (λ c. omega (arith, long (c .before .before .before .before .before .before .before .before)))
+    (λ c. omega (arith, few (c .before .before .before .before .before .before .before .before)))
+    sub-t19
+    accepts)

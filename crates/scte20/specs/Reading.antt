@@ -1,0 +1,144 @@
+-- What reading a caption unit's body answers, for every list of bytes. Document 01, "Which refusal comes first": the content from left to right,
+-- each item 5 before its own test. In a construct: 5 (fewer than 26 bits left), 7, 8, 9, then marker 6. Then the count: 5, 10. Then alignment bits and stuffing: 6.
+--
+-- A refusal has the bit of the body at which the failing item begins.
+use Prim.Native.Nat.{ℕ, zero, suc, _+_, _-_, _*_, _/_}
+use mathlib.Core.Path.{_≡_}
+use mathlib.Core.Bool.{not}
+use mathlib.Core.List.{List, [], _∷_}
+use lib.Dec.{eqb, ltb}
+use lib.ListN.{length, take, drop}
+use Rattle.lists.specs.Bytes.{Bytes}
+use Rattle.lists.specs.Room.{filled}
+use Rattle.refusal.specs.declared.Verdict.{Verdict}
+use Rattle.refusal.specs.declared.Verdict.the-variants.{Accepted, Refused}
+use Rattle.refusal.specs.declared.Reason.the-variants.{TooLong, Ends, Unfixed, SampledVideo}
+use Rattle.refusal.specs.declared.Fixed.{Fixed}
+use Rattle.refusal.specs.declared.Fixed.the-variants.{Marker, Alignment, Stuffing, Identifier}
+use Rattle.refusal.specs.declared.Item.the-variants.{Whole, Bit}
+use Rattle.refusal.specs.Checks.{refuseIf, andThen, first}
+use Rattle.bits.specs.Bits.{bitsOf, field, reversed}
+use Rattle.scte20.specs.declared.Record.{Record}
+use Rattle.scte20.specs.declared.Answer.{Answer}
+use Rattle.scte20.specs.declared.Run.{Run}
+use Rattle.scte20.specs.Value.{Content, blank, none, stored}
+use Rattle.scte20.specs.Layout.{padding}
+use Rattle.scte20.specs.Rules.{recordVerdict}
+
+-- 5: fewer than w bits are left at bit `at`
+unfoldable pub missing : ℕ → ℕ → List ℕ → Verdict
+missing at w xs = refuseIf (ltb (length xs) (at + w)) Ends (Bit at)
+
+-- 6: the bits, of which the first is bit `at`, are all zero, or the first that is not is refused
+abbrev pub zeroVerdict : Fixed → ℕ → List ℕ → Verdict
+zeroVerdict which at [] = Accepted
+zeroVerdict which at (b ∷ bs) = andThen (refuseIf (not (eqb b 0)) (Unfixed which) (Bit at)) (zeroVerdict which (suc at) bs)
+
+-- the construct that begins at bit `at`, and its marker
+unfoldable pub constructAt : ℕ → List ℕ → Record
+constructAt at xs =
+    record {
+      «cc_priority» = field xs at 2;
+      «field_number» = record { 0 = field xs (at + 2) 2 };
+      «line_offset» = field xs (at + 4) 5;
+      «cc_data_1» = reversed (field xs (at + 9) 8);
+      «cc_data_2» = reversed (field xs (at + 17) 8);
+    }
+
+unfoldable pub markerVerdict : ℕ → List ℕ → Verdict
+markerVerdict at xs = refuseIf (not (eqb (field xs (at + 25) 1) 1)) (Unfixed Marker) (Bit (at + 25))
+
+-- k constructs from bit `at` on, behind these records, the latest first
+abbrev pub constructsVerdict : List Record → ℕ → ℕ → List ℕ → Verdict
+constructsVerdict before zero at xs = Accepted
+constructsVerdict before (suc k) at xs =
+    first
+    (missing at 26 xs
+    ∷ recordVerdict at before (constructAt at xs)
+    ∷ markerVerdict at xs
+    ∷ constructsVerdict (constructAt at xs ∷ before) k (at + 26) xs
+    ∷ [])
+
+abbrev pub recordsAt : ℕ → ℕ → List ℕ → List Record
+recordsAt zero at xs = []
+recordsAt (suc k) at xs = constructAt at xs ∷ recordsAt k (at + 26) xs
+
+-- the sampled video count at bit `at`
+unfoldable pub sampledVerdict : ℕ → List ℕ → Verdict
+sampledVerdict at xs = first (missing at 4 xs ∷ refuseIf (not (eqb (field xs at 4) 0)) SampledVideo (Bit at) ∷ [])
+
+-- what follows the count, which ends before bit `at`: zero bits up to a whole byte, then stuffing
+unfoldable pub restVerdict : ℕ → List ℕ → Verdict
+restVerdict at xs =
+    first
+    (zeroVerdict Alignment at (take (padding at) (drop at xs))
+    ∷ zeroVerdict Stuffing (at + padding at) (drop (at + padding at) xs)
+    ∷ [])
+
+-- what stands before the flag's decision. A body of an area's caption unit is shorter than 16,384 bytes and begins 03, so that 1 and 6 are never given there
+unfoldable pub headVerdict : List ℕ → Verdict
+headVerdict body =
+    first
+    (refuseIf (ltb 16384 (length body)) TooLong Whole
+    ∷ missing 0 8 (bitsOf body)
+    ∷ refuseIf (not (eqb (field (bitsOf body) 0 8) 3)) (Unfixed Identifier) (Bit 0)
+    ∷ missing 8 7 (bitsOf body)
+    ∷ missing 15 1 (bitsOf body)
+    ∷ [])
+
+abbrev pub flagIn : List ℕ → ℕ
+flagIn xs = field xs 15 1
+
+-- cc_count
+abbrev pub countIn : List ℕ → ℕ
+countIn xs = field xs 16 5
+
+-- with flag 0 the content is two bytes
+abbrev pub flagVerdict : ℕ → List ℕ → Verdict
+flagVerdict zero xs = restVerdict 16 xs
+flagVerdict (suc f) xs =
+    first
+    (missing 16 5 xs
+    ∷ constructsVerdict [] (countIn xs) 21 xs
+    ∷ sampledVerdict (21 + 26 * countIn xs) xs
+    ∷ restVerdict (25 + 26 * countIn xs) xs
+    ∷ [])
+
+unfoldable pub contentVerdict : List ℕ → Verdict
+contentVerdict body = andThen (headVerdict body) (flagVerdict (flagIn (bitsOf body)) (bitsOf body))
+
+abbrev pub recordsIn : ℕ → List ℕ → List Record
+recordsIn zero xs = []
+recordsIn (suc f) xs = recordsAt (countIn xs) 21 xs
+
+-- how many bytes the content takes: (25 + 26n) / 8 rounded up, or 2
+abbrev pub sizeIn : ℕ → ℕ → ℕ
+sizeIn zero n = 2
+sizeIn (suc f) n = (25 + 26 * n + 7) / 8
+
+unfoldable pub valueOf : List ℕ → Content
+valueOf body =
+    record {
+      reserved = field (bitsOf body) 8 7;
+      flag = flagIn (bitsOf body);
+      records = recordsIn (flagIn (bitsOf body)) (bitsOf body);
+      z = length body - sizeIn (flagIn (bitsOf body)) (countIn (bitsOf body));
+    }
+
+-- a refusal returns no records, and all else in it is zero
+abbrev pub answerOf : Verdict → Content → Answer
+answerOf Accepted c = record { verdict = Accepted; unit = stored c }
+answerOf (Refused reason item) c = record { verdict = Refused reason item; unit = stored none }
+
+abbrev pub readOf : List ℕ → Answer
+readOf body = answerOf (contentVerdict body) (valueOf body)
+
+-- the promise of `read`. By its type its input is a list of bytes; the code shows that too, so that the theorems assume nothing
+pub record Reads (body : List ℕ) (r : Answer) : Type 0 where
+  pub bytes : Bytes body
+  pub answer : r ≡ readOf body
+
+-- what reading n constructs answers: the verdict, and the records where it accepts
+pub record RunOf (body : List ℕ) (n : ℕ) (r : Run) : Type 0 where
+  pub verdict : r .verdict ≡ constructsVerdict [] n 21 (bitsOf body)
+  pub records : constructsVerdict [] n 21 (bitsOf body) ≡ Accepted → r .records ≡ filled (recordsAt n 21 (bitsOf body)) 31 blank

@@ -1,0 +1,56 @@
+// SCTE 20 caption content: what a caption unit of a picture's user data holds behind its start code.
+//
+// Normative references: document 01, "Picture area"; document 001, 5.4 to 5.8.
+mod reading;
+mod rules;
+
+pub use reading::nothing;
+pub use reading::read;
+use refusal::Verdict;
+
+pub const MAX_RECORDS: usize = 31;
+
+// No body of an area's unit is longer.
+pub const MAX_BYTES: usize = 16384;
+
+// A display field of this picture, counted from 1. It is not the odd or the even field of a frame.
+pub struct DisplayField(pub u8);
+
+// One construct (001, 5.8), its data bytes as line 21 has them.
+pub struct Record {
+    pub cc_priority: u8,
+    pub field_number: DisplayField,
+    pub line_offset: u8,
+    pub cc_data_1: u8,
+    pub cc_data_2: u8,
+}
+
+// A unit's value: the reserved bits as they are, the flag, the first n of the records, and how many zero
+// bytes of stuffing follow the content.
+pub struct CaptionUnit {
+    pub reserved: u8,
+    pub vbi_data_flag: u8,
+    pub n: usize,
+    pub records: [Record; MAX_RECORDS],
+    pub z: usize,
+}
+
+// What `read` answers: the verdict, and the value, all zero where it refuses.
+pub struct Answer {
+    pub verdict: Verdict,
+    pub unit: CaptionUnit,
+}
+
+// What the rules need of the records before one: the latest's field and line, and how many records of that
+// field have priority 0.
+struct Last {
+    field_number: DisplayField,
+    line_offset: u8,
+    urgent: usize,
+}
+
+// What reading the constructs found.
+struct Run {
+    verdict: Verdict,
+    records: [Record; MAX_RECORDS],
+}

@@ -1,0 +1,253 @@
+// Reading a caption unit's body from left to right.
+ghost use mathlib.Core.Path.{_≡_};
+ghost use Prim.Native.Nat.{_-_, _*_, _≤_, _<_};
+ghost use lib.ListN.{length};
+ghost use Rattle.refusal.specs.declared.Verdict.the-variants.{Accepted};
+ghost use Rattle.refusal.specs.Checks.{andThen};
+ghost use Rattle.bits.specs.Bits.{bitsOf};
+ghost use Rattle.scte20.specs.Value.{blank as Value·blank, none, stored};
+ghost use Rattle.scte20.specs.Packed.{constructOf};
+ghost use Rattle.scte20.specs.Reading.{headVerdict, flagIn, sampledVerdict, restVerdict, readOf, Reads, RunOf};
+use crate::Answer;
+use crate::CaptionUnit;
+use crate::DisplayField;
+use crate::MAX_BYTES;
+use crate::MAX_RECORDS;
+use crate::Record;
+use crate::Run;
+use crate::rules;
+use refusal::Fixed;
+use refusal::Item;
+use refusal::Reason;
+use refusal::Verdict;
+
+// user_data_type_code, reserved and vbi_data_flag take two bytes; then cc_count begins.
+const COUNT: usize = 16;
+
+const CONSTRUCTS: usize = 21;
+
+const CONSTRUCT_BITS: usize = 26;
+
+const SAMPLED_BITS: usize = 4;
+
+// Reads the body of a caption unit.
+pub fn read(body: &[u8]) -> Answer
+    ensures { λ r. ⌜ Reads (now (body .entry)) r ⌝ }
+{
+    let head = judge_head(body);
+    if let Verdict::Refused(_, _) = head {
+        return refused(head);
+    }
+    if body[1] % 2 == 0 {
+        return read_bare(body);
+    }
+    read_flagged(body)
+}
+
+// What stands before the flag's decision.
+fn judge_head(body: &[u8]) -> Verdict
+    ensures { λ r. ⌜ r ≡ headVerdict (now (body .entry)) ⌝ }
+{
+    if MAX_BYTES < body.len() {
+        return Verdict::Refused(Reason::TooLong, Item::Whole);
+    }
+    if body.len() < 1 {
+        return Verdict::Refused(Reason::Ends, Item::Bit(0));
+    }
+    if body[0] != 3 {
+        return Verdict::Refused(Reason::Unfixed(Fixed::Identifier), Item::Bit(0));
+    }
+    if body.len() < 2 {
+        return Verdict::Refused(Reason::Ends, Item::Bit(8));
+    }
+    Verdict::Accepted
+}
+
+// With flag 0 the content is two bytes.
+fn read_bare(body: &[u8]) -> Answer
+    requires { ⌜ headVerdict (now body) ≡ Accepted ⌝ }
+    requires { ⌜ flagIn (bitsOf (now body)) ≡ 0 ⌝ }
+    ensures { λ r. ⌜ r ≡ readOf (now (body .entry)) ⌝ }
+{
+    let rest = judge_rest(body, COUNT);
+    if let Verdict::Refused(_, _) = rest {
+        return refused(rest);
+    }
+    Answer {
+        verdict: rest,
+        unit: CaptionUnit {
+            reserved: body[1] / 2,
+            vbi_data_flag: 0,
+            n: 0,
+            records: [blank(); MAX_RECORDS],
+            z: body.len() - 2,
+        },
+    }
+}
+
+// cc_count, the constructs, the sampled video count, alignment and stuffing.
+fn read_flagged(body: &[u8]) -> Answer
+    requires { ⌜ headVerdict (now body) ≡ Accepted ⌝ }
+    requires { ⌜ flagIn (bitsOf (now body)) ≡ 1 ⌝ }
+    ensures { λ r. ⌜ r ≡ readOf (now (body .entry)) ⌝ }
+{
+    if body.len() < 3 {
+        return refused(Verdict::Refused(Reason::Ends, Item::Bit(COUNT)));
+    }
+    let n = (body[2] / 8) as usize;
+    let run = read_constructs(body, n);
+    let constructs = run.verdict;
+    if let Verdict::Refused(_, _) = constructs {
+        return refused(constructs);
+    }
+    let end = CONSTRUCTS + CONSTRUCT_BITS * n + SAMPLED_BITS;
+    let tail = judge_tail(body, end);
+    if let Verdict::Refused(_, _) = tail {
+        return refused(tail);
+    }
+    let records = run.records;
+    Answer {
+        verdict: tail,
+        unit: CaptionUnit {
+            reserved: body[1] / 2,
+            vbi_data_flag: 1,
+            n,
+            records,
+            z: body.len() - (end + 7) / 8,
+        },
+    }
+}
+
+// The n constructs, each read and judged before the next. Where one is refused, what is in the records means nothing.
+fn read_constructs(body: &[u8], n: usize) -> Run
+    requires { ⌜ length (now body) ≤ 16384 ⌝ }
+    requires { ⌜ n ≤ 31 ⌝ }
+    ensures { λ r. ⌜ RunOf (now (body .entry)) n r ⌝ }
+{
+    let mut records = [blank(); MAX_RECORDS];
+    let mut last = rules::first();
+    let mut i = 0;
+    while i < n {
+        let at = CONSTRUCTS + CONSTRUCT_BITS * i;
+        if body.len() < (at + CONSTRUCT_BITS + 7) / 8 {
+            return Run {
+                verdict: Verdict::Refused(Reason::Ends, Item::Bit(at)),
+                records,
+            };
+        }
+        let construct = bits::peek(body, at, CONSTRUCT_BITS as u32);
+        let record = record_of(construct);
+        let verdict = rules::judge_record(last, record, at);
+        if let Verdict::Refused(_, _) = verdict {
+            return Run { verdict, records };
+        }
+        if construct % 2 != 1 {
+            return Run {
+                verdict: Verdict::Refused(Reason::Unfixed(Fixed::Marker), Item::Bit(at + 25)),
+                records,
+            };
+        }
+        records[i] = record;
+        last = rules::after(last, record);
+        i += 1;
+    }
+    Run {
+        verdict: Verdict::Accepted,
+        records,
+    }
+}
+
+// The record of a construct (001, 5.8). The data bytes come least significant bit first.
+fn record_of(construct: u32) -> Record
+    requires { ⌜ construct < 67108864 ⌝ }
+    ensures { λ r. ⌜ r ≡ constructOf construct ⌝ }
+{
+    let field_number = DisplayField((construct / 4194304 % 4) as u8);
+    let first = (construct / 512 % 256) as u8;
+    let second = (construct / 2 % 256) as u8;
+    let cc_data_1 = bits::reverse(first);
+    let cc_data_2 = bits::reverse(second);
+    Record {
+        cc_priority: (construct / 16777216) as u8,
+        field_number,
+        line_offset: (construct / 131072 % 32) as u8,
+        cc_data_1,
+        cc_data_2,
+    }
+}
+
+// The sampled video count, which ends before bit `end`, then what follows it.
+fn judge_tail(body: &[u8], end: usize) -> Verdict
+    requires { ⌜ length (now body) ≤ 16384 ⌝ }
+    requires { ⌜ 4 ≤ end ⌝ }
+    requires { ⌜ end < 1048576 ⌝ }
+    ensures { λ r. ⌜ r ≡ andThen (sampledVerdict (end - 4) (bitsOf (now (body .entry)))) (restVerdict end (bitsOf (now (body .entry)))) ⌝ }
+{
+    let at = end - SAMPLED_BITS;
+    if body.len() < (end + 7) / 8 {
+        return Verdict::Refused(Reason::Ends, Item::Bit(at));
+    }
+    if bits::peek(body, at, SAMPLED_BITS as u32) != 0 {
+        return Verdict::Refused(Reason::SampledVideo, Item::Bit(at));
+    }
+    judge_rest(body, end)
+}
+
+// From bit `at` on, zero bits up to a whole byte and zero bytes up to the end.
+fn judge_rest(body: &[u8], at: usize) -> Verdict
+    requires { ⌜ length (now body) ≤ 16384 ⌝ }
+    requires { ⌜ at ≤ 8 * length (now body) ⌝ }
+    ensures { λ r. ⌜ r ≡ restVerdict at (bitsOf (now (body .entry))) ⌝ }
+{
+    let unused = ((8 - at % 8) % 8) as u32;
+    let alignment = bits::peek(body, at, unused);
+    if alignment != 0 {
+        let zeros = bits::leading((alignment << (8 - unused)) as u8);
+        return Verdict::Refused(
+            Reason::Unfixed(Fixed::Alignment),
+            Item::Bit(at + zeros as usize),
+        );
+    }
+    let wrong = bits::first_set(body, (at + 7) / 8);
+    if wrong < body.len() {
+        let zeros = bits::leading(body[wrong]);
+        return Verdict::Refused(
+            Reason::Unfixed(Fixed::Stuffing),
+            Item::Bit(8 * wrong + zeros as usize),
+        );
+    }
+    Verdict::Accepted
+}
+
+// A refusal, and no value beside it.
+fn refused(verdict: Verdict) -> Answer
+    ensures { λ r. ⌜ r ≡ record { verdict = verdict; unit = stored none } ⌝ }
+{
+    let unit = nothing();
+    Answer { verdict, unit }
+}
+
+// No value: what an answer without one holds.
+pub fn nothing() -> CaptionUnit
+    ensures { λ r. ⌜ r ≡ stored none ⌝ }
+{
+    CaptionUnit {
+        reserved: 0,
+        vbi_data_flag: 0,
+        n: 0,
+        records: [blank(); MAX_RECORDS],
+        z: 0,
+    }
+}
+
+fn blank() -> Record
+    ensures { λ r. ⌜ r ≡ Value·blank ⌝ }
+{
+    Record {
+        cc_priority: 0,
+        field_number: DisplayField(0),
+        line_offset: 0,
+        cc_data_1: 0,
+        cc_data_2: 0,
+    }
+}

@@ -1,0 +1,10 @@
+pub mod Cuts
+pub mod Splits
+pub mod Spans
+pub mod Reach
+pub mod Opened
+pub mod Kept
+pub mod Steps
+pub mod Walk
+pub mod Refusals
+pub mod Theorems

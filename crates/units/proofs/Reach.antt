@@ -1,0 +1,118 @@
+-- How far it is to the next 00 00 01 from a place of a list, and what stands there.
+-- Assumes nothing.
+use Prim.Native.Nat.{ℕ, suc, _+_, _≤_, _<_}
+use native.Mathlib.Omega.{arith}
+use mathlib.Core.Path.{_≡_, _∙_, ap, sym, refl}
+use mathlib.Core.Bool.{Bool, true, false, _&&_, and-false}
+use mathlib.Core.List.{List, [], _∷_}
+use borrow.Author.Tests.{ne-eqb}
+use lib.Dec.{eqb}
+use lib.ListN.{length, getD, drop, length-drop, drop-of-length-le}
+use lib.Seq.{drop-cons}
+use Rattle.units.specs.Layout.{prefixed}
+use Rattle.units.specs.Split.{cutAt, cutOf, reach, nextOf}
+
+-- a 00 00 01 is reached at once
+pub reach-here : (s : List ℕ) → prefixed s ≡ true → reach s ≡ 0
+reach-here [] e = refl
+reach-here (b ∷ s) e = ap (λ (t : Bool). length (cutAt t b (cutOf s) .before)) e
+
+-- any other byte is passed
+pub reach-more : (b : ℕ) (s : List ℕ) → prefixed (b ∷ s) ≡ false → reach (b ∷ s) ≡ suc (reach s)
+reach-more b s e = ap (λ (t : Bool). length (cutAt t b (cutOf s) .before)) e
+
+-- none begins where the first, the second or the third byte is another
+pub first-other : (a : ℕ) (s : List ℕ) → (a ≡ 0 → ⊥) → prefixed (a ∷ s) ≡ false
+first-other a [] h = refl
+first-other a (b ∷ []) h = refl
+first-other a (b ∷ c ∷ s) h = ap (λ (t : Bool). t && (eqb b 0 && eqb c 1)) (ne-eqb a 0 h)
+
+pub second-other : (a b : ℕ) (s : List ℕ) → (b ≡ 0 → ⊥) → prefixed (a ∷ b ∷ s) ≡ false
+second-other a b [] h = refl
+second-other a b (c ∷ s) h = ap (λ (t : Bool). eqb a 0 && (t && eqb c 1)) (ne-eqb b 0 h) ∙ and-false (eqb a 0)
+
+pub third-other : (a b c : ℕ) (s : List ℕ) → (c ≡ 1 → ⊥) → prefixed (a ∷ b ∷ c ∷ s) ≡ false
+third-other a b c s h =
+    ap (λ (t : Bool). eqb a 0 && t) (ap (λ (t : Bool). eqb b 0 && t) (ne-eqb c 1 h) ∙ and-false (eqb b 0)) ∙ and-false (eqb a 0)
+
+-- a third byte that is not 0 rules out the next two places
+pub reach-three : (a b c : ℕ) (s : List ℕ) → prefixed (a ∷ b ∷ c ∷ s) ≡ false → (c ≡ 0 → ⊥) → reach (a ∷ b ∷ c ∷ s) ≡ suc (suc (suc (reach s)))
+reach-three a b c s e h =
+    reach-more a (b ∷ c ∷ s) e
+    ∙ ap suc (reach-more b (c ∷ s) (second-other b c s h) ∙ ap suc (reach-more c s (first-other c s h)))
+
+-- none begins in fewer than three bytes
+pub reach-short : (s : List ℕ) → length s < 3 → reach s ≡ length s
+reach-short [] h = refl
+reach-short (a ∷ []) h = refl
+reach-short (a ∷ b ∷ []) h = refl
+reach-short (a ∷ b ∷ c ∷ s) h = let f : ⊥ = omega arith in absurd f
+
+-- three bytes stand at i
+pub drop-three : (s : List ℕ) (i : ℕ) → i + 2 < length s → drop i s ≡ getD s i 0 ∷ getD s (i + 1) 0 ∷ getD s (i + 2) 0 ∷ drop (i + 3) s
+drop-three s i h =
+    let one : suc i ≡ i + 1 = omega arith in
+    let two : suc (i + 1) ≡ i + 2 = omega arith in
+    let three : suc (i + 2) ≡ i + 3 = omega arith in
+    drop-cons s i 0 (omega arith)
+    ∙ ap (λ (l : List ℕ). getD s i 0 ∷ l)
+    (ap (λ (k : ℕ). drop k s) one
+    ∙ drop-cons s (i + 1) 0 (omega arith)
+    ∙ ap (λ (l : List ℕ). getD s (i + 1) 0 ∷ l)
+    (ap (λ (k : ℕ). drop k s) two
+    ∙ drop-cons s (i + 2) 0 h
+    ∙ ap (λ (k : ℕ). getD s (i + 2) 0 ∷ drop k s) three))
+
+-- the search for the next 00 00 01, at a place i of the list s
+module _ (s : List ℕ) (i : ℕ) where
+  -- it stands here
+  pub next-here : prefixed (drop i s) ≡ true → nextOf s i ≡ i
+  next-here e = omega (arith, reach-here (drop i s) e)
+
+  -- behind the end there is none
+  pub next-past : length s ≤ i → nextOf s i ≡ i
+  next-past h = omega (arith, ap reach (drop-of-length-le s h))
+
+  -- nor in the last two bytes
+  pub next-short : i ≤ length s → length s ≤ i + 2 → nextOf s i ≡ length s
+  next-short h short =
+      let left : length (drop i s) < 3 = omega (arith, length-drop i s) in
+      omega (arith, length-drop i s, reach-short (drop i s) left)
+
+  module _ (h : i + 2 < length s) where
+    pub three-here : getD s i 0 ≡ 0 → getD s (i + 1) 0 ≡ 0 → getD s (i + 2) 0 ≡ 1 → prefixed (drop i s) ≡ true
+    three-here a b c = ap prefixed (drop-three s i h) ∙ simp (a, b, c)
+
+    -- three places are ruled out
+    next-three : prefixed (drop i s) ≡ false → (getD s (i + 2) 0 ≡ 0 → ⊥) → nextOf s i ≡ nextOf s (i + 3)
+    next-three e other =
+        omega (
+          arith,
+          ap reach (drop-three s i h),
+          reach-three (getD s i 0) (getD s (i + 1) 0) (getD s (i + 2) 0) (drop (i + 3) s) (ap prefixed (sym (drop-three s i h)) ∙ e) other,
+        )
+
+    -- a third byte 0 leaves the next place open
+    pub next-zero : getD s (i + 2) 0 ≡ 0 → nextOf s i ≡ nextOf s (i + 1)
+    next-zero e =
+        let one : suc i ≡ i + 1 = omega arith in
+        let inside : i < length s = omega arith in
+        let cons : drop i s ≡ getD s i 0 ∷ drop (i + 1) s = drop-cons s i 0 inside ∙ ap (λ (k : ℕ). getD s i 0 ∷ drop k s) one in
+        let other : getD s (i + 2) 0 ≡ 1 → ⊥ = λ f. omega arith in
+        let none : prefixed (getD s i 0 ∷ drop (i + 1) s) ≡ false =
+        ap prefixed (sym cons ∙ drop-three s i h) ∙ third-other (getD s i 0) (getD s (i + 1) 0) (getD s (i + 2) 0) (drop (i + 3) s) other in
+        omega (arith, ap reach cons, reach-more (getD s i 0) (drop (i + 1) s) none)
+
+    -- a third byte that is neither 0 nor, behind two bytes 0, 1 leaves none of the three
+    module _ (other : getD s (i + 2) 0 ≡ 0 → ⊥) where
+      pub next-third : (getD s (i + 2) 0 ≡ 1 → ⊥) → nextOf s i ≡ nextOf s (i + 3)
+      next-third differs =
+          next-three (ap prefixed (drop-three s i h) ∙ third-other (getD s i 0) (getD s (i + 1) 0) (getD s (i + 2) 0) (drop (i + 3) s) differs) other
+
+      pub next-second : (getD s (i + 1) 0 ≡ 0 → ⊥) → nextOf s i ≡ nextOf s (i + 3)
+      next-second differs =
+          next-three (ap prefixed (drop-three s i h) ∙ second-other (getD s i 0) (getD s (i + 1) 0) (getD s (i + 2) 0 ∷ drop (i + 3) s) differs) other
+
+      pub next-first : (getD s i 0 ≡ 0 → ⊥) → nextOf s i ≡ nextOf s (i + 3)
+      next-first differs =
+          next-three (ap prefixed (drop-three s i h) ∙ first-other (getD s i 0) (getD s (i + 1) 0 ∷ getD s (i + 2) 0 ∷ drop (i + 3) s) differs) other

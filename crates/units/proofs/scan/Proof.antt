@@ -1,0 +1,177 @@
+-- `units::scan` meets its contract. The outer loop's invariant: `Going`, the walk stands at `at`. The inner loop's: the next 00 00 01 from i on is the
+-- next from the body's first byte on.
+-- Assumes nothing.
+use Prim.Native.Nat.{ℕ, _+_, _-_, _≤_, _<_}
+use native.Mathlib.Omega.{arith}
+use mathlib.Core.Path.{_≡_, _∙_, sym, refl}
+use mathlib.Core.Logic.{⊎-elim}
+use mathlib.Core.List.{List}
+use borrow.Author.Needs.{needs}
+use borrow.Author.Tests.{eqb-true, eqb-false, not-true, not-false}
+use denote.Ref.{now}
+use lib.ListN.{length, List·getD-eq-default}
+use Rattle.kind.specs.Ours.{ours}
+use Rattle.units.specs.Split.{nextOf}
+use Rattle.units.proofs.Reach.{next-here, next-short, three-here, next-zero, next-third, next-second, next-first}
+use Rattle.units.proofs.Steps.{next-within}
+use Rattle.units.proofs.Walk.{Going, front-refused, begins, room, refused, ended, passed-foreign, passed-ours}
+use Rattle.units.proofs.scan.Statement.{statement}
+use Rattle.units.proofs.scan.Tie as tie
+
+abbrev Inv-loop : tie.InvT-loop
+Inv-loop s kind seen at body next₀ i₀ next i = (i ≤ length s) × (next ≡ length s) × (nextOf s body ≡ nextOf s i)
+
+abbrev μ-loop : tie.MeasureT-loop
+μ-loop s kind seen at body next₀ i₀ next i = length s - i
+
+abbrev Inv-units : tie.InvT-units
+Inv-units s kind seen₀ at₀ seen at = Going (ours kind) s seen at
+
+abbrev μ-units : tie.MeasureT-units
+μ-units s kind seen₀ at₀ seen at = length s - at
+
+front : tie.Need-returns Inv-loop μ-loop Inv-units μ-units
+front c =
+    let judged = c .before .before .before in
+    let args = judged .before .before .args in
+    sym (front-refused (ours (args .kind)) (now (args .s)) _ _ (sym (judged .judge-front .ensures) ∙ c .before .front .given .1))
+
+units-holds : tie.Need-units-holds Inv-loop μ-loop Inv-units μ-units
+units-holds c =
+    let judged = c .before .before in
+    let args = judged .before .before .args in
+    begins (ours (args .kind)) (now (args .s)) (sym (judged .judge-front .ensures) ∙ c .enum-told .given .1)
+
+-- where the walk stands
+module _ (c : tie.At-units Inv-loop μ-loop Inv-units μ-units) where
+  abbrev area : List ℕ
+  area = now (c .before .before .before .before .before .args .s)
+
+cut-short : tie.Need-returns-2 Inv-loop μ-loop Inv-units μ-units
+cut-short c =
+    let walk = c .before .before in
+    let past : length (area walk) ≤ walk .units .at + 3 = omega arith in
+    sym (refused (walk .units .inv) (c .before .units-test .taken) (λ e. omega (arith, List·getD-eq-default (area walk) 0 past)))
+
+another-code : tie.Need-returns-3 Inv-loop μ-loop Inv-units μ-units
+another-code c =
+    let turn = c .before .before .before in
+    let walk = turn .before in
+    sym (refused (walk .units .inv) (turn .units-test .taken) (c .if2 .taken))
+
+-- the search in the body
+loop-holds : tie.Need-loop-holds Inv-loop μ-loop Inv-units μ-units
+loop-holds c = (omega arith, refl, refl)
+
+one-further : tie.Need-loop-again Inv-loop μ-loop Inv-units μ-units
+one-further c =
+    let turn = c .before .before in
+    let at = turn .before in
+    let s = area (at .before .before .before .before .before) in
+    (omega arith, at .loop .inv .1, at .loop .inv .2 ∙ next-zero s (at .loop .i) (turn .loop-test .taken) (c .if3 .taken))
+
+three-further : tie.Need-loop-again-2 Inv-loop μ-loop Inv-units μ-units
+three-further c =
+    let turn = c .before .before .before in
+    let at = turn .before in
+    let s = area (at .before .before .before .before .before) in
+    let i = at .loop .i in
+    let three = turn .loop-test .taken in
+    let other = c .before .if3 .left in (
+      omega arith,
+      at .loop .inv .1,
+      at .loop .inv .2
+          ∙ ⊎-elim
+          (λ w. next-first s i three other (eqb-false _ _ (w .4 .left)))
+          (⊎-elim (λ w. next-second s i three other (eqb-false _ _ (w .2 .left))) (λ w. next-third s i three other (w .left)))
+          (c .if4 .came),
+    )
+
+-- behind it
+module _ (c : tie.Left-loop Inv-loop μ-loop Inv-units μ-units) where
+  abbrev walk : tie.At-units Inv-loop μ-loop Inv-units μ-units
+  walk = c .before .before .before .before .before .before
+
+  stands : c .loop-test .next ≡ nextOf (area walk) (walk .units .at + 4)
+  stands =
+      let s = area walk in
+      let i = c .before .loop .i in
+      let inv = c .before .loop .inv in
+      ⊎-elim
+      (λ w. w .1 ∙ inv .1 ∙ sym (inv .2 ∙ next-short s i (inv .0) (w .0 .left)))
+      (λ w. w .8 ∙ sym (inv .2 ∙ next-here s i (three-here s i (w .0 .taken) (eqb-true _ _ (w .7 .taken)) (eqb-true _ _ (w .5 .taken)) (w .3 .taken))))
+      (c .loop-test .came)
+
+  fits : walk .units .at + 3 < length (area walk)
+  fits = omega arith
+
+  bounds : (walk .units .at + 4 ≤ c .loop-test .next) × (c .loop-test .next ≤ length (area walk))
+  bounds = let four : walk .units .at + 4 ≤ length (area walk) = omega arith in omega (arith, stands, next-within (area walk) (walk .units .at + 4) four)
+
+units-again : tie.Need-units-again Inv-loop μ-loop Inv-units μ-units
+units-again c =
+    let left = c .before .before .before .before in
+    passed-foreign (walk left .units .inv) (fits left) (left .before .before .if2 .left) (left .loop-test .next) (stands left)
+    (sym (c .before .ours .ensures) ∙ not-true _ (c .if7 .taken))
+
+noted-requires : tie.Need-noted-requires Inv-loop μ-loop Inv-units μ-units
+noted-requires c κs =
+    let left = c .before .before .before .before in
+    room (walk left .units .inv) (omega (arith, fits left))
+
+units-again-2 : tie.Need-units-again-2 Inv-loop μ-loop Inv-units μ-units
+units-again-2 c =
+    let left = c .before .before .before .before .before in
+    passed-ours (walk left .units .inv) (fits left) (left .before .before .if2 .left) (left .loop-test .next) (stands left)
+    (c .noted .result)
+    (sym (c .before .before .ours .ensures) ∙ not-false _ (c .before .if7 .left))
+    (c .noted .ensures)
+
+returns : tie.Need-returns-4 Inv-loop μ-loop Inv-units μ-units
+returns c =
+    let going = c .before .before .units .inv in
+    c .told .ensures (going .spans) (going .kept) ∙ sym (ended going (c .before .units-test .left))
+
+pub scan-spec : {M : Type 1} → statement M
+scan-spec =
+    tie.close
+    (tie.spec
+    Inv-loop
+    μ-loop
+    Inv-units
+    μ-units
+    (λ c κs. search needs)
+    (λ c. search needs)
+    front
+    (λ c. search needs)
+    units-holds
+    (λ c. search needs)
+    cut-short
+    (λ c. search needs)
+    (λ c. search needs)
+    another-code
+    (λ c. search needs)
+    loop-holds
+    (λ c. search needs)
+    (λ c. search needs)
+    (λ c. search needs)
+    (λ c. search needs)
+    (λ c. search needs)
+    one-further
+    (λ c. search needs)
+    (λ c. search needs)
+    (λ c. search needs)
+    (λ c. search needs)
+    (λ c. search needs)
+    three-further
+    (λ c. omega (arith, bounds (c .before)))
+    (λ c. omega (arith, bounds (c .before)))
+    (λ c. omega (arith, bounds (c .before)))
+    (λ c κs. search needs)
+    (λ c. omega (arith, bounds (c .before .before .before .before)))
+    units-again
+    noted-requires
+    (λ c. omega (arith, bounds (c .before .before .before .before .before)))
+    units-again-2
+    (λ c κs. search needs)
+    returns)

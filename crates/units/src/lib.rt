@@ -1,0 +1,166 @@
+// The units of an area: start codes, and the search for the units of one kind. It knows no kind of caption.
+//
+// Normative references: document 01, "Picture area"; ISO/IEC 13818-2, start codes.
+ghost use mathlib.Core.Path.{_≡_};
+ghost use Prim.Native.Nat.{_<_};
+ghost use Rattle.kind.specs.Ours.{ours};
+ghost use Rattle.units.specs.Split.{Notes, Tells, frontVerdict, nextOf, scanOf};
+use kind::Kind;
+use refusal::Item;
+use refusal::Reason;
+use refusal::Verdict;
+
+pub const MAX_BYTES: usize = 16384;
+
+pub const START_BYTES: usize = 4;
+
+// user_data_start_code, what follows 00 00 01
+pub const USER_DATA: u8 = 0xB2;
+
+// What the search for the units of one kind found.
+pub enum Found {
+    // The area is no list of units: 1, 2 or 3.
+    Refused(Reason, Item),
+    Nowhere,
+    // One unit: its first byte, and the first behind it.
+    At { unit: usize, end: usize },
+    // How many there are.
+    Many(usize),
+}
+
+// What the search has seen so far: how many units of the kind, and where the first stands.
+struct Seen {
+    count: usize,
+    unit: usize,
+    end: usize,
+}
+
+// Judges an area's start codes and looks for the units of one kind.
+pub fn scan(s: &[u8], kind: Kind) -> Found
+    ensures { λ r. ⌜ r ≡ scanOf (ours kind) (now (s .entry)) ⌝ }
+{
+    let front = judge_front(s);
+    if let Verdict::Refused(reason, item) = front {
+        return Found::Refused(reason, item);
+    }
+    let mut seen = Seen {
+        count: 0,
+        unit: 0,
+        end: 0,
+    };
+    let mut at = 0;
+    'units: while at < s.len() {
+        // 00 00 01 stands at `at`.
+        if s.len() - at < START_BYTES {
+            return Found::Refused(Reason::StartCode, Item::Whole);
+        }
+        if s[at + 3] != USER_DATA {
+            return Found::Refused(Reason::StartCode, Item::Whole);
+        }
+        let body = at + START_BYTES;
+        let mut next = s.len();
+        let mut i = body;
+        while i + 2 < s.len() {
+            let third = s[i + 2];
+            if third == 0 {
+                i += 1;
+            } else if third == 1 && s[i + 1] == 0 && s[i] == 0 {
+                next = i;
+                break;
+            } else {
+                // Neither here nor at the next two places can 00 00 01 begin.
+                i += 3;
+            }
+        }
+        let unit = at;
+        at = next;
+        if !kind::ours(&s[body..next], kind) {
+            continue 'units;
+        }
+        seen = noted(seen, unit, next);
+    }
+    told(seen)
+}
+
+// 1 and 2.
+fn judge_front(s: &[u8]) -> Verdict
+    ensures { λ r. ⌜ r ≡ frontVerdict (now (s .entry)) ⌝ }
+{
+    if MAX_BYTES < s.len() {
+        return Verdict::Refused(Reason::TooLong, Item::Whole);
+    }
+    if s.len() == 0 {
+        return Verdict::Accepted;
+    }
+    if s.len() < START_BYTES {
+        return Verdict::Refused(Reason::NoStart, Item::Whole);
+    }
+    if s[0] != 0 {
+        return Verdict::Refused(Reason::NoStart, Item::Whole);
+    }
+    if s[1] != 0 {
+        return Verdict::Refused(Reason::NoStart, Item::Whole);
+    }
+    if s[2] != 1 {
+        return Verdict::Refused(Reason::NoStart, Item::Whole);
+    }
+    if s[3] != USER_DATA {
+        return Verdict::Refused(Reason::NoStart, Item::Whole);
+    }
+    Verdict::Accepted
+}
+
+// A unit of the kind more. Only the first is kept.
+fn noted(seen: Seen, unit: usize, end: usize) -> Seen
+    requires { ⌜ seen .count < 16384 ⌝ }
+    ensures { λ r. ⌜ Notes seen (record { unit = unit; end = end }) r ⌝ }
+{
+    if seen.count == 0 {
+        return Seen {
+            count: 1,
+            unit,
+            end,
+        };
+    }
+    Seen {
+        count: seen.count + 1,
+        unit: seen.unit,
+        end: seen.end,
+    }
+}
+
+fn told(seen: Seen) -> Found
+    ensures { λ r. ⌜ Tells seen r ⌝ }
+{
+    if seen.count == 0 {
+        return Found::Nowhere;
+    }
+    if seen.count == 1 {
+        return Found::At {
+            unit: seen.unit,
+            end: seen.end,
+        };
+    }
+    Found::Many(seen.count)
+}
+
+// The first 00 00 01 from index `from` on, or the end: where the unit ends in whose body `from` lies.
+pub fn next(s: &[u8], from: usize) -> usize
+    ensures { λ r. ⌜ r ≡ nextOf (now (s .entry)) from ⌝ }
+{
+    let mut i = from;
+    while i < s.len() {
+        if s.len() - i < 3 {
+            return s.len();
+        }
+        let third = s[i + 2];
+        if third == 0 {
+            i += 1;
+        } else if third == 1 && s[i + 1] == 0 && s[i] == 0 {
+            return i;
+        } else {
+            i += 3;
+        }
+    }
+    i
+}
