@@ -57,6 +57,7 @@ fn judge_head(body: &[u8]) -> Verdict
     if body[0] != 3 {
         return Verdict::Refused(Reason::Unfixed(Fixed::Identifier), Item::Bit(0));
     }
+    // The reserved bits and the flag share a byte.
     if body.len() < 2 {
         return Verdict::Refused(Reason::Ends, Item::Bit(8));
     }
@@ -162,15 +163,15 @@ fn record_of(construct: u32) -> Record
     requires { ⌜ construct < 67108864 ⌝ }
     ensures { λ r. ⌜ r ≡ constructOf construct ⌝ }
 {
-    let field_number = DisplayField((construct / 4194304 % 4) as u8);
-    let first = (construct / 512 % 256) as u8;
-    let second = (construct / 2 % 256) as u8;
+    let field_number = DisplayField(((construct >> 22) % 4) as u8);
+    let first = ((construct >> 9) % 256) as u8;
+    let second = ((construct >> 1) % 256) as u8;
     let cc_data_1 = bits::reverse(first);
     let cc_data_2 = bits::reverse(second);
     Record {
-        cc_priority: (construct / 16777216) as u8,
+        cc_priority: (construct >> 24) as u8,
         field_number,
-        line_offset: (construct / 131072 % 32) as u8,
+        line_offset: ((construct >> 17) % 32) as u8,
         cc_data_1,
         cc_data_2,
     }

@@ -23,6 +23,7 @@ pub(crate) fn judge_record(last: Last, r: Record, at: usize) -> Verdict
     if field < before {
         return Verdict::Refused(Reason::FieldFalls, Item::Bit(at + 2));
     }
+    // In a new field any line may come first, and none of its records is before.
     if before < field {
         return Verdict::Accepted;
     }
@@ -32,12 +33,14 @@ pub(crate) fn judge_record(last: Last, r: Record, at: usize) -> Verdict
     if r.cc_priority != 0 {
         return Verdict::Accepted;
     }
+    // Up to four lines of a display field may have priority 0 (001, 5.8.1).
     if 3 < last.urgent {
         return Verdict::Refused(Reason::FifthPriority, Item::Bit(at));
     }
     Verdict::Accepted
 }
 
+// Before the first record. No record has field 0.
 pub(crate) fn first() -> Last
     ensures { λ l. ⌜ l ≡ lastOf [] ⌝ }
 {
