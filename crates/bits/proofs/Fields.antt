@@ -4,10 +4,10 @@ use Prim.Native.Nat.{ℕ, _+_, _-_, _*_, _/_, _%_, _^_, _≤_, _<_}
 use native.Mathlib.Nat.{lt-of-lt-of-le}
 use native.Mathlib.Omega.{arith}
 use mathlib.Core.Path.{_≡_, _∙_, ap, sym}
-use mathlib.Core.List.{List, _++_}
+use mathlib.Core.List.{List}
 use lib.ListN.{length, getD, take, drop, length-take, length-drop}
 use lib.Pow.{pow-mono, high, low}
-use lib.Seq.{length-take-le, take-add, drop-drop, drop-cons, take-at, drop-at}
+use lib.Seq.{length-take-le, take-add, drop-drop, drop-cons}
 use Rattle.lists.specs.Bytes.{Bytes}
 use Rattle.lists.proofs.Each.{each-at}
 use Rattle.bits.specs.Bits.{bits, num, bitsOf, field, AreBits}
@@ -19,11 +19,6 @@ field-lt xs at w h =
     let cut = take w (drop at xs) in
     let short : length cut ≤ w = omega (arith, length-take w (drop at xs)) in
     lt-of-lt-of-le (num-lt cut (are-take w (drop at xs) (are-drop at xs h))) (pow-mono short)
-
--- what stands between two lists
-pub field-cut : (pre xs post : List ℕ) (at w : ℕ) → length pre ≡ at → length xs ≡ w → field (pre ++ (xs ++ post)) at w ≡ num xs
-field-cut pre xs post at w e f =
-    ap (λ (ys : List ℕ). num (take w ys)) (drop-at pre (xs ++ post) at e) ∙ ap num (take-at xs post w f)
 
 pub field-bits : (xs : List ℕ) (at w : ℕ) → AreBits xs → at + w ≤ length xs → bits w (field xs at w) ≡ take w (drop at xs)
 field-bits xs at w h fits =

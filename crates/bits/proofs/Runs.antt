@@ -6,7 +6,7 @@ use native.Mathlib.Numerals.{add-one, one-add}
 use native.Mathlib.Omega.{arith}
 use mathlib.Core.Path.{_≡_, _∙_, ap, ap₂, sym, subst, refl}
 use mathlib.Core.List.{List, [], _∷_, _++_}
-use lib.ListN.{length, getD, drop, replicate, length-drop, drop-of-length-le}
+use lib.ListN.{length, getD, drop, replicate, drop-of-length-le}
 use lib.Pow.{pow-pos, shl-shr, shr-lt, split}
 use lib.Seq.{drop-cons}
 use Rattle.lists.specs.Bytes.{Bytes}
@@ -84,15 +84,6 @@ module _ (s : List ℕ) (from : ℕ) where
   firstSet-next inside e =
       let step : drop from s ≡ 0 ∷ drop (from + 1) s = drop-cons s from 0 inside ∙ ap₂ (λ (b n : ℕ). b ∷ drop n s) e (sym (add-one from)) in
       omega (arith, ap zeroBytes step)
-
-  -- it ends no earlier than it begins, and no later than the bytes do
-  pub firstSet-ge : from ≤ firstSet s from
-  unfolding firstSet
-  firstSet-ge = omega arith
-
-  pub firstSet-le : from ≤ length s → firstSet s from ≤ length s
-  unfolding firstSet
-  firstSet-le h = omega (arith, zeroBytes-le (drop from s), length-drop from s)
 
 -- the bits of bytes begin with those of the zero bytes, then with those that lead the first other byte
 pub zeros-bytes : (s : List ℕ) → Bytes s → zeroBytes s < length s → zeros (bitsOf s) ≡ 8 * zeroBytes s + leadingOf (getD s (zeroBytes s) 0)

@@ -8,7 +8,7 @@ use mathlib.Core.List.{List, [], _∷_, _++_}
 use borrow.Author.Tests.{le-ltb, eq-eqb}
 use lib.Dec.{eqb, ltb}
 use lib.ListN.{length, take, drop, length-append, length-drop}
-use lib.Seq.{drop-drop, drop-append-seam}
+use lib.Seq.{drop-drop}
 use Rattle.lists.specs.Each.{Each}
 use Rattle.lists.proofs.Cut.{take-join}
 use Rattle.refusal.specs.declared.Verdict.the-variants.{Accepted}
@@ -197,14 +197,14 @@ behind-construct : (r : Record) (at : ℕ) (xs rest : List ℕ) → drop at xs �
 behind-construct r at xs rest e = sym (drop-drop 26 at xs) ∙ ap (drop 26) e
 
 -- constructs of legal records that fit, standing from bit `at` on, are accepted
-pub accepted-constructs-on : (before rs : List Record) (at : ℕ) (xs post : List ℕ) → Each LegalRecord rs → AllFit before rs
+pub accepted-constructs : (before rs : List Record) (at : ℕ) (xs post : List ℕ) → Each LegalRecord rs → AllFit before rs
     → drop at xs ≡ constructsBits rs ++ post → constructsVerdict before (length rs) at xs ≡ Accepted
-accepted-constructs-on before [] at xs post h fit e = refl
-accepted-constructs-on before (r ∷ rs) at xs post h fit e =
+accepted-constructs before [] at xs post h fit e = refl
+accepted-constructs before (r ∷ rs) at xs post h fit e =
     let rest = constructsBits rs ++ post in
     let here = constructAt at xs in
     let back : here ≡ r = construct-back r at xs rest (legal-ranged r (h .0)) e in
-    let behind = accepted-constructs-on (r ∷ before) rs (at + 26) xs post (h .1) (fit .1) (behind-construct r at xs rest e) in
+    let behind = accepted-constructs (r ∷ before) rs (at + 26) xs post (h .1) (fit .1) (behind-construct r at xs rest e) in
     accepted-andThen
     (missing at 26 xs)
     (first (recordVerdict at before here ∷ markerVerdict at xs ∷ constructsVerdict (here ∷ before) (length rs) (at + 26) xs ∷ []))
@@ -224,22 +224,12 @@ accepted-constructs-on before (r ∷ rs) at xs post h fit e =
     refl)))
 
 -- and read as they were
-pub records-back-on : (rs : List Record) (at : ℕ) (xs post : List ℕ) → Each LegalRecord rs → drop at xs ≡ constructsBits rs ++ post
+pub records-back : (rs : List Record) (at : ℕ) (xs post : List ℕ) → Each LegalRecord rs → drop at xs ≡ constructsBits rs ++ post
     → recordsAt (length rs) at xs ≡ rs
-records-back-on [] at xs post h e = refl
-records-back-on (r ∷ rs) at xs post h e =
+records-back [] at xs post h e = refl
+records-back (r ∷ rs) at xs post h e =
     let rest = constructsBits rs ++ post in
     ap₂
     (λ (q : Record) (qs : List Record). q ∷ qs)
     (construct-back r at xs rest (legal-ranged r (h .0)) e)
-    (records-back-on rs (at + 26) xs post (h .1) (behind-construct r at xs rest e))
-
--- the same behind bits that stand before them
-pub accepted-constructs : (before rs : List Record) (pre post : List ℕ) → Each LegalRecord rs → AllFit before rs
-    → constructsVerdict before (length rs) (length pre) (pre ++ (constructsBits rs ++ post)) ≡ Accepted
-accepted-constructs before rs pre post h fit =
-    accepted-constructs-on before rs (length pre) (pre ++ (constructsBits rs ++ post)) post h fit (drop-append-seam pre (constructsBits rs ++ post))
-
-pub records-back : (rs : List Record) (pre post : List ℕ) → Each LegalRecord rs → recordsAt (length rs) (length pre) (pre ++ (constructsBits rs ++ post)) ≡ rs
-records-back rs pre post h =
-    records-back-on rs (length pre) (pre ++ (constructsBits rs ++ post)) post h (drop-append-seam pre (constructsBits rs ++ post))
+    (records-back rs (at + 26) xs post (h .1) (behind-construct r at xs rest e))

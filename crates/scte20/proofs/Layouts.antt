@@ -25,7 +25,7 @@ use Rattle.scte20.specs.Value.{Content, LegalRecord, Legal, fieldOf}
 use Rattle.scte20.specs.Layout.{constructsBits, flaggedBits, itemBits, padding, layout}
 use Rattle.scte20.specs.Reading.{missing, zeroVerdict, constructsVerdict, recordsAt, sampledVerdict, restVerdict, headVerdict, flagIn, countIn, flagVerdict, contentVerdict, recordsIn, sizeIn, valueOf}
 use Rattle.scte20.proofs.Fitting.{AllFit, legal-fit}
-use Rattle.scte20.proofs.Constructs.{length-constructs, accepted-missing, long-enough, accepted-constructs-on, records-back-on}
+use Rattle.scte20.proofs.Constructs.{length-constructs, accepted-missing, long-enough, accepted-constructs, records-back}
 use Rattle.scte20.proofs.Sizes.{bitsIn, length-items, bitsOf-layout, length-layout}
 use Rattle.scte20.proofs.Contents.{accepted-zero}
 
@@ -96,7 +96,7 @@ module _ (f : ℕ) (rs : List Record) (xs : List ℕ) (m : ℕ) (few : length rs
       (accepted-andThen
       (constructsVerdict [] (length rs) 21 xs)
       (first (sampledVerdict (21 + 26 * length rs) xs ∷ restVerdict (25 + 26 * length rs) xs ∷ []))
-      (accepted-constructs-on [] rs 21 xs (afterRun rs m) each fit run-stands)
+      (accepted-constructs [] rs 21 xs (afterRun rs m) each fit run-stands)
       (accepted-andThen
       (sampledVerdict (21 + 26 * length rs) xs)
       (first (restVerdict (25 + 26 * length rs) xs ∷ []))
@@ -108,7 +108,7 @@ module _ (f : ℕ) (rs : List Record) (xs : List ℕ) (m : ℕ) (few : length rs
 
   set-back : Each LegalRecord rs → recordsIn (suc f) xs ≡ rs
   set-back each =
-      ap (λ (n : ℕ). recordsAt n 21 xs) count-back ∙ records-back-on rs 21 xs (afterRun rs m) each run-stands
+      ap (λ (n : ℕ). recordsAt n 21 xs) count-back ∙ records-back rs 21 xs (afterRun rs m) each run-stands
 
 -- ---- whatever the flag is
 
