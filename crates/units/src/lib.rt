@@ -62,13 +62,16 @@ pub fn scan(s: &[u8], kind: Kind) -> Found
         let mut i = body;
         while i + 2 < s.len() {
             let third = s[i + 2];
-            if third == 0 {
+            if 1 < third {
+                // A byte above 1 rules out three places.
+                i += 3;
+            } else if third == 0 {
                 i += 1;
-            } else if third == 1 && s[i + 1] == 0 && s[i] == 0 {
+            } else if s[i + 1] == 0 && s[i] == 0 {
                 next = i;
                 break;
             } else {
-                // Neither here nor at the next two places can 00 00 01 begin.
+                // So does a 1 without two zeros before it.
                 i += 3;
             }
         }
@@ -154,9 +157,11 @@ pub fn next(s: &[u8], from: usize) -> usize
             return s.len();
         }
         let third = s[i + 2];
-        if third == 0 {
+        if 1 < third {
+            i += 3;
+        } else if third == 0 {
             i += 1;
-        } else if third == 1 && s[i + 1] == 0 && s[i] == 0 {
+        } else if s[i + 1] == 0 && s[i] == 0 {
             return i;
         } else {
             i += 3;

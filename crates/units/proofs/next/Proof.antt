@@ -29,33 +29,41 @@ too-few c =
 three : (c : tie.Else1 Inv-loop μ-loop) → c .before .before .loop .i + 2 < length (now (c .before .before .before .args .s))
 three c = omega arith
 
-one-further : tie.Need-loop-again Inv-loop μ-loop
-one-further c =
+above-one : tie.Need-loop-again Inv-loop μ-loop
+above-one c =
     let turn = c .before .before in
     let s = now (turn .before .before .before .args .s) in
-    turn .before .before .loop .inv ∙ next-zero s (turn .before .before .loop .i) (three turn) (c .if2 .taken)
+    let third = c .if2 .taken in
+    turn .before .before .loop .inv ∙ next-third s (turn .before .before .loop .i) (three turn) (λ e. omega arith) (λ e. omega arith)
+
+one-further : tie.Need-loop-again-2 Inv-loop μ-loop
+one-further c =
+    let turn = c .before .before .before in
+    let s = now (turn .before .before .before .args .s) in
+    turn .before .before .loop .inv ∙ next-zero s (turn .before .before .loop .i) (three turn) (c .if3 .taken)
 
 found : tie.Need-returns-2 Inv-loop μ-loop
 found c =
     let second = c .before .before in
-    let third = second .before .before in
-    let turn = third .before .before .before in
+    let one = second .before .before in
+    let turn = one .before .before .before in
     let s = now (turn .before .before .before .args .s) in
     let i = turn .before .before .loop .i in
-    let here = three-here s i (three turn) (eqb-true _ _ (c .if5 .taken)) (eqb-true _ _ (second .if4 .taken)) (third .if3 .taken) in
+    let here = three-here s i (three turn) (eqb-true _ _ (c .if5 .taken)) (second .if4 .taken) (omega (arith, one .if3 .left, one .before .if2 .left)) in
     sym (turn .before .before .loop .inv ∙ next-here s i here)
 
-three-further : tie.Need-loop-again-2 Inv-loop μ-loop
+three-further : tie.Need-loop-again-3 Inv-loop μ-loop
 three-further c =
-    let turn = c .before .before .before in
+    let one = c .before .before in
+    let turn = one .before .before .before in
     let s = now (turn .before .before .before .args .s) in
     let i = turn .before .before .loop .i in
-    let other = c .before .if2 .left in
+    let other = one .if3 .left in
     turn .before .before .loop .inv
     ∙ ⊎-elim
-    (λ w. next-first s i (three turn) other (eqb-false _ _ (w .4 .left)))
-    (⊎-elim (λ w. next-second s i (three turn) other (eqb-false _ _ (w .2 .left))) (λ w. next-third s i (three turn) other (w .left)))
-    (c .if3 .came)
+    (λ w. next-first s i (three turn) other (eqb-false _ _ (w .2 .left)))
+    (λ w. next-second s i (three turn) other (w .left))
+    (c .if4 .came)
 
 at-end : tie.Need-returns-3 Inv-loop μ-loop
 at-end c = sym (c .before .loop .inv ∙ next-past (now (c .before .before .args .s)) (c .before .loop .i) (c .loop-test .left))
@@ -71,6 +79,9 @@ next-spec =
     too-few
     (λ c. search needs)
     (λ c. search needs)
+    (λ c. search needs)
+    (λ c. search needs)
+    above-one
     (λ c. search needs)
     (λ c. search needs)
     one-further

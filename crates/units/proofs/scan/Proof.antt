@@ -63,28 +63,39 @@ another-code c =
 loop-holds : tie.Need-loop-holds Inv-loop μ-loop Inv-units μ-units
 loop-holds c = (omega arith, refl, refl)
 
-one-further : tie.Need-loop-again Inv-loop μ-loop Inv-units μ-units
-one-further c =
+above-one : tie.Need-loop-again Inv-loop μ-loop Inv-units μ-units
+above-one c =
     let turn = c .before .before in
     let at = turn .before in
     let s = area (at .before .before .before .before .before) in
-    (omega arith, at .loop .inv .1, at .loop .inv .2 ∙ next-zero s (at .loop .i) (turn .loop-test .taken) (c .if3 .taken))
+    let third = c .if3 .taken in (
+      omega arith,
+      at .loop .inv .1,
+      at .loop .inv .2 ∙ next-third s (at .loop .i) (turn .loop-test .taken) (λ e. omega arith) (λ e. omega arith),
+    )
 
-three-further : tie.Need-loop-again-2 Inv-loop μ-loop Inv-units μ-units
-three-further c =
+one-further : tie.Need-loop-again-2 Inv-loop μ-loop Inv-units μ-units
+one-further c =
     let turn = c .before .before .before in
+    let at = turn .before in
+    let s = area (at .before .before .before .before .before) in
+    (omega arith, at .loop .inv .1, at .loop .inv .2 ∙ next-zero s (at .loop .i) (turn .loop-test .taken) (c .if4 .taken))
+
+three-further : tie.Need-loop-again-3 Inv-loop μ-loop Inv-units μ-units
+three-further c =
+    let turn = c .before .before .before .before .before in
     let at = turn .before in
     let s = area (at .before .before .before .before .before) in
     let i = at .loop .i in
     let three = turn .loop-test .taken in
-    let other = c .before .if3 .left in (
+    let other = c .before .before .if4 .left in (
       omega arith,
       at .loop .inv .1,
       at .loop .inv .2
           ∙ ⊎-elim
-          (λ w. next-first s i three other (eqb-false _ _ (w .4 .left)))
-          (⊎-elim (λ w. next-second s i three other (eqb-false _ _ (w .2 .left))) (λ w. next-third s i three other (w .left)))
-          (c .if4 .came),
+          (λ w. next-first s i three other (eqb-false _ _ (w .2 .left)))
+          (λ w. next-second s i three other (w .left))
+          (c .if5 .came),
     )
 
 -- behind it
@@ -99,7 +110,7 @@ module _ (c : tie.Left-loop Inv-loop μ-loop Inv-units μ-units) where
       let inv = c .before .loop .inv in
       ⊎-elim
       (λ w. w .1 ∙ inv .1 ∙ sym (inv .2 ∙ next-short s i (inv .0) (w .0 .left)))
-      (λ w. w .8 ∙ sym (inv .2 ∙ next-here s i (three-here s i (w .0 .taken) (eqb-true _ _ (w .7 .taken)) (eqb-true _ _ (w .5 .taken)) (w .3 .taken))))
+      (λ w. w .8 ∙ sym (inv .2 ∙ next-here s i (three-here s i (w .0 .taken) (eqb-true _ _ (w .7 .taken)) (w .5 .taken) (omega (arith, w .2 .left, w .3 .left)))))
       (c .loop-test .came)
 
   fits : walk .units .at + 3 < length (area walk)
@@ -155,6 +166,9 @@ scan-spec =
     (λ c. search needs)
     (λ c. search needs)
     (λ c. search needs)
+    (λ c. search needs)
+    (λ c. search needs)
+    above-one
     (λ c. search needs)
     (λ c. search needs)
     one-further
