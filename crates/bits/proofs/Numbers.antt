@@ -10,7 +10,7 @@ use lib.Arith.{digits-lt}
 use lib.ListN.{length, take, drop, replicate, length-append}
 use lib.Pow.{pow-add, high, low, mod-pow-add, mod-mod-pow, shr-shr}
 use lib.Pow as pow
-use Rattle.lists.proofs.Each.{each-take, each-drop, each-append}
+use Rattle.lists.proofs.Each.{each-take, each-drop, each-append, each-replicate}
 use Rattle.bits.specs.Bits.{bits, num, AreBits}
 
 pub length-bits : (w x : ℕ) → length (bits w x) ≡ w
@@ -31,8 +31,7 @@ pub are-append : (xs ys : List ℕ) → AreBits xs → AreBits ys → AreBits (x
 are-append = each-append (λ (b : ℕ). b < 2)
 
 pub are-zeros : (n : ℕ) → AreBits (replicate n 0)
-are-zeros zero = tt
-are-zeros (suc n) = (omega arith, are-zeros n)
+are-zeros n = each-replicate (λ (b : ℕ). b < 2) n 0 (omega arith)
 
 pub num-bits : (w x : ℕ) → num (bits w x) ≡ x % 2 ^ w
 num-bits zero x = sym (mod-one x)

@@ -2,8 +2,9 @@
 -- Assumes nothing.
 use Prim.Native.Nat.{ℕ, zero, suc, _<_}
 use native.Mathlib.Omega.{arith}
+use mathlib.Core.Path.{_≡_, ap₂, refl}
 use mathlib.Core.List.{List, [], _∷_, _++_}
-use lib.ListN.{length, getD, take, drop}
+use lib.ListN.{length, getD, take, drop, replicate}
 use Rattle.lists.specs.Each.{Each}
 
 module _ {A : Type 0} (P : A → Type 0) (d : A) where
@@ -46,3 +47,13 @@ module _ {A : Type 0} (P Q R : A → Type 0) (f : (x : A) → P x → Q x → R 
 module _ {A : Type 0} (P Q : A → Type 0) (f : (x : A) → P x → Q x) where
   pub each-map : (xs : List A) → Each P xs → Each Q xs
   each-map xs h = each-both P P Q (λ x p q. f x p) xs h h
+
+-- a list of one element many times over
+module _ {A : Type 0} where
+  pub each-replicate : (P : A → Type 0) (n : ℕ) (a : A) → P a → Each P (replicate n a)
+  each-replicate P zero a h = tt
+  each-replicate P (suc n) a h = (h, each-replicate P n a h)
+
+  pub each-same : (a : A) (xs : List A) → Each (λ (x : A). x ≡ a) xs → xs ≡ replicate (length xs) a
+  each-same a [] h = refl
+  each-same a (x ∷ xs) h = ap₂ (λ (y : A) (ys : List A). y ∷ ys) (h .0) (each-same a xs (h .1))

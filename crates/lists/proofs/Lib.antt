@@ -3,5 +3,4 @@ pub mod Lay
 pub mod Each
 pub mod Sum
 pub mod Part
-pub mod Cut
 pub mod Below

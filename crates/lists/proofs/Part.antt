@@ -1,12 +1,12 @@
--- A part of a list that a loop walks through: its first element and the rest.
+-- A part of a list that a loop walks through: its first element and the rest; parts side by side.
 -- Assumes nothing.
 use Prim.Native.Nat.{ℕ, zero, suc, _+_, _-_, _≤_, _<_}
 use native.Mathlib.Omega.{arith}
 use native.Mathlib.Numerals.{add-one}
 use mathlib.Core.Path.{_≡_, _∙_, ap, ap₂, sym}
-use mathlib.Core.List.{List, [], _∷_}
+use mathlib.Core.List.{List, [], _∷_, _++_}
 use lib.ListN.{length, getD, take, drop, length-drop}
-use lib.Seq.{take-nil, drop-cons, length-take-le}
+use lib.Seq.{take-nil, take-add, drop-cons, drop-drop, length-take-le}
 use Rattle.lists.specs.Part.{part}
 
 module _ {A : Type 0} where
@@ -30,3 +30,10 @@ module _ {A : Type 0} where
   part-front (suc a) zero xs = let none : 0 - suc a ≡ 0 = omega arith in ap (λ (k : ℕ). take k (drop (suc a) xs)) none
   part-front (suc a) (suc n) [] = take-nil (suc n - suc a)
   part-front (suc a) (suc n) (x ∷ xs) = let less : suc n - suc a ≡ n - a = omega arith in ap (λ (k : ℕ). take k (drop a xs)) less ∙ part-front a n xs
+
+  -- the w elements from a on, then the v behind them, are the n from a on
+  pub take-join : (xs : List A) (a w b v n : ℕ) → a + w ≡ b → w + v ≡ n → take w (drop a xs) ++ take v (drop b xs) ≡ take n (drop a xs)
+  take-join xs a w b v n e f =
+      ap (λ (ys : List A). take w (drop a xs) ++ take v ys) (ap (λ (k : ℕ). drop k xs) (sym e) ∙ sym (drop-drop w a xs))
+      ∙ sym (take-add w v (drop a xs))
+      ∙ ap (λ (k : ℕ). take k (drop a xs)) f

@@ -5,7 +5,7 @@ use native.Mathlib.Omega.{arith}
 use mathlib.Core.Path.{_≡_, _∙_, ap, ap₂, sym, subst, refl}
 use mathlib.Core.Bool.{true, false}
 use mathlib.Core.List.{List, [], _∷_, _++_}
-use lib.ListN.{length, length-append}
+use lib.ListN.{length}
 use Rattle.lists.specs.Each.{Each}
 use Rattle.lists.specs.Bytes.{Bytes}
 use Rattle.lists.specs.Part.{part}
@@ -21,7 +21,7 @@ use Rattle.units.specs.declared.Found.{Found}
 use Rattle.units.specs.declared.Found.the-variants as found
 use Rattle.units.specs.Layout.{Clean}
 use Rattle.units.specs.Layout as units
-use Rattle.units.proofs.Splits.{split-bytes, layout-append, layout-bodies, layout-accepted}
+use Rattle.units.proofs.Splits.{split-bytes, length-around, layout-bodies, layout-accepted}
 use Rattle.units.proofs.Spans.{Alone, nowhere-exactly, found-at, at-found, part-body}
 use Rattle.scte20.specs.Value.{Content}
 use Rattle.scte20.specs.Layout as content
@@ -121,11 +121,7 @@ module _ (s : List ℕ) (bytes : Bytes s) where
 -- WHAT IS LEGAL IS READ
 
 pub caption-short : (before : List (List ℕ)) (body : List ℕ) (after : List (List ℕ)) → length (units.layout (before ++ (body ∷ after))) ≤ 16384 → length body ≤ 16384
-caption-short before body after short =
-    let rest = units.layoutUnit body ++ units.layout after in
-    let all : length (units.layout (before ++ (body ∷ after))) ≡ length (units.layout before) + length rest = ap length (layout-append before (body ∷ after)) ∙ length-append (units.layout before) rest in
-    let unit : length rest ≡ length (units.layoutUnit body) + length (units.layout after) = length-append (units.layoutUnit body) (units.layout after) in
-    omega arith
+caption-short before body after short = omega (arith, length-around before body after)
 
 pub legal-read : (v : Area) → Legal v → readOf (layout v) ≡ shown v
 legal-read (bare us) h =

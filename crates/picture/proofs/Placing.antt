@@ -4,8 +4,8 @@ use Prim.Native.Nat.{ℕ, _+_, _≤_}
 use native.Mathlib.Omega.{arith}
 use mathlib.Core.Path.{_≡_, _∙_, ap, sym, subst, refl}
 use mathlib.Core.Bool.{false}
-use mathlib.Core.List.{List, [], _∷_, _++_}
-use lib.ListN.{length, length-append}
+use mathlib.Core.List.{List, [], _∷_}
+use lib.ListN.{length}
 use Rattle.lists.specs.Part.{part}
 use Rattle.lists.proofs.Part.{length-part}
 use Rattle.refusal.specs.declared.Reason.{Reason}
@@ -17,8 +17,7 @@ use Rattle.kind.specs.declared.Kind.the-variants.{Scte20}
 use Rattle.kind.specs.Ours.{ours}
 use Rattle.units.specs.declared.Found.{Found}
 use Rattle.units.specs.declared.Found.the-variants as found
-use Rattle.units.specs.Layout as units
-use Rattle.units.proofs.Splits.{layout-append}
+use Rattle.units.proofs.Splits.{length-around}
 use Rattle.units.proofs.Spans.{Alone, found-at}
 use Rattle.scte20.specs.Value.{Content, none, stored}
 use Rattle.scte20.specs.Reading.{contentVerdict, valueOf}
@@ -34,13 +33,8 @@ module _ (s : List ℕ) (unit end : ℕ) (e : captionsIn s ≡ found.At unit end
   pub unit-within : (unit + 4 ≤ end) × (end ≤ length s) × (length s ≤ 16384)
   unit-within =
       let w : Alone (ours Scte20) s unit end = found-at (ours Scte20) s unit end e in
-      let rest = units.layoutUnit (w .body) ++ units.layout (w .after) in
-      let all : length s ≡ length (units.layout (w .before)) + length rest =
-      ap length (sym (w .whole) ∙ layout-append (w .before) (w .body ∷ w .after)) ∙ length-append (units.layout (w .before)) rest in
-      let behind : length rest ≡ length (units.layoutUnit (w .body)) + length (units.layout (w .after)) = length-append (units.layoutUnit (w .body)) (units.layout (w .after)) in
-      let starts : unit ≡ length (units.layout (w .before)) = w .starts in
-      let ends : end ≡ unit + 4 + length (w .body) = w .ends in
-      (omega arith, omega arith, w .short)
+      let all = sym (ap length (w .whole)) ∙ length-around (w .before) (w .body) (w .after) in
+      (omega (arith, w .ends), omega (arith, all, w .starts, w .ends), w .short)
 
   body-short : length (part (unit + 4) end s) ≤ 16384
   body-short = omega (arith, length-part s (unit + 4) end (unit-within .1), unit-within .1, unit-within .2)

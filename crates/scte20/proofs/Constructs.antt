@@ -10,7 +10,7 @@ use lib.Dec.{eqb, ltb}
 use lib.ListN.{length, take, drop, length-append, length-drop}
 use lib.Seq.{drop-drop}
 use Rattle.lists.specs.Each.{Each}
-use Rattle.lists.proofs.Cut.{take-join}
+use Rattle.lists.proofs.Part.{take-join}
 use Rattle.refusal.specs.declared.Verdict.the-variants.{Accepted}
 use Rattle.refusal.specs.declared.Reason.the-variants.{Ends, Unfixed}
 use Rattle.refusal.specs.declared.Fixed.the-variants.{Marker}

@@ -10,7 +10,8 @@ use lib.ListN.{length, take, drop, replicate, length-drop, take-append-drop}
 use lib.Seq.{drop-drop, length-take-le}
 use Rattle.lists.specs.Bytes.{Bytes}
 use Rattle.lists.specs.Each.{Each}
-use Rattle.lists.proofs.Cut.{take-join, all-same}
+use Rattle.lists.proofs.Part.{take-join}
+use Rattle.lists.proofs.Each.{each-same}
 use Rattle.lists.proofs.Each.{each-both}
 use Rattle.refusal.specs.declared.Verdict.the-variants.{Accepted}
 use Rattle.refusal.specs.declared.Reason.the-variants.{TooLong, Unfixed, SampledVideo}
@@ -39,7 +40,7 @@ each-zero which at (b ∷ bs) e =
     (equal-accepted b 0 (Unfixed which) (Bit at) (both .0), each-zero which (suc at) bs (both .1))
 
 pub zero-accepted : (which : Fixed) (at : ℕ) (bs : List ℕ) → zeroVerdict which at bs ≡ Accepted → bs ≡ replicate (length bs) 0
-zero-accepted which at bs e = all-same 0 bs (each-zero which at bs e)
+zero-accepted which at bs e = each-same 0 bs (each-zero which at bs e)
 
 pub accepted-zero : (which : Fixed) (at n : ℕ) → zeroVerdict which at (replicate n 0) ≡ Accepted
 accepted-zero which at zero = refl

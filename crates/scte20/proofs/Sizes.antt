@@ -6,7 +6,7 @@ use mathlib.Core.Path.{_≡_, _∙_, ap, ap₂, refl}
 use mathlib.Core.List.{List, [], _∷_, _++_}
 use lib.ListN.{length, drop, replicate, length-append, length-replicate}
 use Rattle.lists.specs.Bytes.{Bytes}
-use Rattle.lists.proofs.Cut.{each-replicate}
+use Rattle.lists.proofs.Each.{each-replicate}
 use Rattle.lists.proofs.Each.{each-append}
 use Rattle.bits.specs.Bits.{bits, bitsOf, bytesOf, AreBits}
 use Rattle.bits.proofs.Numbers.{bits-are, are-append, are-zeros}

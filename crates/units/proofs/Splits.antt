@@ -1,12 +1,13 @@
 -- Layout and split undo each other: what is accepted is the layout of its bodies, which are clean, and the layout of clean bodies is accepted where
 -- it is short enough, and split into them. Document 01, "Picture area".
 -- Assumes nothing.
-use Prim.Native.Nat.{ℕ, _≤_, _<_}
+use Prim.Native.Nat.{ℕ, _+_, _≤_, _<_}
+use native.Mathlib.Omega.{arith}
 use mathlib.Core.Path.{_≡_, _∙_, ap, ap₂, sym, subst, refl}
 use mathlib.Core.Bool.{Bool, true, false, not, _&&_, false≢true, and-eq-true-iff}
 use mathlib.Core.List.{List, [], _∷_, _++_, map, append-assoc}
 use borrow.Author.Tests.{eqb-true, le-ltb, not-false}
-use lib.ListN.{length, getD, drop}
+use lib.ListN.{length, getD, drop, length-append}
 use lib.Dec.{eqb, ltb}
 use Rattle.lists.specs.Each.{Each}
 use Rattle.lists.specs.Bytes.{Bytes}
@@ -102,6 +103,15 @@ pub layout-append : (front back : List (List ℕ)) → layout (front ++ back) �
 layout-append [] back = refl
 layout-append (body ∷ front) back =
     ap (λ (s : List ℕ). layoutUnit body ++ s) (layout-append front back) ∙ sym (append-assoc (layoutUnit body) (layout front) (layout back))
+
+-- one unit among others
+pub length-around : (before : List (List ℕ)) (body : List ℕ) (after : List (List ℕ))
+    → length (layout (before ++ (body ∷ after))) ≡ length (layout before) + 4 + length body + length (layout after)
+length-around before body after =
+    let rest = layoutUnit body ++ layout after in
+    let all : length (layout (before ++ (body ∷ after))) ≡ length (layout before) + length rest =
+    ap length (layout-append before (body ∷ after)) ∙ length-append (layout before) rest in
+    omega (arith, all, length-append (layoutUnit body) (layout after))
 
 pub layout-pieces : (bodies : List (List ℕ)) → Each Clean bodies → cutOf (layout bodies) ≡ record { before = []; pieces = map layoutUnit bodies }
 layout-pieces [] h = refl
