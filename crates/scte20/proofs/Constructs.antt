@@ -22,7 +22,7 @@ use Rattle.bits.proofs.Numbers.{num-bits-small}
 use Rattle.bits.proofs.Fields.{field-lt, field-bits}
 use Rattle.bits.proofs.Turn.{reversed-lt, reversed-reversed}
 use Rattle.scte20.specs.declared.Record.{Record}
-use Rattle.scte20.specs.Value.{LegalRecord, fieldOf}
+use Rattle.scte20.specs.Value.{LegalRecord, fieldOf, Ranged}
 use Rattle.scte20.specs.Layout.{constructBits, constructsBits}
 use Rattle.scte20.specs.Rules.{recordVerdict}
 use Rattle.scte20.specs.Reading.{missing, constructAt, markerVerdict, constructsVerdict, recordsAt}
@@ -48,14 +48,6 @@ missing-accepted at w xs e = within-accepted (length xs) (at + w) Ends (Bit at) 
 pub accepted-missing : (at w : ℕ) (xs : List ℕ) → at + w ≤ length xs → missing at w xs ≡ Accepted
 unfolding missing
 accepted-missing at w xs h = accepted-refuseIf (ltb (length xs) (at + w)) Ends (Bit at) (le-ltb (length xs) (at + w) h)
-
--- numbers as the widths of their fields allow them
-pub record Ranged (r : Record) : Type 0 where
-  pub priority : r .«cc_priority» < 4
-  pub field : fieldOf r ≤ 3
-  pub line : r .«line_offset» < 32
-  pub data-1 : r .«cc_data_1» < 256
-  pub data-2 : r .«cc_data_2» < 256
 
 -- ---- what reading accepts
 
@@ -159,9 +151,6 @@ constructs-again before (suc k) at xs h e =
 
 -- ---- what writing lays out
 
-pub legal-ranged : (r : Record) → LegalRecord r → Ranged r
-legal-ranged r h = record { priority = h .priority; field = h .field; line = h .line; data-1 = h .data-1; data-2 = h .data-2 }
-
 -- fields of bits that stand from bit `at` on
 pub field-on : (xs ys : List ℕ) (at k w : ℕ) → drop at xs ≡ ys → field xs (at + k) w ≡ field ys k w
 field-on xs ys at k w e = ap (λ (l : List ℕ). num (take w l)) (sym (drop-drop k at xs) ∙ ap (drop k) e)
@@ -203,7 +192,7 @@ accepted-constructs before [] at xs post h fit e = refl
 accepted-constructs before (r ∷ rs) at xs post h fit e =
     let rest = constructsBits rs ++ post in
     let here = constructAt at xs in
-    let back : here ≡ r = construct-back r at xs rest (legal-ranged r (h .0)) e in
+    let back : here ≡ r = construct-back r at xs rest (h .0 .ranged) e in
     let behind = accepted-constructs (r ∷ before) rs (at + 26) xs post (h .1) (fit .1) (behind-construct r at xs rest e) in
     accepted-andThen
     (missing at 26 xs)
@@ -231,5 +220,5 @@ records-back (r ∷ rs) at xs post h e =
     let rest = constructsBits rs ++ post in
     ap₂
     (λ (q : Record) (qs : List Record). q ∷ qs)
-    (construct-back r at xs rest (legal-ranged r (h .0)) e)
+    (construct-back r at xs rest (h .0 .ranged) e)
     (records-back rs (at + 26) xs post (h .1) (behind-construct r at xs rest e))

@@ -24,11 +24,11 @@ use Rattle.bits.specs.Bits.{bits, bitsOf, field, AreBits}
 use Rattle.bits.proofs.Stream.{length-bitsOf, bitsOf-are, bitsOf-same}
 use Rattle.bits.proofs.Fields.{field-lt, field-bits}
 use Rattle.scte20.specs.declared.Record.{Record}
-use Rattle.scte20.specs.Value.{LegalRecord, Legal, fieldOf}
+use Rattle.scte20.specs.Value.{LegalRecord, Legal, fieldOf, Ranged}
 use Rattle.scte20.specs.Layout.{constructsBits, flaggedBits, itemBits, padding, layout}
 use Rattle.scte20.specs.Reading.{missing, zeroVerdict, constructsVerdict, recordsAt, sampledVerdict, restVerdict, headVerdict, flagIn, countIn, flagVerdict, contentVerdict, recordsIn, valueOf}
 use Rattle.scte20.proofs.Fitting.{AllFit, fit-shown, fit-order, fit-four}
-use Rattle.scte20.proofs.Constructs.{Ranged, missing-accepted, length-records, records-ranged, constructs-fit, constructs-again}
+use Rattle.scte20.proofs.Constructs.{missing-accepted, length-records, records-ranged, constructs-fit, constructs-again}
 use Rattle.scte20.proofs.Sizes.{bitsIn, length-items, padded, padded-size, layout-bytes, bitsOf-layout}
 
 -- ---- zero bits
@@ -162,7 +162,7 @@ content-accepted body e =
     (head, flag-accepted (flagIn xs) xs (bitsOf-are body) (head .complete) (both .1))
 
 shown-legal : (r : Record) → 1 ≤ fieldOf r → Ranged r → LegalRecord r
-shown-legal r s h = record { priority = h .priority; shown = s; field = h .field; line = h .line; data-1 = h .data-1; data-2 = h .data-2 }
+shown-legal r s h = record { ranged = h; shown = s }
 
 pub value-legal : (body : List ℕ) → Bytes body → contentVerdict body ≡ Accepted → Legal (valueOf body)
 unfolding valueOf

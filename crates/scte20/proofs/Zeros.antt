@@ -59,7 +59,7 @@ longest-constructs (r ∷ rs) legal run rest h g =
     r
     (fieldOf r)
     (legal .0 .shown)
-    (legal .0 .field)
+    (legal .0 .ranged .field)
     run
     (constructsBits rs ++ rest)
     h
@@ -129,12 +129,8 @@ legal-widest =
       few = omega arith;
       each = (
         record {
-          priority = omega arith;
+          ranged = record { priority = omega arith; field = omega arith; line = omega arith; data-1 = omega arith; data-2 = omega arith };
           shown = omega arith;
-          field = omega arith;
-          line = omega arith;
-          data-1 = omega arith;
-          data-2 = omega arith;
         },
         tt,
       );

@@ -22,14 +22,18 @@ pub record Content : Type 0 where
 abbrev pub fieldOf : Record → ℕ
 fieldOf r = r .«field_number» .0
 
--- priority 0 to 3, field_number 1 to 3 (0 is forbidden), line_offset 0 to 31, two bytes
-pub record LegalRecord (r : Record) : Type 0 where
+-- what the layout holds: priority 0 to 3, field_number up to 3, line_offset 0 to 31, two bytes
+pub record Ranged (r : Record) : Type 0 where
   pub priority : r .«cc_priority» < 4
-  pub shown : 1 ≤ fieldOf r
   pub field : fieldOf r ≤ 3
   pub line : r .«line_offset» < 32
   pub data-1 : r .«cc_data_1» < 256
   pub data-2 : r .«cc_data_2» < 256
+
+-- field_number 0 is forbidden
+pub record LegalRecord (r : Record) : Type 0 where
+  pub ranged : Ranged r
+  pub shown : 1 ≤ fieldOf r
 
 -- a record may follow another of a lower field, or one of its own field on a lower line (000, 6.2, third requirement)
 abbrev pub Follows : Record → Record → Type 0
