@@ -10,7 +10,7 @@ use lib.Seq.{take-suc, take-all}
 use Rattle.lists.proofs.Fill.{filled-more}
 use Rattle.listing.specs.declared.Text.{Text}
 use Rattle.listing.specs.Texts.{Holds}
-use Rattle.listing.specs.Building.{Appends}
+use Rattle.listing.specs.Inside.{Appends}
 
 -- a byte stored behind what the text holds; a full text has no room for it
 pub appends-byte : (t : Text) (b : ℕ) → t .len < 640 → Appends (b ∷ []) t (record { len = t .len + 1; bytes = set (t .bytes) (t .len) b })

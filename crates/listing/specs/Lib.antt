@@ -1,2 +1,2 @@
 pub mod Texts
-pub mod Building
+pub mod Inside

@@ -2,7 +2,7 @@
 ghost use mathlib.Core.Path.{_≡_};
 ghost use mathlib.Core.List.{[], _∷_, _++_};
 ghost use Prim.Native.Nat.{_<_};
-ghost use Rattle.listing.specs.Building.{Appends};
+ghost use Rattle.listing.specs.Inside.{Appends};
 ghost use Rattle.listing.specs.Texts.{Holds, decimal, digit, headText, hex, recordText, recordsText, refusedText, textOf};
 ghost use Rattle.scte20.specs.Value.{held};
 use picture::Answer;

@@ -22,7 +22,8 @@ use Rattle.units.proofs.Spans.{Alone, found-at}
 use Rattle.scte20.specs.Value.{Content, none, stored}
 use Rattle.scte20.specs.Reading.{contentVerdict, valueOf}
 use Rattle.scte20.proofs.Numbered.{content-placed}
-use Rattle.picture.specs.Reading.{placedItem, Near, placed, captionsIn, foundVerdict, foundContent, answerOf, readOf}
+use Rattle.picture.specs.Reading.{placedItem, placed, captionsIn, foundVerdict, foundContent, answerOf, readOf}
+use Rattle.picture.specs.Inside.{Near}
 
 -- an answer without a caption unit
 pub nothing-answer : (verdict : Verdict) → record { refusal = refusalOf verdict; present = false; unit = stored none } ≡ answerOf verdict []

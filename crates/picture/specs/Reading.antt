@@ -1,5 +1,5 @@
 -- What reading a picture area answers, for every list of bytes. Document 01, "Which refusal comes first": 1, 2, 3, 4, then the caption content.
-use Prim.Native.Nat.{ℕ, _+_, _*_, _≤_}
+use Prim.Native.Nat.{ℕ, _+_, _*_}
 use mathlib.Core.Path.{_≡_}
 use mathlib.Core.Bool.{true, false}
 use mathlib.Core.List.{List, [], _∷_}
@@ -28,14 +28,6 @@ placedItem unit (Bit bit) = Body unit (8 * (unit + 4) + bit)
 placedItem unit (Body other bit) = Body other bit
 placedItem unit (Word w) = Word w
 placedItem unit (Length n) = Length n
-
--- an item that begins not far behind the end of a body, so that its bit in an area is a number that the code holds
-abbrev pub Near : Item → Type 0
-Near Whole = Unit {0}
-Near (Bit bit) = bit ≤ 1048576
-Near (Body other bit) = Unit {0}
-Near (Word w) = Unit {0}
-Near (Length n) = Unit {0}
 
 abbrev pub placed : ℕ → Verdict → Verdict
 placed unit Accepted = Accepted

@@ -18,7 +18,8 @@ use Rattle.refusal.specs.Checks.{refuseIf, andThen, first}
 use Rattle.refusal.proofs.Checks.{refused-not-accepted}
 use Rattle.scte20.specs.declared.Record.{Record}
 use Rattle.scte20.specs.Value.{fieldOf, one, urgent}
-use Rattle.scte20.specs.Rules.{falls, stays, recordVerdict, lastOf, lastVerdict, kept, lastAfter}
+use Rattle.scte20.specs.Rules.{falls, stays, recordVerdict}
+use Rattle.scte20.specs.Inside.{lastOf, lastVerdict, kept, lastAfter}
 
 -- going back, the latest first, fields never rise
 abbrev pub Back : List Record → Type 0

@@ -24,9 +24,9 @@ use Rattle.bits.proofs.Fields.{field-lt, field-within}
 use Rattle.scte20.specs.declared.Record.{Record}
 use Rattle.scte20.specs.declared.Last.{Last}
 use Rattle.scte20.specs.Value.{fieldOf, one, blank}
-use Rattle.scte20.specs.Packed.{constructOf}
-use Rattle.scte20.specs.Rules.{recordVerdict, lastOf, lastVerdict, kept, lastAfter}
+use Rattle.scte20.specs.Rules.{recordVerdict}
 use Rattle.scte20.specs.Reading.{missing, constructAt, markerVerdict, constructsVerdict, recordsAt}
+use Rattle.scte20.specs.Inside.{constructOf, lastOf, lastVerdict, kept, lastAfter}
 use Rattle.scte20.proofs.Constructs.{length-records}
 use Rattle.scte20.proofs.Order.{Back, last-record, record-back, last-after}
 

@@ -1,5 +1,5 @@
 pub mod Value
 pub mod Layout
 pub mod Rules
-pub mod Packed
 pub mod Reading
+pub mod Inside

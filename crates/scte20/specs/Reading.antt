@@ -9,7 +9,6 @@ use mathlib.Core.List.{List, [], _∷_}
 use lib.Dec.{eqb, ltb}
 use lib.ListN.{length, take, drop}
 use Rattle.lists.specs.Bytes.{Bytes}
-use Rattle.lists.specs.Room.{filled}
 use Rattle.refusal.specs.declared.Verdict.{Verdict}
 use Rattle.refusal.specs.declared.Verdict.the-variants.{Accepted, Refused}
 use Rattle.refusal.specs.declared.Reason.the-variants.{TooLong, Ends, Unfixed, SampledVideo}
@@ -20,8 +19,7 @@ use Rattle.refusal.specs.Checks.{refuseIf, andThen, first}
 use Rattle.bits.specs.Bits.{bitsOf, field, reversed}
 use Rattle.scte20.specs.declared.Record.{Record}
 use Rattle.scte20.specs.declared.Answer.{Answer}
-use Rattle.scte20.specs.declared.Run.{Run}
-use Rattle.scte20.specs.Value.{Content, blank, none, stored}
+use Rattle.scte20.specs.Value.{Content, none, stored}
 use Rattle.scte20.specs.Layout.{padding}
 use Rattle.scte20.specs.Rules.{recordVerdict}
 
@@ -137,8 +135,3 @@ readOf body = answerOf (contentVerdict body) (valueOf body)
 pub record Reads (body : List ℕ) (r : Answer) : Type 0 where
   pub bytes : Bytes body
   pub answer : r ≡ readOf body
-
--- what reading n constructs answers: the verdict, and the records where it accepts
-pub record RunOf (body : List ℕ) (n : ℕ) (r : Run) : Type 0 where
-  pub verdict : r .verdict ≡ constructsVerdict [] n 21 (bitsOf body)
-  pub records : constructsVerdict [] n 21 (bitsOf body) ≡ Accepted → r .records ≡ filled (recordsAt n 21 (bitsOf body)) 31 blank

@@ -1,6 +1,6 @@
 -- The rules over a record and those before it, in 01's order of checks: 7, 8, 9. Document 01, "Legal records" and "Which refusal comes first".
 use Prim.Native.Nat.{ℕ, _+_}
-use mathlib.Core.Bool.{Bool, true, false, not, _&&_}
+use mathlib.Core.Bool.{Bool, false, not, _&&_}
 use mathlib.Core.List.{List, [], _∷_}
 use lib.Dec.{eqb, ltb}
 use Rattle.refusal.specs.declared.Verdict.{Verdict}
@@ -8,8 +8,7 @@ use Rattle.refusal.specs.declared.Reason.the-variants.{FieldNumberZero, FieldFa
 use Rattle.refusal.specs.declared.Item.the-variants.{Bit}
 use Rattle.refusal.specs.Checks.{refuseIf, first}
 use Rattle.scte20.specs.declared.Record.{Record}
-use Rattle.scte20.specs.declared.Last.{Last}
-use Rattle.scte20.specs.Value.{fieldOf, one, urgent}
+use Rattle.scte20.specs.Value.{fieldOf, urgent}
 
 -- the field is lower than that of the record just before. The records before stand with the latest first
 abbrev pub falls : List Record → Record → Bool
@@ -30,32 +29,3 @@ recordVerdict at before r =
     ∷ refuseIf (stays before r) LineDoesNotRise (Bit (at + 4))
     ∷ refuseIf (eqb (r .«cc_priority») 0 && ltb 3 (urgent (fieldOf r) before)) FifthPriority (Bit at)
     ∷ [])
-
--- what the code keeps of the records before: the latest's field and line, and how many of that field have priority 0
-abbrev pub lastOf : List Record → Last
-lastOf [] = record { «field_number» = record { 0 = 0 }; «line_offset» = 0; urgent = 0 }
-lastOf (r ∷ before) = record { «field_number» = r .«field_number»; «line_offset» = r .«line_offset»; urgent = urgent (fieldOf r) (r ∷ before) }
-
--- the same verdict by that
-unfoldable pub lastVerdict : ℕ → Last → Record → Verdict
-lastVerdict at last r =
-    first
-    (refuseIf (eqb (fieldOf r) 0) FieldNumberZero (Bit (at + 2))
-    ∷ refuseIf (ltb (fieldOf r) (last .«field_number» .0)) FieldFalls (Bit (at + 2))
-    ∷ refuseIf (eqb (last .«field_number» .0) (fieldOf r) && not (ltb (last .«line_offset») (r .«line_offset»))) LineDoesNotRise (Bit (at + 4))
-    ∷ refuseIf (eqb (r .«cc_priority») 0 && (eqb (last .«field_number» .0) (fieldOf r) && ltb 3 (last .urgent))) FifthPriority (Bit at)
-    ∷ [])
-
--- how many of the latest's field count on for the next record: all, where its field is the same
-abbrev pub kept : Bool → ℕ → ℕ
-kept true k = k
-kept false k = 0
-
--- what the code keeps after one record more: the count of priority 0 starts again at each field
-unfoldable pub lastAfter : Last → Record → Last
-lastAfter last r =
-    record {
-      «field_number» = r .«field_number»;
-      «line_offset» = r .«line_offset»;
-      urgent = one (eqb (r .«cc_priority») 0) + kept (eqb (last .«field_number» .0) (fieldOf r)) (last .urgent);
-    }

@@ -2,7 +2,7 @@
 ghost use mathlib.Core.Path.{_≡_};
 ghost use Prim.Native.Nat.{_<_};
 ghost use mathlib.Core.List.{[]};
-ghost use Rattle.scte20.specs.Rules.{lastOf, lastAfter, lastVerdict};
+ghost use Rattle.scte20.specs.Inside.{lastOf, lastAfter, lastVerdict};
 use crate::DisplayField;
 use crate::Last;
 use crate::Record;

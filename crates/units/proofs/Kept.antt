@@ -8,7 +8,8 @@ use lib.ListN.{length, length-append}
 use Rattle.refusal.specs.declared.Verdict.the-variants.{Accepted}
 use Rattle.units.specs.declared.Found.the-variants as found
 use Rattle.units.specs.declared.Seen.{Seen}
-use Rattle.units.specs.Split.{Span, foundOf, seenOf}
+use Rattle.units.specs.Split.{Span, foundOf}
+use Rattle.units.specs.Inside.{seenOf}
 
 -- the count is the number of the units
 pub count-seen : (seen : Seen) (spans : List Span) → seen ≡ seenOf spans → seen .count ≡ length spans

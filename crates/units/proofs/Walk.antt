@@ -21,7 +21,8 @@ use Rattle.units.specs.declared.Found.{Found}
 use Rattle.units.specs.declared.Found.the-variants as found
 use Rattle.units.specs.declared.Seen.{Seen}
 use Rattle.units.specs.Layout.{prefixed, layoutUnit}
-use Rattle.units.specs.Split.{Span, Notes, allOpened, cutOf, foundOf, frontVerdict, nextOf, putIf, scanOf, seenOf, spansOf, splitVerdict}
+use Rattle.units.specs.Split.{Span, allOpened, cutOf, foundOf, frontVerdict, nextOf, putIf, scanOf, spansOf, splitVerdict}
+use Rattle.units.specs.Inside.{Notes, seenOf}
 use Rattle.units.proofs.Opened.{accepted-short, accepted-prefixed}
 use Rattle.units.proofs.Kept.{count-seen}
 use Rattle.units.proofs.Steps.{unit-cut, next-within, next-prefixed, first-refused}

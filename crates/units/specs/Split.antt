@@ -1,8 +1,7 @@
 -- How an area is cut into units, for every list of bytes. Document 01, "Picture area" and "Which refusal comes first": 1, 2, 3.
 use Prim.Native.Nat.{ℕ, _+_}
-use mathlib.Core.Path.{_≡_}
 use mathlib.Core.Bool.{Bool, true, false, not, _&&_}
-use mathlib.Core.List.{List, [], _∷_, _++_, map}
+use mathlib.Core.List.{List, [], _∷_, map}
 use lib.Dec.{eqb, ltb}
 use lib.ListN.{length, getD, drop}
 use Rattle.refusal.specs.declared.Verdict.{Verdict}
@@ -12,7 +11,6 @@ use Rattle.refusal.specs.declared.Item.the-variants.{Whole}
 use Rattle.refusal.specs.Checks.{refuseIf, first}
 use Rattle.units.specs.declared.Found.{Found}
 use Rattle.units.specs.declared.Found.the-variants as found
-use Rattle.units.specs.declared.Seen.{Seen}
 use Rattle.units.specs.Layout.{prefixed}
 
 -- an area's bytes, cut before each appearance of 00 00 01: what stands before the first, and a piece from each up to the next
@@ -89,15 +87,3 @@ scanOf ours s = foundOf (splitVerdict s) (spansOf ours 0 (cutOf s .pieces))
 -- the first 00 00 01 from index `from` on, or the end
 abbrev pub nextOf : List ℕ → ℕ → ℕ
 nextOf s from = from + reach (drop from s)
-
--- what the search keeps of the units of the kind so far: how many there are, and where the first stands
-abbrev pub seenOf : List Span → Seen
-seenOf [] = record { count = 0; unit = 0; end = 0 }
-seenOf (span ∷ spans) = record { count = length (span ∷ spans); unit = span .unit; end = span .end }
-
--- the promises of what keeps and of what tells them
-abbrev pub Notes : Seen → Span → Seen → Type 0
-Notes seen span r = (spans : List Span) → seen ≡ seenOf spans → r ≡ seenOf (spans ++ (span ∷ []))
-
-abbrev pub Tells : Seen → Found → Type 0
-Tells seen r = (spans : List Span) → seen ≡ seenOf spans → r ≡ foundOf Accepted spans

@@ -4,7 +4,8 @@
 ghost use mathlib.Core.Path.{_≡_};
 ghost use Prim.Native.Nat.{_<_};
 ghost use Rattle.kind.specs.Ours.{ours};
-ghost use Rattle.units.specs.Split.{Notes, Tells, frontVerdict, nextOf, scanOf};
+ghost use Rattle.units.specs.Split.{frontVerdict, nextOf, scanOf};
+ghost use Rattle.units.specs.Inside.{Notes, Tells};
 use kind::Kind;
 use refusal::Item;
 use refusal::Reason;

@@ -9,7 +9,7 @@ use borrow.Fn.Kinds.{In}
 use borrow.Fn.PlainCycle.{Measures, is, falls, and}
 use Rattle.listing.specs.declared.Text.{Text}
 use Rattle.listing.specs.Texts.{decimal, digit}
-use Rattle.listing.specs.Building.{Appends}
+use Rattle.listing.specs.Inside.{Appends}
 use Rattle.listing.proofs.Building.{appends-both, appends-same}
 use Rattle.listing.proofs.Digits.{decimal-short, decimal-long}
 use Rattle.listing.proofs.with_decimal.Reads as with-decimal

@@ -13,7 +13,7 @@ use Rattle.scte20.specs.declared.CaptionUnit.{CaptionUnit}
 use Rattle.scte20.specs.declared.Record.{Record}
 use Rattle.scte20.specs.Value.{blank}
 use Rattle.listing.specs.Texts.{Holds, headText, recordsText}
-use Rattle.listing.specs.Building.{Appends}
+use Rattle.listing.specs.Inside.{Appends}
 use Rattle.listing.proofs.Building.{appends-both, appends-first, appends-none, appends-same}
 use Rattle.listing.proofs.Lengths.{ByteRecord, listed-fits}
 use Rattle.listing.proofs.Lines.{records-next}

@@ -3,7 +3,7 @@
 use Prim.Native.Nat.{_-_, _≤_}
 use borrow.Author.Needs.{needs}
 use lib.ListN.{length, take}
-use Rattle.listing.specs.Building.{Appends}
+use Rattle.listing.specs.Inside.{Appends}
 use Rattle.listing.proofs.Building.{appends-none, appends-next, appends-all}
 use Rattle.listing.proofs.with.Statement.{statement}
 use Rattle.listing.proofs.with.Tie as tie

@@ -5,7 +5,8 @@ use native.Mathlib.Omega.{arith}
 use mathlib.Core.Path.{_≡_, ap, sym, subst}
 use borrow.Author.Needs.{needs}
 use Rattle.refusal.specs.declared.Item.the-variants.{Bit}
-use Rattle.picture.specs.Reading.{placedItem, Near}
+use Rattle.picture.specs.Reading.{placedItem}
+use Rattle.picture.specs.Inside.{Near}
 use Rattle.picture.proofs.reading.placed.Statement.{statement}
 use Rattle.picture.proofs.reading.placed.Tie as tie
 

@@ -20,9 +20,8 @@ use Rattle.bits.proofs.Fields.{field-lt}
 use Rattle.bits.proofs.Beyond.{peek-inside}
 use Rattle.scte20.specs.declared.Record.{Record}
 use Rattle.scte20.specs.declared.Last.{Last}
-use Rattle.scte20.specs.Packed.{constructOf}
-use Rattle.scte20.specs.Rules.{lastOf, lastVerdict, lastAfter}
-use Rattle.scte20.specs.Reading.{missing, constructAt, markerVerdict, constructsVerdict, RunOf}
+use Rattle.scte20.specs.Reading.{missing, constructAt, markerVerdict, constructsVerdict}
+use Rattle.scte20.specs.Inside.{constructOf, lastOf, lastVerdict, lastAfter, RunOf}
 use Rattle.scte20.proofs.Bytewise.{missing-some, missing-none}
 use Rattle.scte20.proofs.Stepwise.{construct-at, marker-one, marker-other, behind, Going, going-first, constructs-here, going-next, going-accepted, going-stored}
 use Rattle.scte20.proofs.reading.read_constructs.Statement.{statement}

@@ -4,7 +4,7 @@ use Prim.Native.Nat.{ℕ, _/_, _%_}
 use mathlib.Core.Path.{ap₂}
 use borrow.Author.Needs.{needs}
 use Rattle.scte20.specs.declared.Record.{Record}
-use Rattle.scte20.specs.Packed.{constructOf}
+use Rattle.scte20.specs.Inside.{constructOf}
 use Rattle.scte20.proofs.reading.record_of.Statement.{statement}
 use Rattle.scte20.proofs.reading.record_of.Tie as tie
 

@@ -10,7 +10,7 @@ use lib.Dec.{eqb}
 use Rattle.scte20.specs.declared.Record.{Record}
 use Rattle.scte20.specs.declared.Last.{Last}
 use Rattle.scte20.specs.Value.{fieldOf, one}
-use Rattle.scte20.specs.Rules.{kept, lastAfter}
+use Rattle.scte20.specs.Inside.{kept, lastAfter}
 use Rattle.scte20.proofs.rules.after.Statement.{statement}
 use Rattle.scte20.proofs.rules.after.Tie as tie
 

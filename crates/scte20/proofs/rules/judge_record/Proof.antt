@@ -11,7 +11,7 @@ use Rattle.refusal.specs.declared.Reason.the-variants.{LineDoesNotRise, FifthPr
 use Rattle.refusal.specs.declared.Item.the-variants.{Bit}
 use Rattle.refusal.specs.Checks.{refuseIf, first}
 use Rattle.scte20.specs.Value.{fieldOf}
-use Rattle.scte20.specs.Rules.{lastVerdict}
+use Rattle.scte20.specs.Inside.{lastVerdict}
 use Rattle.scte20.proofs.rules.judge_record.Statement.{statement}
 use Rattle.scte20.proofs.rules.judge_record.Tie as tie
 

@@ -1,4 +1,4 @@
--- What each step of building a text promises.
+-- What private functions promise each other: what each step of building a text adds. No theorem for a signer speaks of it.
 use Prim.Native.Nat.{ℕ, _+_, _≤_}
 use mathlib.Core.List.{List, _++_}
 use lib.ListN.{length}
