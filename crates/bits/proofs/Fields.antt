@@ -1,16 +1,16 @@
--- The number that some bits of a list write: its size, where it stands, and how it is read out of a longer one.
+-- The number that some bits of a list write: its size, where it stands, and how it is read out of a longer one, byte by byte too.
 -- Assumes nothing.
-use Prim.Native.Nat.{ℕ, _+_, _-_, _*_, _/_, _%_, _^_, _≤_, _<_}
-use native.Mathlib.Nat.{lt-of-lt-of-le}
+use Prim.Native.Nat.{ℕ, zero, suc, _+_, _-_, _*_, _/_, _%_, _^_, _≤_, _<_}
+use native.Mathlib.Nat.{lt-of-lt-of-le, zero-add}
 use native.Mathlib.Omega.{arith}
-use mathlib.Core.Path.{_≡_, _∙_, ap, sym}
-use mathlib.Core.List.{List}
-use lib.ListN.{length, getD, take, drop, length-take, length-drop}
+use mathlib.Core.Path.{_≡_, _∙_, ap, ap₂, sym, refl}
+use mathlib.Core.List.{List, [], _∷_}
+use lib.ListN.{length, getD, take, drop, length-take, length-drop, take-append-drop}
 use lib.Pow.{pow-mono, high, low}
-use lib.Seq.{length-take-le, take-add, drop-drop, drop-cons}
+use lib.Seq.{length-take-le, take-length, take-add, drop-drop, drop-cons}
 use Rattle.lists.specs.Bytes.{Bytes}
 use Rattle.lists.proofs.Each.{each-at}
-use Rattle.bits.specs.Bits.{bits, num, bitsOf, field, AreBits}
+use Rattle.bits.specs.Bits.{bits, num, bitsOf, bytesOf, field, AreBits}
 use Rattle.bits.proofs.Numbers.{are-take, are-drop, num-lt, num-append, num-bits-small, bits-num}
 use Rattle.bits.proofs.Stream.{length-bitsOf, bitsOf-are, drop-bitsOf}
 
@@ -63,3 +63,33 @@ pub field-byte : (s : List ℕ) (k j w : ℕ) → Bytes s → k < length s → j
 field-byte s k j w h inside fits =
     field-within (bitsOf s) (8 * k) 8 j w (bitsOf-are s) (omega (arith, length-bitsOf s)) fits
     ∙ ap (λ (b : ℕ). b / 2 ^ (8 - (j + w)) % 2 ^ w) (field-whole s k h inside)
+
+-- k bytes of a number of n bits, from bit `at` on
+abbrev pub bytesAt : ℕ → ℕ → ℕ → ℕ → List ℕ
+bytesAt zero at n x = []
+bytesAt (suc k) at n x = x / 2 ^ (n - (at + 8)) % 256 ∷ bytesAt k (at + 8) n x
+
+byte-at : (at : ℕ) (xs : List ℕ) → AreBits xs → at + 8 ≤ length xs → num (take 8 (drop at xs)) ≡ num xs / 2 ^ (length xs - (at + 8)) % 256
+byte-at at xs h fits =
+    let n = length xs in
+    ap (λ (i : ℕ). field xs i 8) (sym (zero-add at))
+    ∙ field-within xs 0 n at 8 h (omega arith) (omega arith)
+    ∙ ap (λ (ys : List ℕ). num ys / 2 ^ (n - (at + 8)) % 256) (take-length xs)
+
+pub bytes-at : (k at : ℕ) (xs : List ℕ) → AreBits xs → at + 8 * k ≤ length xs → bytesOf k (drop at xs) ≡ bytesAt k at (length xs) (num xs)
+bytes-at zero at xs h fits = refl
+bytes-at (suc k) at xs h fits =
+    ap₂
+    (λ (b : ℕ) (bs : List ℕ). b ∷ bs)
+    (byte-at at xs h (omega arith))
+    (ap (bytesOf k) (drop-drop 8 at xs) ∙ bytes-at k (at + 8) xs h (omega arith))
+
+-- what is left behind them
+pub rest-at : (at : ℕ) (xs : List ℕ) → AreBits xs → at ≤ length xs → num (drop at xs) ≡ num xs % 2 ^ (length xs - at)
+rest-at at xs h fits =
+    let front = take at xs in
+    let rest = drop at xs in
+    let small : num rest < 2 ^ length rest = num-lt rest (are-drop at xs h) in
+    sym
+    (ap₂ (λ (a b : ℕ). a % 2 ^ b) (ap num (sym (take-append-drop at xs)) ∙ num-append front rest) (sym (length-drop at xs))
+    ∙ low (num front) (length rest) small)

@@ -1,10 +1,10 @@
 -- The bits of a number and the number that bits write: each undoes the other.
 -- Assumes nothing.
 use Prim.Native.Nat.{ℕ, zero, suc, _+_, _*_, _/_, _%_, _^_, _<_}
-use native.Mathlib.Nat.{add-assoc, add-mul, mod-eq-of-lt, mod-one, mul-assoc, pow-succ', suc-add, zero-add}
+use native.Mathlib.Nat.{add-assoc, add-mul, mod-eq-of-lt, mod-one, mul-assoc, one-mul, pow-succ', suc-add, zero-add}
 use native.Mathlib.Numerals.{one-add}
 use native.Mathlib.Omega.{arith}
-use mathlib.Core.Path.{_≡_, _∙_, ap, ap₂, sym, refl}
+use mathlib.Core.Path.{_≡_, _∙_, ap, ap₂, sym, subst, refl}
 use mathlib.Core.List.{List, [], _∷_, _++_}
 use lib.Arith.{digits-lt}
 use lib.ListN.{length, take, drop, replicate, length-append}
@@ -66,6 +66,10 @@ bits-mod-more (suc w) j x =
     ap (λ (n : ℕ). bits (suc w) (x % 2 ^ n)) more
     ∙ ap₂ (λ (b : ℕ) (bs : List ℕ). b ∷ bs) first (bits-mod-more w (j + 1) x)
 
+-- a number's bits in front of others
+pub num-front : (w x : ℕ) (ys : List ℕ) (y : ℕ) → x < 2 ^ w → num ys ≡ y → num (bits w x ++ ys) ≡ x * 2 ^ length ys + y
+num-front w x ys y small e = num-append (bits w x) ys ∙ ap₂ (λ (a b : ℕ). a * 2 ^ length ys + b) (num-bits-small w x small) e
+
 pub bits-mod : (w x : ℕ) → bits w (x % 2 ^ w) ≡ bits w x
 bits-mod w x = ap (λ (n : ℕ). bits w (x % 2 ^ n)) (sym (zero-add w)) ∙ bits-mod-more w 0 x
 
@@ -84,3 +88,10 @@ bits-add zero w x = ap (λ (n : ℕ). bits n x) (zero-add w)
 bits-add (suc j) w x =
     let first : x / 2 ^ (j + w) % 2 ≡ x / 2 ^ w / 2 ^ j % 2 = ap (λ (n : ℕ). n % 2) (ap (λ (n : ℕ). x / 2 ^ n) (omega arith) ∙ sym (shr-shr x w j)) in
     ap (λ (n : ℕ). bits n x) (suc-add j w) ∙ ap₂ (λ (b : ℕ) (bs : List ℕ). b ∷ bs) first (bits-add j w x)
+
+-- the code's `1u64 << w`
+pub one-shifted : (w : ℕ) → w < 64 → 1 * 2 ^ w % 18446744073709551616 ≡ 2 ^ w
+one-shifted w h = ap (λ (n : ℕ). n % 2 ^ 64) (one-mul (2 ^ w)) ∙ mod-eq-of-lt (pow.pow-lt h)
+
+pub one-shifted-pos : (w : ℕ) → w < 64 → 0 < 1 * 2 ^ w % 18446744073709551616
+one-shifted-pos w h = subst (λ (n : ℕ). 0 < n) (sym (one-shifted w h)) (pow.pow-pos w)

@@ -7,7 +7,7 @@ use mathlib.Core.Path.{_≡_, _∙_, ap, ap₂, sym, refl}
 use mathlib.Core.List.{List, [], _∷_, _++_}
 use lib.ListN.{length, take, drop, replicate, length-take, length-drop, take-append-drop, replicate-append-replicate}
 use lib.Pow.{pow-mono}
-use lib.Seq.{drop-append-add, drop-nil, length-take-le}
+use lib.Seq.{take-append-le, drop-append-le, drop-append-add, drop-drop, drop-nil, length-take-le}
 use Rattle.lists.specs.Bytes.{Bytes}
 use Rattle.bits.specs.Bits.{bits, num, bitsOf, bytesOf, AreBits}
 use Rattle.bits.proofs.Numbers.{bits-are, are-take, are-drop, are-append, num-bits-small, num-lt, bits-num}
@@ -70,3 +70,23 @@ pub bitsOf-same : (s t : List ℕ) → Bytes s → Bytes t → bitsOf s ≡ bits
 bitsOf-same s t h g e =
     let long : length s ≡ length t = omega (arith, length-bitsOf s, length-bitsOf t, ap length e) in
     sym (bytesOf-bitsOf s h) ∙ ap₂ (λ (n : ℕ) (xs : List ℕ). bytesOf n xs) long e ∙ bytesOf-bitsOf t g
+
+-- the first k bytes, then m more
+pub bytesOf-add : (k m : ℕ) (xs : List ℕ) → bytesOf (k + m) xs ≡ bytesOf k xs ++ bytesOf m (drop (8 * k) xs)
+bytesOf-add zero m xs = let none : zero + m ≡ m = omega arith in ap (λ (n : ℕ). bytesOf n xs) none
+bytesOf-add (suc k) m xs =
+    let next : suc k + m ≡ suc (k + m) = omega arith in
+    let more : 8 + 8 * k ≡ 8 * suc k = omega arith in
+    ap (λ (n : ℕ). bytesOf n xs) next
+    ∙ ap (λ (bs : List ℕ). num (take 8 xs) ∷ bs)
+    (bytesOf-add k m (drop 8 xs)
+    ∙ ap (λ (ys : List ℕ). bytesOf k (drop 8 xs) ++ bytesOf m ys) (drop-drop (8 * k) 8 xs ∙ ap (λ (n : ℕ). drop n xs) more))
+
+-- they are of the bits in front
+pub bytesOf-front : (k : ℕ) (xs ys : List ℕ) → 8 * k ≤ length xs → bytesOf k (xs ++ ys) ≡ bytesOf k xs
+bytesOf-front zero xs ys h = refl
+bytesOf-front (suc k) xs ys h =
+    let eight : 8 ≤ length xs = omega arith in
+    let less : 8 * k ≤ length (drop 8 xs) = omega (arith, length-drop 8 xs) in
+    ap₂ (λ (a b : List ℕ). num a ∷ bytesOf k b) (take-append-le 8 xs ys eight) (drop-append-le 8 xs ys eight)
+    ∙ ap (λ (bs : List ℕ). num (take 8 xs) ∷ bs) (bytesOf-front k (drop 8 xs) ys less)

@@ -9,11 +9,11 @@ use lib.ListN.{length}
 use Rattle.refusal.specs.declared.Refusal.{Refusal}
 use Rattle.refusal.specs.declared.Verdict.{Verdict}
 use Rattle.refusal.specs.declared.Verdict.the-variants.{Accepted}
-use Rattle.refusal.specs.declared.Reason.the-variants.{TooLong, NoRoom, Unholdable}
+use Rattle.refusal.specs.declared.Reason.the-variants.{Unholdable}
 use Rattle.refusal.specs.declared.Excess.the-variants.{Count, CcValid, Padding}
 use Rattle.refusal.specs.declared.Item.the-variants.{Whole}
 use Rattle.refusal.specs.Numbers.{refusalOf}
-use Rattle.refusal.specs.Checks.{refuseIf, andThen, first}
+use Rattle.refusal.specs.Checks.{refuseIf, andThen, first, fitVerdict}
 use Rattle.refusal.proofs.Checks.{andThen-accepted, andThen-assoc, within-accepted}
 use Rattle.refusal.proofs.Gives.{Gives, refuseIf-gives, andThen-gives, each-gives, refused-gives}
 use Rattle.line21.specs.declared.AccessUnit.{AccessUnit}
@@ -38,7 +38,7 @@ numbers : Payload → Verdict
 numbers p = andThen (refuseIf (ltb 291 (p .m)) (Unholdable Count) Whole) (unitsVerdict (held p .units))
 
 rest : Payload → ℕ → Verdict
-rest p room = first (refuseIf (ltb 1456 (length (layout (held p)))) TooLong Whole ∷ refuseIf (ltb room (length (layout (held p)))) NoRoom Whole ∷ [])
+rest p room = first (fitVerdict 1456 (length (layout (held p))) room ∷ [])
 
 numbers-first : (p : Payload) (room : ℕ) → valueVerdict p room ≡ andThen (numbers p) (rest p room)
 unfolding valueVerdict numbers rest

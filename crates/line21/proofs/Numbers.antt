@@ -15,7 +15,7 @@ use Rattle.refusal.specs.declared.Verdict.the-variants.{Accepted}
 use Rattle.refusal.specs.declared.Reason.the-variants.{NoRoom}
 use Rattle.refusal.specs.declared.Item.the-variants.{Whole}
 use Rattle.refusal.specs.Checks.{refuseIf, andThen}
-use Rattle.refusal.proofs.Checks.{andThen-accepted, each-accepted, accepted-each, andThen-last, within-accepted}
+use Rattle.refusal.proofs.Checks.{andThen-accepted, each-accepted, accepted-each, andThen-last, within-accepted, fit-accepted}
 use Rattle.line21.specs.declared.AccessUnit.{AccessUnit}
 use Rattle.line21.specs.declared.Payload.{Payload}
 use Rattle.line21.specs.Value.{HoldableUnit, LegalUnit, ByteUnit, LegalPayload, Typed, blank, held}
@@ -89,13 +89,12 @@ unfolding valueVerdict
 accepted-value p room e =
     let count = andThen-accepted _ _ e in
     let units = andThen-accepted _ _ (count .1) in
-    let long = andThen-accepted _ _ (units .1) in
-    let fit = andThen-accepted _ _ (long .1) in
+    let fit = fit-accepted 1456 (length (layout (held p))) room (andThen-accepted _ _ (units .1) .0) in
     record {
       few = within-accepted 291 (p .m) _ _ (count .0);
       each = units .0;
-      short = within-accepted 1456 (length (layout (held p))) _ _ (long .0);
-      fits = within-accepted room (length (layout (held p))) _ _ (fit .0);
+      short = fit .0;
+      fits = fit .1;
     }
 
 pub value-accepted : (p : Payload) (room : ℕ) → Writable p room → valueVerdict p room ≡ Accepted

@@ -5,11 +5,11 @@ use mathlib.Core.List.{List, [], _∷_, map}
 use lib.Dec.{ltb}
 use lib.ListN.{length}
 use Rattle.refusal.specs.declared.Verdict.{Verdict}
-use Rattle.refusal.specs.declared.Reason.the-variants.{TooLong, NoRoom, Unholdable}
+use Rattle.refusal.specs.declared.Reason.the-variants.{Unholdable}
 use Rattle.refusal.specs.declared.Excess.the-variants.{Count, CcValid, Padding}
 use Rattle.refusal.specs.declared.Item.the-variants.{Whole}
 use Rattle.refusal.specs.declared.Written.{Written}
-use Rattle.refusal.specs.Checks.{refuseIf, first}
+use Rattle.refusal.specs.Checks.{refuseIf, first, fitVerdict}
 use Rattle.refusal.specs.Answers.{Wrote}
 use Rattle.line21.specs.declared.AccessUnit.{AccessUnit}
 use Rattle.line21.specs.declared.Payload.{Payload}
@@ -33,8 +33,7 @@ valueVerdict p room =
     first
     (refuseIf (ltb 291 (p .m)) (Unholdable Count) Whole
     ∷ unitsVerdict (held p .units)
-    ∷ refuseIf (ltb 1456 (length (layout (held p)))) TooLong Whole
-    ∷ refuseIf (ltb room (length (layout (held p)))) NoRoom Whole
+    ∷ fitVerdict 1456 (length (layout (held p))) room
     ∷ [])
 
 -- the promise of `write`. By its type the struct's bytes are bytes and its array has 291 places; the code shows that too

@@ -1,4 +1,4 @@
--- An output that a loop lays something over from the front, piece after piece, each into the rest of it.
+-- An output that something is laid over, from the front or from an index, piece after piece, each into the rest of it.
 -- Assumes nothing.
 use Prim.Native.Nat.{ℕ, suc, _+_, _-_, _≤_, _<_}
 use native.Mathlib.Omega.{arith}
@@ -6,8 +6,8 @@ use mathlib.Core.Path.{_≡_, _∙_, ap, ap₂, sym}
 use mathlib.Core.List.{List, [], _∷_, _++_, append-assoc, append-nil}
 use borrow.Rule.Slice.PartMut.{putMid}
 use lib.ListN.{length, getD, take, drop, set, length-append, length-drop}
-use lib.Seq.{take-at, drop-at, take-length, drop-length, drop-drop, drop-cons, drop-append-add, set-at, drop-set-lt}
-use Rattle.lists.specs.Room.{over}
+use lib.Seq.{length-take-le, take-at, drop-at, take-length, drop-length, drop-drop, drop-cons, drop-append-add, set-at, drop-set-lt, sets, sets-eq}
+use Rattle.lists.specs.Room.{over, overAt}
 
 module _ {A : Type 0} where
   pub length-over : (front out : List A) → length front ≤ length out → length (over front out) ≡ length out
@@ -80,3 +80,49 @@ laid-more front piece out xs part a e long laid =
 -- the part from a on has what is left
 pub length-rest : {A : Type 0} (xs : List A) (a : ℕ) → length (take (length xs - a) (drop a xs)) ≡ length xs - a
 length-rest xs a = ap length (rest-whole xs a) ∙ length-drop a xs
+
+-- a piece laid from index `at` on
+module _ {A : Type 0} (at : ℕ) (piece out : List A) (fits : at + length piece ≤ length out) where
+  length-before : length (take at out) ≡ at
+  length-before = length-take-le at out (omega arith)
+
+  -- what stands before it is as it was
+  overAt-over : overAt at piece out ≡ over (take at out ++ piece) out
+  overAt-over =
+      let size : at + length piece ≡ length (take at out ++ piece) = sym (length-append (take at out) piece ∙ ap (λ (k : ℕ). k + length piece) length-before) in
+      sym (append-assoc (take at out) piece (drop (length piece) (drop at out)))
+      ∙ ap (λ (rest : List A). (take at out ++ piece) ++ rest) (drop-drop (length piece) at out ∙ ap (λ (k : ℕ). drop k out) size)
+
+  pub length-overAt : length (overAt at piece out) ≡ length out
+  length-overAt =
+      let size : length (take at out ++ piece) ≤ length out = omega (arith, length-append (take at out) piece, length-before) in
+      ap length overAt-over ∙ length-over (take at out ++ piece) out size
+
+  pub drop-overAt : drop at (overAt at piece out) ≡ over piece (drop at out)
+  drop-overAt = drop-at (take at out) (over piece (drop at out)) at length-before
+
+  -- something that reaches as far covers it
+  pub over-overAt : (whole : List A) → at + length piece ≤ length whole → over whole (overAt at piece out) ≡ over whole out
+  over-overAt whole h =
+      let size : length (take at out ++ piece) ≤ length whole = omega (arith, length-append (take at out) piece, length-before) in
+      ap (λ (xs : List A). over whole xs) overAt-over ∙ over-again (take at out ++ piece) out whole size
+
+  -- stores one behind the other lay it
+  pub sets-overAt : sets out at piece ≡ overAt at piece out
+  sets-overAt =
+      sets-eq piece out at fits
+      ∙ append-assoc (take at out) piece (drop (at + length piece) out)
+      ∙ ap (λ (rest : List A). take at out ++ (piece ++ rest)) (sym (drop-drop (length piece) at out))
+
+-- a piece laid right behind another
+pub overAt-overAt : {A : Type 0} (at : ℕ) (front piece out : List A) (next : ℕ) → at ≤ length out → at + length front ≡ next
+    → overAt next piece (overAt at front out) ≡ overAt at (front ++ piece) out
+overAt-overAt {A = A} at front piece out next fits e =
+    let rest = drop at out in
+    let head = take at out ++ front in
+    let long : length head ≡ next = simp length-append (omega (arith, length-take-le at out fits)) in
+    let split : overAt at front out ≡ head ++ drop (length front) rest = sym (append-assoc (take at out) front (drop (length front) rest)) in
+    ap (overAt next piece) split
+    ∙ ap₂ (λ (h r : List A). h ++ over piece r) (take-at head (drop (length front) rest) next long) (drop-at head (drop (length front) rest) next long)
+    ∙ append-assoc (take at out) front (over piece (drop (length front) rest))
+    ∙ ap (λ (r : List A). take at out ++ r) (over-over front piece rest)

@@ -1,18 +1,20 @@
 -- An order of checks accepts exactly where each of its checks does.
 -- Assumes nothing.
-use Prim.Native.Nat.{ℕ, _≤_}
+use Prim.Native.Nat.{ℕ, _≤_, _<_}
 use native.Mathlib.Omega.{arith}
 use mathlib.Core.Path.{_≡_, _∙_, ap, sym, refl}
 use mathlib.Core.Bool.{Bool, true, false, not}
 use mathlib.Core.List.{List, [], _∷_, map}
-use borrow.Author.Tests.{eqb-true, ltb-false, not-false}
+use borrow.Author.Tests.{eqb-true, ltb-false, lt-ltb, le-ltb, not-false}
 use lib.Dec.{eqb, ltb}
 use Rattle.lists.specs.Each.{Each}
 use Rattle.refusal.specs.declared.Reason.{Reason}
+use Rattle.refusal.specs.declared.Reason.the-variants.{TooLong, NoRoom}
 use Rattle.refusal.specs.declared.Item.{Item}
+use Rattle.refusal.specs.declared.Item.the-variants.{Whole}
 use Rattle.refusal.specs.declared.Verdict.{Verdict}
 use Rattle.refusal.specs.declared.Verdict.the-variants.{Accepted, Refused}
-use Rattle.refusal.specs.Checks.{refuseIf, andThen, first}
+use Rattle.refusal.specs.Checks.{refuseIf, andThen, first, fitVerdict}
 
 -- a refusal is no acceptance
 pub refused-not-accepted : {P : Type 0} (reason : Reason) (item : Item) → Refused reason item ≡ Accepted → P
@@ -71,3 +73,21 @@ refused-first next e told = told ∙ ap (λ (v : Verdict). andThen v next) (sym 
 -- and an acceptance leaves it to the next check
 pub accepted-first : {answer check : Verdict} (next : Verdict) → answer ≡ check → answer ≡ Accepted → andThen check next ≡ next
 accepted-first next e told = ap (λ (v : Verdict). andThen v next) (sym e ∙ told)
+
+-- the last checks of writing accept exactly the sizes within the limit and the room,
+pub fit-accepted : (limit size room : ℕ) → fitVerdict limit size room ≡ Accepted → (size ≤ limit) × (size ≤ room)
+fit-accepted limit size room e =
+    let one = andThen-accepted (refuseIf (ltb limit size) TooLong Whole) (first (refuseIf (ltb room size) NoRoom Whole ∷ [])) e in
+    let two = andThen-accepted (refuseIf (ltb room size) NoRoom Whole) Accepted (one .1) in
+    (within-accepted limit size TooLong Whole (one .0), within-accepted room size NoRoom Whole (two .0))
+
+pub accepted-fit : (limit size room : ℕ) → size ≤ limit → size ≤ room → fitVerdict limit size room ≡ Accepted
+accepted-fit limit size room short fits = rw (le-ltb limit size short, le-ltb room size fits)
+
+-- refuse a size above the limit whatever the room is,
+pub fit-long : (limit size room : ℕ) → limit < size → fitVerdict limit size room ≡ Refused TooLong Whole
+fit-long limit size room long = rw (lt-ltb limit size long)
+
+-- and one within it where the room is too short
+pub fit-no-room : (limit size room : ℕ) → size ≤ limit → room < size → fitVerdict limit size room ≡ Refused NoRoom Whole
+fit-no-room limit size room short long = rw (le-ltb limit size short, lt-ltb room size long)

@@ -34,6 +34,7 @@ pub enum Excess {
     // n above 31, m above 291.
     Count,
     Reserved,
+    Flag,
     Stuffing,
     FlagWithRecords,
     Counter,

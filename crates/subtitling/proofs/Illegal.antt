@@ -10,11 +10,11 @@ use lib.ListN.{length}
 use Rattle.refusal.specs.declared.Refusal.{Refusal}
 use Rattle.refusal.specs.declared.Verdict.{Verdict}
 use Rattle.refusal.specs.declared.Verdict.the-variants.{Accepted}
-use Rattle.refusal.specs.declared.Reason.the-variants.{TooLong, NoRoom, DescriptorLine, Unholdable}
+use Rattle.refusal.specs.declared.Reason.the-variants.{DescriptorLine, Unholdable}
 use Rattle.refusal.specs.declared.Excess.the-variants.{Counter, SlotMark, SlotLine, SlotReserved, SlotField, SlotUnwritable}
 use Rattle.refusal.specs.declared.Item.the-variants.{Whole}
 use Rattle.refusal.specs.Numbers.{refusalOf}
-use Rattle.refusal.specs.Checks.{refuseIf, andThen, first}
+use Rattle.refusal.specs.Checks.{refuseIf, andThen, first, fitVerdict}
 use Rattle.refusal.proofs.Checks.{andThen-accepted, andThen-assoc, within-accepted}
 use Rattle.refusal.proofs.Gives.{Gives, refuseIf-gives, andThen-gives, each-gives, refused-gives}
 use Rattle.sdp.specs.declared.Packet.{Packet}
@@ -44,7 +44,7 @@ abbrev counted : Sdp → Verdict
 counted v = refuseIf (ltb 65535 (v .counter)) (Unholdable Counter) Whole
 
 abbrev rest : Sdp → ℕ → Verdict
-rest v room = first (refuseIf (ltb 245 (length (layout v))) TooLong Whole ∷ refuseIf (ltb room (length (layout v))) NoRoom Whole ∷ [])
+rest v room = first (fitVerdict 245 (length (layout v)) room ∷ [])
 
 value-first : (v : Sdp) (room : ℕ) → valueVerdict v room ≡ andThen (andThen (counted v) (slotsVerdict (v .slots))) (rest v room)
 unfolding valueVerdict

@@ -7,7 +7,7 @@ use mathlib.Core.List.{List}
 use borrow.Author.Tests.{le-ltb}
 use lib.ListN.{length, length-append, length-map}
 use Rattle.refusal.specs.declared.Verdict.the-variants.{Accepted}
-use Rattle.refusal.proofs.Checks.{andThen-accepted, within-accepted}
+use Rattle.refusal.proofs.Checks.{andThen-accepted, within-accepted, fit-accepted}
 use Rattle.sdp.specs.Value.{Sdp, Legal}
 use Rattle.sdp.specs.Layout.{descriptorsOf, count, userBytes}
 use Rattle.sdp.proofs.Numbers.{Shaped, legal-shaped, length-user-shaped}
@@ -38,13 +38,12 @@ unfolding valueVerdict
 accepted-value v room e =
     let count = andThen-accepted _ _ e in
     let slots = andThen-accepted _ _ (count .1) in
-    let long = andThen-accepted _ _ (slots .1) in
-    let fit = andThen-accepted _ _ (long .1) in
+    let fit = fit-accepted 245 (length (layout v)) room (andThen-accepted _ _ (slots .1) .0) in
     record {
       few = within-accepted 65535 (v .counter) _ _ (count .0);
       each = slots .0;
-      short = within-accepted 245 (length (layout v)) _ _ (long .0);
-      fits = within-accepted room (length (layout v)) _ _ (fit .0);
+      short = fit .0;
+      fits = fit .1;
     }
 
 pub value-accepted : (v : Sdp) (room : ℕ) → Writable v room → valueVerdict v room ≡ Accepted

@@ -5,11 +5,11 @@ use mathlib.Core.List.{List, [], _∷_, _++_, map}
 use lib.Dec.{ltb}
 use lib.ListN.{length, drop}
 use Rattle.refusal.specs.declared.Verdict.{Verdict}
-use Rattle.refusal.specs.declared.Reason.the-variants.{TooLong, NoRoom, Unholdable}
+use Rattle.refusal.specs.declared.Reason.the-variants.{Unholdable}
 use Rattle.refusal.specs.declared.Excess.the-variants.{Counter}
 use Rattle.refusal.specs.declared.Item.the-variants.{Whole}
 use Rattle.refusal.specs.declared.Written.{Written}
-use Rattle.refusal.specs.Checks.{refuseIf, first}
+use Rattle.refusal.specs.Checks.{refuseIf, first, fitVerdict}
 use Rattle.refusal.specs.Answers.{Wrote}
 use Rattle.anc.specs.Words.{wordOf, byteOf, checksumOf}
 use Rattle.sdp.specs.declared.Packet.{Packet}
@@ -23,8 +23,7 @@ valueVerdict v room =
     first
     (refuseIf (ltb 65535 (v .counter)) (Unholdable Counter) Whole
     ∷ slotsVerdict (v .slots)
-    ∷ refuseIf (ltb 245 (length (layout v))) TooLong Whole
-    ∷ refuseIf (ltb room (length (layout v))) NoRoom Whole
+    ∷ fitVerdict 245 (length (layout v)) room
     ∷ [])
 
 -- a packet without its two checksums, and then with them: what the last step of the code does. The promise below does not use them

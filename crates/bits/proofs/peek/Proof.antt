@@ -1,15 +1,16 @@
 -- `bits::peek` meets its contract: its bits stand in the window from byte `at / 8` on.
 -- Assumes nothing.
 use Prim.Native.Nat.{ℕ, _+_, _-_, _*_, _/_, _%_, _^_, _≤_, _<_, min}
-use native.Mathlib.Nat.{lt-of-lt-of-le, min-eq-left, min-eq-right, le-of-lt, mod-lt, mod-eq-of-lt, one-mul}
+use native.Mathlib.Nat.{lt-of-lt-of-le, min-eq-left, min-eq-right, le-of-lt, mod-lt}
 use native.Mathlib.Omega.{arith}
 use mathlib.Core.Logic.{⊎-elim}
 use mathlib.Core.Path.{_≡_, _∙_, ap, ap₂, sym, subst}
 use mathlib.Core.List.{List}
 use borrow.Author.Needs.{needs}
 use denote.Ref.{now}
-use lib.Pow.{pow-pos, pow-lt, pow-mono}
+use lib.Pow.{pow-pos, pow-mono}
 use Rattle.bits.specs.Peek.{peekOf}
+use Rattle.bits.proofs.Numbers.{one-shifted, one-shifted-pos}
 use Rattle.bits.proofs.Windows.{peek-window}
 use Rattle.bits.proofs.peek.Statement.{statement}
 use Rattle.bits.proofs.peek.Tie as tie
@@ -21,12 +22,9 @@ narrowed c = ⊎-elim (λ w. w .1 ∙ sym (min-eq-left (le-of-lt (w .0 .taken)))
 narrow : (c : tie.Joined1) → c .if1 .width ≤ 32
 narrow c = ⊎-elim (λ w. omega arith) (λ w. omega arith) (c .if1 .came)
 
--- the power that the code divides by, and what is left
-power : (w : ℕ) → w ≤ 32 → 1 * 2 ^ w % 18446744073709551616 ≡ 2 ^ w
-power w h = let below : w < 64 = omega arith in ap (λ (n : ℕ). n % 2 ^ 64) (one-mul (2 ^ w)) ∙ mod-eq-of-lt (pow-lt below)
-
+-- what is left of a division by the code's power
 remainder-lt : (n w : ℕ) → w ≤ 32 → n % (1 * 2 ^ w % 18446744073709551616) < 4294967296
-remainder-lt n w h = lt-of-lt-of-le (subst (λ (m : ℕ). n % m < 2 ^ w) (sym (power w h)) (mod-lt n (pow-pos w))) (pow-mono h)
+remainder-lt n w h = lt-of-lt-of-le (subst (λ (m : ℕ). n % m < 2 ^ w) (sym (one-shifted w (omega arith))) (mod-lt n (pow-pos w))) (pow-mono h)
 
 -- the bits that the code takes from the window
 taken : (s : List ℕ) (at w : ℕ) → w ≤ 32 → peekOf s (8 * (at / 8)) 40 / 2 ^ (40 - at % 8 - w) % (1 * 2 ^ w % 18446744073709551616) ≡ peekOf s at w
@@ -35,7 +33,7 @@ taken s at w h =
     let inside : j + w ≤ 40 = omega arith in
     let left : 40 - j - w ≡ 40 - (j + w) = omega arith in
     let place : 8 * (at / 8) + j ≡ at = omega arith in
-    ap₂ (λ (n m : ℕ). peekOf s (8 * (at / 8)) 40 / 2 ^ n % m) left (power w h)
+    ap₂ (λ (n m : ℕ). peekOf s (8 * (at / 8)) 40 / 2 ^ n % m) left (one-shifted w (omega arith))
     ∙ sym (peek-window s (at / 8) j w inside)
     ∙ ap (λ (n : ℕ). peekOf s n w) place
 
@@ -48,7 +46,7 @@ shl-result c = omega (arith, narrow (c .before .before))
 rem-result : tie.Need-rem-result
 rem-result c =
     let w = c .before .before .if1 .width in
-    subst (λ (n : ℕ). 0 < n) (sym (power w (narrow (c .before .before)))) (pow-pos w)
+    one-shifted-pos w (omega (arith, narrow (c .before .before)))
 
 cast-result : tie.Need-cast-result
 cast-result c = record { fits = remainder-lt _ (c .before .before .if1 .width) (narrow (c .before .before)) }
