@@ -7,4 +7,5 @@ pub mod Kept
 pub mod Steps
 pub mod Walk
 pub mod Refusals
+pub mod Started
 pub mod Theorems

@@ -13,7 +13,7 @@ use lib.ListN.{length}
 use Rattle.lists.specs.Each.{Each}
 use Rattle.refusal.specs.declared.Verdict.the-variants.{Accepted}
 use Rattle.units.specs.declared.Found.{Found}
-use Rattle.units.specs.Layout.{Clean, layout}
+use Rattle.units.specs.Layout.{Clean, layout, started}
 use Rattle.units.specs.Split.{splitVerdict, bodiesOf, scanOf, nextOf}
 use Rattle.units.proofs.Splits.{split-layout, split-clean, split-short, layout-bodies, layout-accepted}
 
@@ -36,3 +36,6 @@ scan-determined ours s a b ea eb = ea ∙ sym eb
 
 pub next-determined : (s : List ℕ) (from a b : ℕ) → a ≡ nextOf s from → b ≡ nextOf s from → a ≡ b
 next-determined s from a b ea eb = ea ∙ sym eb
+
+pub open-determined : (out a b : List ℕ) → a ≡ started out → b ≡ started out → a ≡ b
+open-determined out a b p q = p ∙ sym q

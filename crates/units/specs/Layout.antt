@@ -24,3 +24,11 @@ layoutUnit body = 0 ∷ 0 ∷ 1 ∷ 0xB2 ∷ body
 abbrev pub layout : List (List ℕ) → List ℕ
 layout [] = []
 layout (body ∷ bodies) = layoutUnit body ++ layout bodies
+
+-- an output with the start code over its front; one shorter than that as it is
+abbrev pub started : List ℕ → List ℕ
+started [] = []
+started (a ∷ []) = a ∷ []
+started (a ∷ b ∷ []) = a ∷ b ∷ []
+started (a ∷ b ∷ c ∷ []) = a ∷ b ∷ c ∷ []
+started (a ∷ b ∷ c ∷ d ∷ out) = layoutUnit out

@@ -4,6 +4,7 @@
 ghost use mathlib.Core.Path.{_≡_};
 ghost use Prim.Native.Nat.{_<_};
 ghost use Rattle.kind.specs.Ours.{ours};
+ghost use Rattle.units.specs.Layout.{started};
 ghost use Rattle.units.specs.Split.{frontVerdict, nextOf, scanOf};
 ghost use Rattle.units.specs.Inside.{Notes, Tells};
 use kind::Kind;
@@ -169,4 +170,17 @@ pub fn next(s: &[u8], from: usize) -> usize
         }
     }
     i
+}
+
+// Stores a start code over the front of out. In an output that is shorter than that it stores nothing.
+pub fn open(out: &mut [u8])
+    ensures { λ _. ⌜ now (out .exit) ≡ started (now (out .entry)) ⌝ }
+{
+    if out.len() < START_BYTES {
+        return;
+    }
+    out[0] = 0;
+    out[1] = 0;
+    out[2] = 1;
+    out[3] = USER_DATA;
 }
