@@ -11,4 +11,11 @@ pub mod Bytewise
 pub mod Stepwise
 pub mod Trailing
 pub mod Answers
+pub mod Types
+pub mod Holding
+pub mod Judging
+pub mod Packing
+pub mod Pieces
+pub mod Penned
+pub mod Writable
 pub mod Theorems

@@ -66,10 +66,10 @@ length-layout c =
 
 -- ---- bits
 
-construct-are : (r : Record) → AreBits (constructBits r)
+pub construct-are : (r : Record) → AreBits (constructBits r)
 construct-are r = omega arith
 
-constructs-are : (rs : List Record) → AreBits (constructsBits rs)
+pub constructs-are : (rs : List Record) → AreBits (constructsBits rs)
 constructs-are [] = tt
 constructs-are (r ∷ rs) = are-append (constructBits r) (constructsBits rs) (construct-are r) (constructs-are rs)
 

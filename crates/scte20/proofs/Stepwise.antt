@@ -107,7 +107,7 @@ urgent-one true false k = omega arith
 urgent-one false true k = omega arith
 urgent-one false false k = omega arith
 
-urgent-after : (last : Last) (r : Record) → lastAfter last r .urgent ≤ last .urgent + 1
+pub urgent-after : (last : Last) (r : Record) → lastAfter last r .urgent ≤ last .urgent + 1
 unfolding lastAfter
 urgent-after last r = urgent-one (eqb (last .«field_number» .0) (fieldOf r)) (eqb (r .«cc_priority») 0) (last .urgent)
 

@@ -1,14 +1,18 @@
 -- The theorems of SCTE 20 caption content (document 01, demands 1 to 3). What they speak of is defined in specs/: a value and when it is legal in
--- Value; its bits and bytes in Layout, without the reader; the rules over records in Rules; what reading answers in Reading.
+-- Value; its bits and bytes in Layout, without the reader; the rules over records in Rules; what reading answers in Reading; what writing answers and
+-- leaves in Writing.
 --
--- The contract of `read` is the promise `Reads`: `Reads body r` says that r is the answer to the bytes of a unit's body. So each theorem speaks of
--- every call. Assumes nothing.
+-- The contract of `read` is the promise `Reads`: `Reads body r` says that r is the answer to the bytes of a unit's body. That of `write` is `Writes`:
+-- `Writes u before after out r exit` says that writing the body of u, with so many bytes before and after it, to an output that held `out` answers r
+-- and leaves `exit`. So each theorem speaks of every call. Assumes nothing.
 use Prim.Native.Nat.{ℕ, _+_, _*_, _≤_}
+use native.Mathlib.Omega.{arith}
 use mathlib.Core.Path.{_≡_, _∙_, ap, ap₂, sym, subst, refl}
 use mathlib.Core.Logic.{_↔_}
 use mathlib.Core.List.{List}
 use lib.ListN.{length}
 use lib.Seq.{take-append-seam}
+use Rattle.lists.specs.Room.{overAt}
 use Rattle.refusal.specs.declared.Reason.{Reason}
 use Rattle.refusal.specs.declared.Item.{Item}
 use Rattle.refusal.specs.declared.Verdict.{Verdict}
@@ -16,12 +20,15 @@ use Rattle.refusal.specs.declared.Verdict.the-variants.{Accepted, Refused}
 use Rattle.scte20.specs.declared.Record.{Record}
 use Rattle.scte20.specs.declared.CaptionUnit.{CaptionUnit}
 use Rattle.scte20.specs.declared.Answer.{Answer}
-use Rattle.scte20.specs.Value.{Content, Legal, none, stored, held}
+use Rattle.scte20.specs.declared.Laid.{Laid}
+use Rattle.scte20.specs.Value.{Content, Legal, LegalUnit, none, stored, held}
 use Rattle.scte20.specs.Layout.{contentBits, contentBytes, layout, longest}
 use Rattle.scte20.specs.Reading.{contentVerdict, sizeIn, valueOf, answerOf, Reads}
+use Rattle.scte20.specs.Writing.{bodyVerdict, countedOf, leftOf, Writes}
 use Rattle.scte20.proofs.Contents.{content-accepted, value-legal, value-layout}
 use Rattle.scte20.proofs.Layouts.{layout-accepted, layout-value}
 use Rattle.scte20.proofs.Numbered.{AtBit, content-placed}
+use Rattle.scte20.proofs.Writable.{write-accepted, accepted-write}
 use Rattle.scte20.proofs.Sizes as sizes
 use Rattle.scte20.proofs.Zeros as zeros
 
@@ -57,6 +64,9 @@ only-one c d hc hd e = sym (layout-value c hc) ∙ ap valueOf e ∙ layout-value
 pub stored-held : (c : Content) → held (stored c) ≡ c
 stored-held c = ap (λ (rs : List Record). record { reserved = c .reserved; flag = c .flag; records = rs; z = c .z }) (take-append-seam (c .records) _)
 
+pub stored-legal : (c : Content) → Legal c → LegalUnit (stored c)
+stored-legal c h = record { few = h .few; value = subst Legal (sym (stored-held c)) h }
+
 -- A refusal is that of the first check, in 01's order, that finds a fault.
 pub refused-in-order : (body : List ℕ) (r : Answer) → Reads body r → r .verdict ≡ contentVerdict body
 refused-in-order = told
@@ -86,6 +96,53 @@ layout-size = sizes.length-layout
 pub sizes-told : (sizeIn 0 0 ≡ 2) × (sizeIn 1 0 ≡ 4) × (sizeIn 1 1 ≡ 7) × (sizeIn 1 31 ≡ 104)
 sizes-told = (refl, refl, refl, refl)
 
+-- WRITING
+
+judged : (u : CaptionUnit) (before after : ℕ) (out : List ℕ) (r : Laid) (exit : List ℕ) → Writes u before after out r exit
+    → r .verdict ≡ bodyVerdict u before after (length out)
+judged u before after out r exit w =
+    ap (λ (a : Laid). a .verdict) (w .counted) ∙ kept (bodyVerdict u before after (length out))
+  where
+    kept : (verdict : Verdict) → countedOf verdict (layout (held u)) .verdict ≡ verdict
+    kept Accepted = refl
+    kept (Refused reason item) = refl
+
+-- Writing succeeds exactly when the value is legal and the result, with what stands before and after the body, fits limit and buffer.
+pub writes-exactly : (u : CaptionUnit) (before after : ℕ) (out : List ℕ) (r : Laid) (exit : List ℕ) → Writes u before after out r exit
+    → r .verdict ≡ Accepted ↔ (LegalUnit u × (before + length (layout (held u)) + after ≤ 16384) × (before + length (layout (held u)) + after ≤ length out))
+writes-exactly u before after out r exit w =
+    let size = before + length (layout (held u)) + after in
+    let within : length (layout (held u)) ≤ size = omega arith in (
+      λ e. write-accepted u size (length out) (w .typed) (sym (judged u before after out r exit w) ∙ e),
+      λ h. judged u before after out r exit w ∙ accepted-write u size (length out) (w .typed) (h .0) within (h .1) (h .2),
+    )
+
+-- Then exactly the layout stands in the buffer behind the bytes before it, and nothing else changed.
+pub written-there : (u : CaptionUnit) (before after : ℕ) (out : List ℕ) (r : Laid) (exit : List ℕ) → Writes u before after out r exit
+    → r .verdict ≡ Accepted → (r ≡ record { verdict = Accepted; len = length (layout (held u)) }) × (exit ≡ overAt before (layout (held u)) out)
+written-there u before after out r exit w e =
+    let ok : bodyVerdict u before after (length out) ≡ Accepted = sym (judged u before after out r exit w) ∙ e in (
+      w .counted ∙ ap (λ (v : Verdict). countedOf v (layout (held u))) ok,
+      w .left ∙ ap (λ (v : Verdict). leftOf v before (layout (held u)) out) ok,
+    )
+
+-- A refusal is that of the first check, in 01's order, that finds a fault.
+pub written-in-order : (u : CaptionUnit) (before after : ℕ) (out : List ℕ) (r : Laid) (exit : List ℕ) → Writes u before after out r exit
+    → r .verdict ≡ bodyVerdict u before after (length out)
+written-in-order = judged
+
+-- A refused call counted nothing and changed nothing.
+pub refused-untouched : (u : CaptionUnit) (before after : ℕ) (out : List ℕ) (r : Laid) (exit : List ℕ) → Writes u before after out r exit
+    → (r .verdict ≡ Accepted → ⊥) → (r .len ≡ 0) × (exit ≡ out)
+refused-untouched u before after out r exit w h =
+    let same = nothing (bodyVerdict u before after (length out)) (λ e. h (judged u before after out r exit w ∙ e)) in
+    (ap (λ (a : Laid). a .len) (w .counted) ∙ same .0, w .left ∙ same .1)
+  where
+    nothing : (verdict : Verdict) → (verdict ≡ Accepted → ⊥)
+        → (countedOf verdict (layout (held u)) .len ≡ 0) × (leftOf verdict before (layout (held u)) out ≡ out)
+    nothing Accepted g = absurd (g refl)
+    nothing (Refused reason item) g = (refl, refl)
+
 -- THE ZERO RUN
 
 -- No legal content, stuffing aside, holds 23 zero bits in a row,
@@ -96,9 +153,15 @@ zero-run = zeros.zero-run
 pub zero-run-reached : (c : Content) × Legal c × (longest (contentBits c) ≡ 22)
 zero-run-reached = zeros.zero-run-reached
 
--- For each function, two answers that keep its promise are equal.
+-- ONE ANSWER
+
+-- For each function, two answers that keep its promise are equal, lent memory too.
 pub read-determined : (body : List ℕ) (a b : Answer) → Reads body a → Reads body b → a ≡ b
 read-determined body a b p q = p .answer ∙ sym (q .answer)
 
 pub nothing-determined : (a b : CaptionUnit) → a ≡ stored none → b ≡ stored none → a ≡ b
 nothing-determined a b p q = p ∙ sym q
+
+pub write-determined : (u : CaptionUnit) (before after : ℕ) (out : List ℕ) (a : Laid) (exit : List ℕ) (b : Laid) (end : List ℕ)
+    → Writes u before after out a exit → Writes u before after out b end → (a ≡ b) × (exit ≡ end)
+write-determined u before after out a exit b end wa wb = (wa .counted ∙ sym (wb .counted), wa .left ∙ sym (wb .left))

@@ -2,4 +2,5 @@ pub mod Value
 pub mod Layout
 pub mod Rules
 pub mod Reading
+pub mod Writing
 pub mod Inside

@@ -86,3 +86,18 @@ stored c =
 -- the value that a struct holds: entries beyond n are not looked at
 abbrev pub held : CaptionUnit → Content
 held u = record { reserved = u .reserved; flag = u .«vbi_data_flag»; records = take (u .n) (u .records); z = u .z }
+
+-- the same of the struct that the code holds a value in: n is no more than its array has places, and the value is legal
+pub record LegalUnit (u : CaptionUnit) : Type 0 where
+  pub few : u .n ≤ 31
+  pub value : Legal (held u)
+
+-- the two data bytes are bytes
+pub record ByteRecord (r : Record) : Type 0 where
+  pub data-1 : r .«cc_data_1» < 256
+  pub data-2 : r .«cc_data_2» < 256
+
+-- what every struct of the code satisfies by its type: data bytes are bytes, and the array has 31 places
+pub record Typed (u : CaptionUnit) : Type 0 where
+  pub places : length (u .records) ≡ 31
+  pub bytes : Each ByteRecord (u .records)

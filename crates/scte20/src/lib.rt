@@ -3,15 +3,25 @@
 // Normative references: document 01, "Picture area"; document 001, 5.4 to 5.8.
 mod reading;
 mod rules;
+mod writing;
 
 pub use reading::nothing;
 pub use reading::read;
 use refusal::Verdict;
+pub use writing::write;
 
 pub const MAX_RECORDS: usize = 31;
 
 // No body of an area's unit is longer.
 pub const MAX_BYTES: usize = 16384;
+
+// The bit at which the constructs begin, and how many bits each has.
+const CONSTRUCTS: usize = 21;
+
+const CONSTRUCT_BITS: usize = 26;
+
+// non_real_time_video_count
+const SAMPLED_BITS: usize = 4;
 
 // A display field of this picture, counted from 1. It is not the odd or the even field of a frame.
 pub struct DisplayField(pub u8);
@@ -41,6 +51,12 @@ pub struct Answer {
     pub unit: CaptionUnit,
 }
 
+// What `write` answers: the verdict, and how many bytes the body has, 0 where it refuses.
+pub struct Laid {
+    pub verdict: Verdict,
+    pub len: usize,
+}
+
 // What the rules need of the records before one: the latest's field and line, and how many records of that
 // field have priority 0.
 struct Last {
@@ -53,4 +69,12 @@ struct Last {
 struct Run {
     verdict: Verdict,
     records: [Record; MAX_RECORDS],
+}
+
+// Bits on their way into an output. The whole bytes stand in it up to index `at`; `bits` holds those behind them, `width` of
+// them, which do not fill a byte.
+struct Pen {
+    at: usize,
+    width: u32,
+    bits: u64,
 }

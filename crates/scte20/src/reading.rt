@@ -9,12 +9,15 @@ ghost use Rattle.scte20.specs.Value.{blank as Value·blank, none, stored
 ghost use Rattle.scte20.specs.Reading.{headVerdict, flagIn, sampledVerdict, restVerdict, readOf, Reads};
 ghost use Rattle.scte20.specs.Inside.{constructOf, RunOf};
 use crate::Answer;
+use crate::CONSTRUCT_BITS;
+use crate::CONSTRUCTS;
 use crate::CaptionUnit;
 use crate::DisplayField;
 use crate::MAX_BYTES;
 use crate::MAX_RECORDS;
 use crate::Record;
 use crate::Run;
+use crate::SAMPLED_BITS;
 use crate::rules;
 use refusal::Fixed;
 use refusal::Item;
@@ -23,12 +26,6 @@ use refusal::Verdict;
 
 // user_data_type_code, reserved and vbi_data_flag take two bytes; then cc_count begins.
 const COUNT: usize = 16;
-
-const CONSTRUCTS: usize = 21;
-
-const CONSTRUCT_BITS: usize = 26;
-
-const SAMPLED_BITS: usize = 4;
 
 // Reads the body of a caption unit.
 pub fn read(body: &[u8]) -> Answer

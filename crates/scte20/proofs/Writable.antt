@@ -1,0 +1,190 @@
+-- What writing accepts: exactly the legal values, where the result fits the limit and the room. And which number a refusal of the value gives.
+-- Assumes nothing.
+use Prim.Native.Nat.{ℕ, _+_, _≤_, _<_}
+use native.Mathlib.Omega.{arith}
+use mathlib.Core.Path.{_≡_, _∙_, ap, refl}
+use mathlib.Core.Logic.{_⊎_, inl, inr}
+use mathlib.Core.Bool.{not, _&&_}
+use mathlib.Core.List.{List, [], _∷_}
+use lib.Dec.{eqb, ltb}
+use lib.ListN.{length, take}
+use Rattle.lists.specs.Each.{Each}
+use Rattle.lists.proofs.Each.{each-take, each-both, each-map}
+use Rattle.refusal.specs.declared.Refusal.{Refusal}
+use Rattle.refusal.specs.declared.Verdict.{Verdict}
+use Rattle.refusal.specs.declared.Verdict.the-variants.{Accepted, Refused}
+use Rattle.refusal.specs.declared.Reason.the-variants.{TooLong, NoRoom, FieldNumberZero, FieldFalls, LineDoesNotRise, FifthPriority, Unholdable}
+use Rattle.refusal.specs.declared.Excess.the-variants.{Count, Reserved, Flag, Stuffing, FlagWithRecords, Priority, FieldNumber, LineOffset}
+use Rattle.refusal.specs.declared.Item.the-variants.{Whole, Bit}
+use Rattle.refusal.specs.Numbers.{refusalOf}
+use Rattle.refusal.specs.Checks.{andThen, first, fitVerdict}
+use Rattle.refusal.proofs.Checks.{andThen-accepted, accepted-andThen, andThen-assoc, fit-accepted, accepted-fit, fit-long, fit-no-room}
+use Rattle.refusal.proofs.Gives.{Gives, refuseIf-gives, andThen-gives, refused-gives}
+use Rattle.scte20.specs.declared.Record.{Record}
+use Rattle.scte20.specs.declared.CaptionUnit.{CaptionUnit}
+use Rattle.scte20.specs.Value.{fieldOf, urgent, Ranged, LegalRecord, ByteRecord, LegalUnit, Typed, held}
+use Rattle.scte20.specs.Layout.{layout}
+use Rattle.scte20.specs.Rules.{falls, stays, recordVerdict}
+use Rattle.scte20.specs.Writing.{wholeVerdict, rangeVerdict, recordsVerdict, valueVerdict, writeVerdict}
+use Rattle.scte20.proofs.Fitting.{AllFit, record-fits, fits-record, fit-shown, fit-order, fit-four, legal-fit}
+use Rattle.scte20.proofs.Sizes.{length-layout}
+use Rattle.scte20.proofs.Holding as holding
+use Rattle.scte20.proofs.Holding.{whole-accepted, accepted-whole, range-accepted, accepted-range, length-held}
+
+-- ---- the value
+
+-- bytes are bytes by their type
+in-range : (at : ℕ) (r : Record) → ByteRecord r → rangeVerdict at r ≡ Accepted → Ranged r
+in-range at r bytes e =
+    let numbers = accepted-range at r e in
+    record {
+      priority = omega (arith, numbers .0);
+      field = numbers .1;
+      line = omega (arith, numbers .2);
+      data-1 = bytes .data-1;
+      data-2 = bytes .data-2;
+    }
+
+-- the checks of the records accept exactly those in range that fit behind the ones before them
+records-accepted : (before : List Record) (at : ℕ) (rs : List Record) → Each ByteRecord rs → recordsVerdict before at rs ≡ Accepted
+    → Each Ranged rs × AllFit before rs
+records-accepted before at [] bytes e = (tt, tt)
+records-accepted before at (r ∷ rs) bytes e =
+    let later = recordsVerdict (r ∷ before) (at + 26) rs in
+    let one = andThen-accepted (rangeVerdict at r) (first (recordVerdict at before r ∷ later ∷ [])) e in
+    let two = andThen-accepted (recordVerdict at before r) (first (later ∷ [])) (one .1) in
+    let three = andThen-accepted later Accepted (two .1) in
+    let rest = records-accepted (r ∷ before) (at + 26) rs (bytes .1) (three .0) in
+    ((in-range at r (bytes .0) (one .0), rest .0), (record-fits at before r (two .0), rest .1))
+
+accepted-records : (before : List Record) (at : ℕ) (rs : List Record) → Each Ranged rs → AllFit before rs → recordsVerdict before at rs ≡ Accepted
+accepted-records before at [] ranged fit = refl
+accepted-records before at (r ∷ rs) ranged fit =
+    let later = recordsVerdict (r ∷ before) (at + 26) rs in
+    let priority : r .«cc_priority» ≤ 3 = omega (arith, ranged .0 .priority) in
+    let line : r .«line_offset» ≤ 31 = omega (arith, ranged .0 .line) in
+    accepted-andThen (rangeVerdict at r) (first (recordVerdict at before r ∷ later ∷ [])) (range-accepted at r (priority, ranged .0 .field, line))
+    (accepted-andThen (recordVerdict at before r) (first (later ∷ [])) (fits-record at before r (fit .0))
+    (accepted-andThen later Accepted (accepted-records (r ∷ before) (at + 26) rs (ranged .1) (fit .1)) refl))
+
+pub accepted-unit : (u : CaptionUnit) → Typed u → valueVerdict u ≡ Accepted → LegalUnit u
+unfolding valueVerdict
+accepted-unit u t e =
+    let rs = held u .records in
+    let both = andThen-accepted (wholeVerdict u) (recordsVerdict [] 21 rs) e in
+    let whole = whole-accepted u (both .0) in
+    let known = records-accepted [] 21 rs (each-take ByteRecord (u .n) (u .records) (t .bytes)) (both .1) in
+    let fit = known .1 in
+    record {
+      few = whole .few;
+      value = record {
+        reserved = omega (arith, whole .reserved);
+        flag = omega (arith, whole .flag);
+        few = omega (arith, whole .few, length-held u (t .places) (whole .few));
+        each = each-both (λ (r : Record). 1 ≤ fieldOf r) Ranged LegalRecord (λ r shown ranged. record { ranged = ranged; shown = shown }) rs (fit-shown rs fit) (known .0);
+        order = fit-order rs fit;
+        four = fit-four rs fit;
+        bare = λ zero. ap (λ (n : ℕ). take n (u .records)) (whole .bare zero);
+      };
+    }
+
+pub unit-accepted : (u : CaptionUnit) → Typed u → LegalUnit u → u .z ≤ 16384 → valueVerdict u ≡ Accepted
+unfolding valueVerdict
+unit-accepted u t h short =
+    let rs = held u .records in
+    let v = h .value in
+    let whole : holding.Whole u = record {
+      few = h .few;
+      reserved = omega (arith, v .reserved);
+      flag = omega (arith, v .flag);
+      stuffing = short;
+      bare = λ zero. omega (arith, ap length (v .bare zero), length-held u (t .places) (h .few));
+    } in
+    let shown = each-map LegalRecord (λ (r : Record). 1 ≤ fieldOf r) (λ r legal. legal .shown) rs (v .each) in
+    let ranged = each-map LegalRecord Ranged (λ r legal. legal .ranged) rs (v .each) in
+    accepted-andThen (wholeVerdict u) (recordsVerdict [] 21 rs) (accepted-whole u whole)
+    (accepted-records [] 21 rs ranged (legal-fit rs shown (v .order) (v .four)))
+
+-- ---- and the result
+
+-- the stuffing is part of the body
+pub z-within : (u : CaptionUnit) → length (layout (held u)) ≤ 16384 → u .z ≤ 16384
+z-within u short = omega (arith, length-layout (held u))
+
+pub write-accepted : (u : CaptionUnit) (size room : ℕ) → Typed u → writeVerdict u size room ≡ Accepted → LegalUnit u × (size ≤ 16384) × (size ≤ room)
+write-accepted u size room t e =
+    let both = andThen-accepted (valueVerdict u) (fitVerdict 16384 size room) e in
+    let fit = fit-accepted 16384 size room (both .1) in
+    (accepted-unit u t (both .0), fit .0, fit .1)
+
+pub accepted-write : (u : CaptionUnit) (size room : ℕ) → Typed u → LegalUnit u → length (layout (held u)) ≤ size → size ≤ 16384 → size ≤ room
+    → writeVerdict u size room ≡ Accepted
+accepted-write u size room t h within short fits =
+    accepted-andThen (valueVerdict u) (fitVerdict 16384 size room) (unit-accepted u t h (z-within u (omega arith))) (accepted-fit 16384 size room short fits)
+
+-- ---- which refusal
+
+-- a number of 01, and no place
+abbrev pub refused : ℕ → Refusal
+refused number = record { number = number; place = 0 }
+
+-- those of the whole value give 15
+abbrev pub Whole15 : Refusal → Type 0
+Whole15 r = r ≡ refused 15
+
+-- those of a value 15, 7, 8 or 9
+abbrev pub ForValue : Refusal → Type 0
+ForValue r = (r ≡ refused 15) ⊎ ((r ≡ refused 7) ⊎ ((r ≡ refused 8) ⊎ (r ≡ refused 9)))
+
+whole-gives : (P : Refusal → Type 0) → P (refused 15) → (u : CaptionUnit) → Gives P (wholeVerdict u)
+unfolding wholeVerdict
+whole-gives P p u =
+    andThen-gives P _ _ (refuseIf-gives P (ltb 31 (u .n)) (Unholdable Count) Whole p)
+    (andThen-gives P _ _ (refuseIf-gives P (ltb 127 (u .reserved)) (Unholdable Reserved) Whole p)
+    (andThen-gives P _ _ (refuseIf-gives P (ltb 1 (u .«vbi_data_flag»)) (Unholdable Flag) Whole p)
+    (andThen-gives P _ _ (refuseIf-gives P (ltb 16384 (u .z)) (Unholdable Stuffing) Whole p)
+    (andThen-gives P _ _ (refuseIf-gives P (eqb (u .«vbi_data_flag») 0 && not (eqb (u .n) 0)) (Unholdable FlagWithRecords) Whole p) (inl refl)))))
+
+range-gives : (at : ℕ) (r : Record) → Gives ForValue (rangeVerdict at r)
+unfolding rangeVerdict
+range-gives at r =
+    andThen-gives ForValue _ _ (refuseIf-gives ForValue (ltb 3 (r .«cc_priority»)) (Unholdable Priority) (Bit at) (inl refl))
+    (andThen-gives ForValue _ _ (refuseIf-gives ForValue (ltb 3 (fieldOf r)) (Unholdable FieldNumber) (Bit (at + 2)) (inl refl))
+    (andThen-gives ForValue _ _ (refuseIf-gives ForValue (ltb 31 (r .«line_offset»)) (Unholdable LineOffset) (Bit (at + 4)) (inl refl)) (inl refl)))
+
+record-gives : (at : ℕ) (before : List Record) (r : Record) → Gives ForValue (recordVerdict at before r)
+unfolding recordVerdict
+record-gives at before r =
+    andThen-gives ForValue _ _ (refuseIf-gives ForValue (eqb (fieldOf r) 0) FieldNumberZero (Bit (at + 2)) (inr (inl refl)))
+    (andThen-gives ForValue _ _ (refuseIf-gives ForValue (falls before r) FieldFalls (Bit (at + 2)) (inr (inr (inl refl))))
+    (andThen-gives ForValue _ _ (refuseIf-gives ForValue (stays before r) LineDoesNotRise (Bit (at + 4)) (inr (inr (inl refl))))
+    (andThen-gives ForValue _ _
+    (refuseIf-gives ForValue (eqb (r .«cc_priority») 0 && ltb 3 (urgent (fieldOf r) before)) FifthPriority (Bit at) (inr (inr (inr refl)))) (inl refl))))
+
+records-give : (before : List Record) (at : ℕ) (rs : List Record) → Gives ForValue (recordsVerdict before at rs)
+records-give before at [] = inl refl
+records-give before at (r ∷ rs) =
+    andThen-gives ForValue _ _ (range-gives at r)
+    (andThen-gives ForValue _ _ (record-gives at before r)
+    (andThen-gives ForValue _ _ (records-give (r ∷ before) (at + 26) rs) (inl refl)))
+
+value-gives : (u : CaptionUnit) → Gives ForValue (valueVerdict u)
+unfolding valueVerdict
+value-gives u = andThen-gives ForValue _ _ (whole-gives ForValue (inl refl) u) (records-give [] 21 (held u .records))
+
+pub whole-15 : (u : CaptionUnit) (size room : ℕ) → (wholeVerdict u ≡ Accepted → ⊥) → refusalOf (writeVerdict u size room) ≡ record { number = 15; place = 0 }
+unfolding valueVerdict
+whole-15 u size room h =
+    ap refusalOf (andThen-assoc (wholeVerdict u) (recordsVerdict [] 21 (held u .records)) (fitVerdict 16384 size room))
+    ∙ refused-gives Whole15 (wholeVerdict u) _ (whole-gives Whole15 refl u) h
+
+pub value-refused : (u : CaptionUnit) (size room : ℕ) → (valueVerdict u ≡ Accepted → ⊥) → ForValue (refusalOf (writeVerdict u size room))
+value-refused u size room h = refused-gives ForValue (valueVerdict u) (fitVerdict 16384 size room) (value-gives u) h
+
+-- a value that is accepted leaves it to the length of the result,
+pub long-refused : (u : CaptionUnit) (size room : ℕ) → valueVerdict u ≡ Accepted → 16384 < size → writeVerdict u size room ≡ Refused TooLong Whole
+long-refused u size room e long = ap (λ (v : Verdict). andThen v (fitVerdict 16384 size room)) e ∙ fit-long 16384 size room long
+
+-- and then to the room
+pub no-room-refused : (u : CaptionUnit) (size room : ℕ) → valueVerdict u ≡ Accepted → size ≤ 16384 → room < size → writeVerdict u size room ≡ Refused NoRoom Whole
+no-room-refused u size room e short long = ap (λ (v : Verdict). andThen v (fitVerdict 16384 size room)) e ∙ fit-no-room 16384 size room short long

@@ -1,0 +1,117 @@
+-- `scte20::writing::put` meets its contract: two stores, the constructs and zeros are the layout, which fills the output.
+-- Assumes nothing.
+use Prim.Native.Nat.{ℕ, _+_, _≤_, _<_}
+use native.Mathlib.Omega.{arith}
+use mathlib.Core.Path.{_≡_, _∙_, ap, sym}
+use borrow.Author.Needs.{needs}
+use denote.Ref.{now}
+use lib.ListN.{length, length-set}
+use Rattle.scte20.specs.Value.{held}
+use Rattle.scte20.specs.Inside.{countedSize}
+use Rattle.scte20.proofs.Types.{typed}
+use Rattle.scte20.proofs.Holding.{Whole, value-whole, length-held}
+use Rattle.scte20.proofs.Pieces.{layout-long, bare-stored, flagged-stored, flagged-long, length-laid}
+use Rattle.scte20.proofs.writing.put.Statement.{statement}
+use Rattle.scte20.proofs.writing.put.Tie as tie
+
+whole : (c : tie.Start) → Whole (c .args .unit)
+whole c = value-whole (c .args .unit) (c .pre .0)
+
+small : (c : tie.Start) → c .args .unit .reserved < 128
+small c = omega (arith, whole c .reserved)
+
+-- there is room for the first two bytes
+long : (c : tie.Start) → 2 ≤ length (now (c .args .out))
+long c = omega (arith, c .pre .1, layout-long (held (c .args .unit)))
+
+slice-write-out : tie.Need-slice-write-out
+slice-write-out c = omega (arith, long (c .before))
+
+mul-out : tie.Need-mul-out
+mul-out c = omega (arith, whole (c .before .before) .reserved)
+
+add-out : tie.Need-add-out
+add-out c = omega (arith, whole (c .before .before .before) .reserved, whole (c .before .before .before) .flag)
+
+slice-write-out-2 : tie.Need-slice-write-out-2
+slice-write-out-2 c = simp length-set (omega (arith, long (c .before .before .before)))
+
+sub-clear : tie.Need-sub-clear
+sub-clear c = simp length-set (omega (arith, long (c .before .before .before .before .before)))
+
+part-clear-start : tie.Need-part-clear-start
+part-clear-start c = simp length-set (omega (arith, long (c .before .before .before .before .before)))
+
+-- with flag 0
+returns : tie.Need-returns
+returns c =
+    let start = c .before .before .before .before .before .before .before .before .before in
+    bare-stored (held (start .args .unit)) (small start) (now (start .args .out)) (start .pre .1) (c .before .before .before .before .if1 .taken)
+    (c .before .before .clear .last .0) (c .before .before .clear .ensures)
+
+-- past the test the flag is 1
+flagged : (c : tie.Else1) → c .before .before .before .before .before .args .unit .«vbi_data_flag» ≡ 1
+flagged c = omega (arith, c .if1 .left, whole (c .before .before .before .before .before) .flag)
+
+-- as many records as the struct says
+counted : (c : tie.Start) → length (held (c .args .unit) .records) ≡ c .args .unit .n
+counted c = length-held (c .args .unit) (typed (c .args .unit) _ (c .good .0) .places) (whole c .few)
+
+put-constructs-requires : tie.Need-put-constructs-requires
+put-constructs-requires c κs =
+    let start = c .before .before .before .before .before .before in
+    (start .pre .0, simp length-set (omega (arith, flagged-long (held (start .args .unit)) (flagged (c .before)), counted start, start .pre .1)))
+
+-- behind the constructs
+module _ (c : tie.After-put-constructs) where
+  abbrev start : tie.Start
+  start = c .before .before .before .before .before .before .before
+
+  ends : c .put-constructs .result ≡ 2 + countedSize (length (held (start .args .unit) .records))
+  ends = c .put-constructs .ensures .0 ∙ ap (λ (n : ℕ). 2 + countedSize n) (sym (counted start))
+
+  fits : c .put-constructs .result ≤ length (c .put-constructs .last .1 .0)
+  fits =
+      let value = held (start .args .unit) in
+      let set = flagged (c .before .before) in
+      let kept = length-laid value (small start) (now (start .args .out)) (start .pre .1) set (c .put-constructs .last .1 .0) (c .put-constructs .ensures .1) in
+      omega (arith, ends, kept, flagged-long value set)
+
+returns-2 : tie.Need-returns-2
+returns-2 c =
+    let laid = c .before .before .before .before .before .before in
+    let entry = start laid in
+    flagged-stored
+    (held (entry .args .unit))
+    (small entry)
+    (now (entry .args .out))
+    (entry .pre .1)
+    (flagged (laid .before .before))
+    (laid .put-constructs .last .1 .0)
+    (laid .put-constructs .ensures .1)
+    (laid .put-constructs .result)
+    (ends laid)
+    (c .before .before .clear2 .last .0)
+    (c .before .before .clear2 .ensures)
+
+pub put-spec : {M : Type 1} → statement M
+put-spec =
+    tie.close
+    (tie.spec
+    slice-write-out
+    mul-out
+    add-out
+    slice-write-out-2
+    sub-clear
+    part-clear-start
+    (λ c. search needs)
+    (λ c κs. search needs)
+    (λ c. ap length (returns c) ∙ sym (c .before .before .before .before .before .before .before .before .before .pre .1))
+    returns
+    put-constructs-requires
+    (λ c. fits (c .before .before))
+    (λ c. fits (c .before .before))
+    (λ c. search needs)
+    (λ c κs. search needs)
+    (λ c. ap length (returns-2 c) ∙ sym (start (c .before .before .before .before .before .before) .pre .1))
+    returns-2)

@@ -1,0 +1,78 @@
+-- What writing a caption unit's body answers, and what the lent output then holds, for every value and output. Document 01, "Which refusal comes
+-- first": 15 of the whole value; each record in order 15, 7, 8, 9; then 1 for the length of the result; then 14.
+use Prim.Native.Nat.{ℕ, _+_}
+use mathlib.Core.Path.{_≡_}
+use mathlib.Core.Bool.{not, _&&_}
+use mathlib.Core.List.{List, [], _∷_}
+use lib.Dec.{eqb, ltb}
+use lib.ListN.{length}
+use Rattle.lists.specs.Room.{overAt}
+use Rattle.refusal.specs.declared.Verdict.{Verdict}
+use Rattle.refusal.specs.declared.Verdict.the-variants.{Accepted, Refused}
+use Rattle.refusal.specs.declared.Reason.the-variants.{Unholdable}
+use Rattle.refusal.specs.declared.Excess.the-variants.{Count, Reserved, Flag, Stuffing, FlagWithRecords, Priority, FieldNumber, LineOffset}
+use Rattle.refusal.specs.declared.Item.the-variants.{Whole, Bit}
+use Rattle.refusal.specs.Checks.{refuseIf, andThen, first, fitVerdict}
+use Rattle.scte20.specs.declared.Record.{Record}
+use Rattle.scte20.specs.declared.CaptionUnit.{CaptionUnit}
+use Rattle.scte20.specs.declared.Laid.{Laid}
+use Rattle.scte20.specs.Value.{fieldOf, held, Typed}
+use Rattle.scte20.specs.Layout.{layout}
+use Rattle.scte20.specs.Rules.{recordVerdict}
+
+-- 15: n above 31, reserved above 127, a flag that is no bit, z above 16,384, flag 0 with records
+unfoldable pub wholeVerdict : CaptionUnit → Verdict
+wholeVerdict u =
+    first
+    (refuseIf (ltb 31 (u .n)) (Unholdable Count) Whole
+    ∷ refuseIf (ltb 127 (u .reserved)) (Unholdable Reserved) Whole
+    ∷ refuseIf (ltb 1 (u .«vbi_data_flag»)) (Unholdable Flag) Whole
+    ∷ refuseIf (ltb 16384 (u .z)) (Unholdable Stuffing) Whole
+    ∷ refuseIf (eqb (u .«vbi_data_flag») 0 && not (eqb (u .n) 0)) (Unholdable FlagWithRecords) Whole
+    ∷ [])
+
+-- 15: a number that the construct, which would begin at bit `at`, cannot hold
+unfoldable pub rangeVerdict : ℕ → Record → Verdict
+rangeVerdict at r =
+    first
+    (refuseIf (ltb 3 (r .«cc_priority»)) (Unholdable Priority) (Bit at)
+    ∷ refuseIf (ltb 3 (fieldOf r)) (Unholdable FieldNumber) (Bit (at + 2))
+    ∷ refuseIf (ltb 31 (r .«line_offset»)) (Unholdable LineOffset) (Bit (at + 4))
+    ∷ [])
+
+-- each record in order 15, 7, 8, 9, behind these records, the latest first
+abbrev pub recordsVerdict : List Record → ℕ → List Record → Verdict
+recordsVerdict before at [] = Accepted
+recordsVerdict before at (r ∷ rs) =
+    first
+    (rangeVerdict at r
+    ∷ recordVerdict at before r
+    ∷ recordsVerdict (r ∷ before) (at + 26) rs
+    ∷ [])
+
+-- the value's own checks. Entries beyond n are not looked at
+unfoldable pub valueVerdict : CaptionUnit → Verdict
+valueVerdict u = andThen (wholeVerdict u) (recordsVerdict [] 21 (held u .records))
+
+-- then those of the result, which has `size` bytes
+abbrev pub writeVerdict : CaptionUnit → ℕ → ℕ → Verdict
+writeVerdict u size room = andThen (valueVerdict u) (fitVerdict 16384 size room)
+
+-- the same where the result is the body with so many bytes before and after it
+abbrev pub bodyVerdict : CaptionUnit → ℕ → ℕ → ℕ → Verdict
+bodyVerdict u before after room = writeVerdict u (before + length (layout (held u)) + after) room
+
+-- a refusal counts nothing and leaves the output as it was
+abbrev pub countedOf : Verdict → List ℕ → Laid
+countedOf Accepted laid = record { verdict = Accepted; len = length laid }
+countedOf (Refused reason item) laid = record { verdict = Refused reason item; len = 0 }
+
+abbrev pub leftOf : Verdict → ℕ → List ℕ → List ℕ → List ℕ
+leftOf Accepted at laid out = overAt at laid out
+leftOf (Refused reason item) at laid out = out
+
+-- the promise of `write`. By its type the struct's data bytes are bytes and its array has 31 places; the code shows that too
+pub record Writes (u : CaptionUnit) (before after : ℕ) (out : List ℕ) (answer : Laid) (exit : List ℕ) : Type 0 where
+  pub typed : Typed u
+  pub counted : answer ≡ countedOf (bodyVerdict u before after (length out)) (layout (held u))
+  pub left : exit ≡ leftOf (bodyVerdict u before after (length out)) before (layout (held u)) out
