@@ -123,19 +123,45 @@ module _ (s : List ℕ) (bytes : Bytes s) where
 pub caption-short : (before : List (List ℕ)) (body : List ℕ) (after : List (List ℕ)) → length (units.layout (before ++ (body ∷ after))) ≤ 16384 → length body ≤ 16384
 caption-short before body after short = omega (arith, length-around before body after)
 
-pub legal-read : (v : Area) → Legal v → readOf (layout v) ≡ shown v
-legal-read (bare us) h =
-    let e = nowhere-exactly (ours Scte20) (units.layout us) .1 (us, foreign-clean us (h .units), foreign-other us (h .units), h .short, refl) in
-    ap (λ (f : Found). answerOf (foundVerdict f (units.layout us)) (foundContent f (units.layout us))) e
-legal-read (captioned before c after) h =
+-- what the search finds in a legal value's bytes
+abbrev pub foundIn : Area → Found
+foundIn (bare us) = found.Nowhere
+foundIn (captioned before c after) = found.At (length (units.layout before)) (length (units.layout before) + 4 + length (content.layout c))
+
+pub legal-found : (v : Area) → Legal v → captionsIn (layout v) ≡ foundIn v
+legal-found (bare us) h = nowhere-exactly (ours Scte20) (units.layout us) .1 (us, foreign-clean us (h .units), foreign-other us (h .units), h .short, refl)
+legal-found (captioned before c after) h =
+    at-found (ours Scte20) before (content.layout c) after (foreign-clean before (h .units .0)) (legal-clean c (h .units .1)) (foreign-clean after (h .units .2))
+    (foreign-other before (h .units .0)) (foreign-other after (h .units .2)) (caption-ours c) (h .short)
+
+-- and the value there
+abbrev contentsOf : Area → List Content
+contentsOf (bare us) = []
+contentsOf (captioned before c after) = c ∷ []
+
+pub legal-verdict : (v : Area) → Legal v → areaVerdict (layout v) ≡ Accepted
+legal-verdict (bare us) h = ap (λ (f : Found). foundVerdict f (units.layout us)) (legal-found (bare us) h)
+legal-verdict (captioned before c after) h =
     let body = content.layout c in
     let s = units.layout (before ++ (body ∷ after)) in
     let unit = length (units.layout before) in
-    let end = unit + 4 + length body in
-    let e : captionsIn s ≡ found.At unit end =
-    at-found (ours Scte20) before body after (foreign-clean before (h .units .0)) (legal-clean c (h .units .1)) (foreign-clean after (h .units .2))
-    (foreign-other before (h .units .0)) (foreign-other after (h .units .2)) (caption-ours c) (h .short) in
-    let lies : part (unit + 4) end s ≡ body = part-body before body after unit end refl refl in
-    let ok : contentVerdict (part (unit + 4) end s) ≡ Accepted = ap contentVerdict lies ∙ contents.layout-accepted c (h .units .1) (caption-short before body after (h .short)) in
-    let value : valueOf (part (unit + 4) end s) ≡ c = ap valueOf lies ∙ contents.layout-value c (h .units .1) in
-    ap (λ (f : Found). answerOf (foundVerdict f s) (foundContent f s)) e ∙ ap₂ (λ (v : Verdict) (d : Content). answerOf (placed unit v) (d ∷ [])) ok value
+    let lies : part (unit + 4) (unit + 4 + length body) s ≡ body = part-body before body after unit (unit + 4 + length body) refl refl in
+    ap (λ (f : Found). foundVerdict f s) (legal-found (captioned before c after) h)
+    ∙ ap (placed unit) (ap contentVerdict lies ∙ contents.layout-accepted c (h .units .1) (caption-short before body after (h .short)))
+
+legal-content : (v : Area) → Legal v → foundContent (captionsIn (layout v)) (layout v) ≡ contentsOf v
+legal-content (bare us) h = ap (λ (f : Found). foundContent f (units.layout us)) (legal-found (bare us) h)
+legal-content (captioned before c after) h =
+    let body = content.layout c in
+    let s = units.layout (before ++ (body ∷ after)) in
+    let unit = length (units.layout before) in
+    let lies : part (unit + 4) (unit + 4 + length body) s ≡ body = part-body before body after unit (unit + 4 + length body) refl refl in
+    ap (λ (f : Found). foundContent f s) (legal-found (captioned before c after) h)
+    ∙ ap (λ (d : Content). d ∷ []) (ap valueOf lies ∙ contents.layout-value c (h .units .1))
+
+pub legal-read : (v : Area) → Legal v → readOf (layout v) ≡ shown v
+legal-read v h = ap₂ answerOf (legal-verdict v h) (legal-content v h) ∙ same v
+  where
+    same : (w : Area) → answerOf Accepted (contentsOf w) ≡ shown w
+    same (bare us) = refl
+    same (captioned before c after) = refl

@@ -2,4 +2,8 @@ pub mod CleanBody
 pub mod Areas
 pub mod Unique
 pub mod Placing
+pub mod Laying
+pub mod Wholes
+pub mod Spots
+pub mod Replaced
 pub mod Theorems

@@ -1,41 +1,59 @@
--- The theorems of reading a picture area (document 01, demands 1 to 3). What they speak of is defined in specs/: an area's value, when it is legal and
--- its bytes in Value, without the reader; what reading answers in Reading. Which units are ours stands in crate `kind`; units and start codes in
--- `units`; the caption content in `scte20`, whose page has the sizes and the zero run.
+-- The theorems of the picture area (document 01, demands 1 to 3). What they speak of is defined in specs/: an area's value, when it is legal, its
+-- bytes, and the value with another caption unit in Value, without the reader; what reading answers in Reading; what writing and replacing answer
+-- and leave in Writing. Which units are ours stands in crate `kind`; units and start codes in `units`; the caption content in `scte20`, whose page has
+-- the sizes and the zero run.
 --
--- The contract of `read` is the promise `Reads`: `Reads s r` says that r is the answer to the bytes s. So each theorem speaks of every call.
--- Assumes nothing.
+-- The contracts of `read`, `write` and `replace` are the promises `Reads`, `Writes` and `Replaces`. `Reads s r` says that r is the answer to the bytes s,
+-- `Writes u out r exit` that writing the unit u to an output that held `out` answers r and leaves `exit`, and `Replaces s u out r exit` the same of
+-- putting u into the area s. So each theorem speaks of every call. Assumes nothing.
 use Prim.Native.Nat.{ℕ, _+_, _≤_, _<_}
+use native.Mathlib.Omega.{arith}
 use mathlib.Core.Path.{_≡_, _∙_, ap, sym, subst, refl}
 use mathlib.Core.Logic.{_↔_}
 use mathlib.Core.Bool.{true, false}
-use mathlib.Core.List.{List, [], _∷_, _++_}
+use mathlib.Core.List.{List, [], _∷_, _++_, append-nil}
 use lib.ListN.{length, take}
 use Rattle.lists.specs.Each.{Each}
 use Rattle.lists.specs.Part.{part}
+use Rattle.lists.specs.Room.{over}
 use Rattle.refusal.specs.declared.Refusal.{Refusal}
 use Rattle.refusal.specs.declared.Reason.{Reason}
 use Rattle.refusal.specs.declared.Item.{Item}
 use Rattle.refusal.specs.declared.Verdict.{Verdict}
 use Rattle.refusal.specs.declared.Verdict.the-variants.{Accepted, Refused}
+use Rattle.refusal.specs.declared.Written.{Written}
 use Rattle.refusal.specs.Numbers.{numberOf, refusalOf}
 use Rattle.refusal.proofs.Acceptance.{told-accepted}
+use Rattle.refusal.proofs.Checks.{andThen-accepted, accepted-andThen, andThen-refused}
+use Rattle.refusal.proofs.Outputs.{wrote-accepted, accepted-wrote, wrote-refusal, success-left, refusal-left, wrote-determined}
 use Rattle.kind.specs.declared.Kind.the-variants.{Scte20}
 use Rattle.kind.specs.Ours.{ours}
 use Rattle.units.specs.declared.Found.{Found}
 use Rattle.units.specs.Layout.{Clean}
 use Rattle.units.specs.Layout as units
-use Rattle.units.specs.Split.{splitVerdict}
-use Rattle.units.proofs.Splits.{layout-bodies, layout-accepted}
+use Rattle.units.specs.Split.{splitVerdict, bodiesOf}
+use Rattle.units.proofs.Splits.{length-around, layout-bodies, layout-accepted}
 use Rattle.units.proofs.Spans.{count, at-found, part-body, second-many, refused-split}
 use Rattle.units.proofs.Refusals.{start, split-1, split-2, split-3}
-use Rattle.scte20.specs.Value.{Content, none, stored}
+use Rattle.scte20.specs.declared.CaptionUnit.{CaptionUnit}
+use Rattle.scte20.specs.Value.{Content, LegalUnit, none, stored, held}
+use Rattle.scte20.specs.Layout as content
 use Rattle.scte20.specs.Reading.{contentVerdict}
+use Rattle.scte20.specs.Writing.{wholeVerdict, writeVerdict}
 use Rattle.scte20.proofs.Numbered.{AtBit, content-placed}
+use Rattle.scte20.proofs.Writable.{ForValue, accepted-unit, unit-accepted, write-accepted, accepted-write, z-within, whole-15, value-refused, long-refused, no-room-refused}
+use Rattle.scte20.proofs.Theorems.{stored-held, stored-legal}
 use Rattle.picture.specs.declared.Answer.{Answer}
-use Rattle.picture.specs.Value.{Area, bare, captioned, layout, Foreign, Legal}
+use Rattle.picture.specs.Value.{Area, bare, captioned, bodies, layout, Foreign, Legal, replaced, foreignOf}
 use Rattle.picture.specs.Reading.{placedItem, placed, captionsIn, foundVerdict, areaVerdict, foundContent, answerOf, shown, Reads}
-use Rattle.picture.proofs.Areas.{foreign-clean, foreign-other, accepted-back, legal-read, caption-short}
-use Rattle.picture.proofs.Unique.{same-layout}
+use Rattle.picture.specs.Writing.{unitBytes, replacedOf, replaceVerdict, Writes, Replaces}
+use Rattle.picture.proofs.Areas.{foreign-clean, foreign-other, accepted-back, legal-verdict, legal-read, caption-short}
+use Rattle.picture.proofs.Unique.{bodies-clean, same-layout}
+use Rattle.picture.proofs.Replaced.{replaced-layout, replaced-legal, replaced-long, foreign-same, value-next, written-bytes}
+
+-- an answer of number and place 0 that counts n bytes
+abbrev written : ℕ → Written
+written n = record { refusal = record { number = 0; place = 0 }; len = n }
 
 -- a number of 01, and a place
 abbrev refused : ℕ → ℕ → Refusal
@@ -138,6 +156,210 @@ refused-content before body after r p fb clean mine fa short reason item e =
       bit .most,
     )
 
--- Two answers that keep the promise are equal.
+-- WRITING A UNIT
+
+-- Writing succeeds exactly when the value is legal and the unit, with its start code and its stuffing, fits limit and buffer.
+pub writes-exactly : (u : CaptionUnit) (out : List ℕ) (r : Written) (exit : List ℕ) → Writes u out r exit
+    → r .refusal .number ≡ 0 ↔ (LegalUnit u × (length (unitBytes (held u)) ≤ 16384) × (length (unitBytes (held u)) ≤ length out))
+writes-exactly u out r exit w = (
+  λ e. write-accepted u _ _ (w .typed) (wrote-accepted _ _ _ _ _ (w .wrote) e),
+  λ h. accepted-wrote _ _ _ _ _ (w .wrote) (accepted-write u _ _ (w .typed) (h .0) (omega arith) (h .1) (h .2)),
+)
+
+-- Then exactly the unit stands at the front of the buffer, and nothing else changed.
+pub written-front : (u : CaptionUnit) (out : List ℕ) (r : Written) (exit : List ℕ) → Writes u out r exit → r .refusal .number ≡ 0
+    → (r ≡ written (length (unitBytes (held u)))) × (exit ≡ over (unitBytes (held u)) out)
+written-front u out r exit w e = success-left _ _ _ _ _ (w .wrote) (wrote-accepted _ _ _ _ _ (w .wrote) e)
+
+-- A refusal is that of the first check, in 01's order, that finds a fault, and has place 0:
+pub write-in-order : (u : CaptionUnit) (out : List ℕ) (r : Written) (exit : List ℕ) → Writes u out r exit
+    → r .refusal ≡ refusalOf (writeVerdict u (length (unitBytes (held u))) (length out))
+write-in-order u out r exit w = wrote-refusal _ _ _ _ _ (w .wrote)
+
+-- 15 for a fault of the whole value, whatever the records;
+pub write-15 : (u : CaptionUnit) (out : List ℕ) (r : Written) (exit : List ℕ) → Writes u out r exit → (wholeVerdict u ≡ Accepted → ⊥) → r .refusal ≡ refused 15 0
+write-15 u out r exit w h = write-in-order u out r exit w ∙ whole-15 u (length (unitBytes (held u))) (length out) h
+
+-- 15, 7, 8 or 9 for a value that is not legal;
+pub illegal-refused : (u : CaptionUnit) (out : List ℕ) (r : Written) (exit : List ℕ) → Writes u out r exit → (LegalUnit u → ⊥) → ForValue (r .refusal)
+illegal-refused u out r exit w h =
+    subst ForValue (sym (write-in-order u out r exit w)) (value-refused u (length (unitBytes (held u))) (length out) (λ e. h (accepted-unit u (w .typed) e)))
+
+-- 1 for a legal one that is too long, whatever the buffer;
+pub write-1 : (u : CaptionUnit) (out : List ℕ) (r : Written) (exit : List ℕ) → Writes u out r exit → LegalUnit u → u .z ≤ 16384
+    → 16384 < length (unitBytes (held u)) → r .refusal ≡ refused 1 0
+write-1 u out r exit w h z long = write-in-order u out r exit w ∙ ap refusalOf (long-refused u _ _ (unit-accepted u (w .typed) h z) long)
+
+-- 14 where the buffer is too short.
+pub write-14 : (u : CaptionUnit) (out : List ℕ) (r : Written) (exit : List ℕ) → Writes u out r exit → LegalUnit u → length (unitBytes (held u)) ≤ 16384
+    → length out < length (unitBytes (held u)) → r .refusal ≡ refused 14 0
+write-14 u out r exit w h short room =
+    let z = z-within u (omega arith) in
+    write-in-order u out r exit w ∙ ap refusalOf (no-room-refused u _ _ (unit-accepted u (w .typed) h z) short room)
+
+-- A refused call counted nothing and changed nothing.
+pub write-untouched : (u : CaptionUnit) (out : List ℕ) (r : Written) (exit : List ℕ) → Writes u out r exit → (r .refusal .number ≡ 0 → ⊥) → (r .len ≡ 0) × (exit ≡ out)
+write-untouched u out r exit w h = refusal-left _ _ _ _ _ (w .wrote) h
+
+-- Reading what was written gives the value back.
+pub read-written : (u : CaptionUnit) (out : List ℕ) (r : Written) (exit : List ℕ) → Writes u out r exit → r .refusal .number ≡ 0
+    → (a : Answer) → Reads (take (r .len) exit) a → a ≡ shown (captioned [] (held u) [])
+read-written u out r exit w e a read =
+    let wrote = written-front u out r exit w e in
+    let ok = writes-exactly u out r exit w .0 e in
+    let alone = captioned [] (held u) [] in
+    let laid : layout alone ≡ unitBytes (held u) = append-nil (unitBytes (held u)) in
+    let legal : Legal alone = record { units = (tt, ok .0 .value, tt); short = omega (arith, ap length laid, ok .1) } in
+    the-answer alone legal a (subst (λ (s : List ℕ). Reads s a) (written-bytes (unitBytes (held u)) out r exit wrote ∙ sym laid) read)
+
+-- Writing what was read gives the unit's bytes.
+pub written-read : (before : List (List ℕ)) (c : Content) (after : List (List ℕ)) → Legal (captioned before c after)
+    → (a : Answer) → Reads (layout (captioned before c after)) a
+    → (out : List ℕ) (r : Written) (exit : List ℕ) → Writes (a .unit) out r exit → length (unitBytes c) ≤ length out
+    → (r ≡ written (length (unitBytes c))) × (exit ≡ over (unitBytes c) out)
+written-read before c after h a read out r exit w room =
+    let u = stored c in
+    let same : a .unit ≡ u = ap (λ (x : Answer). x .unit) (the-answer (captioned before c after) h a read) in
+    let wrote : Writes u out r exit = subst (λ (x : CaptionUnit). Writes x out r exit) same w in
+    let value : held u ≡ c = stored-held c in
+    let short : length (unitBytes c) ≤ 16384 = omega (arith, length-around before (content.layout c) after, h .short) in
+    let ok = writes-exactly u out r exit wrote .1 (
+      stored-legal c (h .units .1),
+      subst (λ (d : Content). length (unitBytes d) ≤ 16384) (sym value) short,
+      subst (λ (d : Content). length (unitBytes d) ≤ length out) (sym value) room,
+    ) in
+    subst (λ (d : Content). (r ≡ written (length (unitBytes d))) × (exit ≡ over (unitBytes d) out)) value (written-front u out r exit wrote ok)
+
+-- REPLACING
+
+-- A replacement succeeds exactly when the area is accepted, the new value is legal, and the new area fits limit and buffer. So it is refused only
+-- where a check of 01 refuses.
+pub replaces-exactly : (s : List ℕ) (u : CaptionUnit) (out : List ℕ) (r : Written) (exit : List ℕ) → Replaces s u out r exit
+    → r .refusal .number ≡ 0
+    ↔ ((v : Area) × Legal v × (layout v ≡ s) × LegalUnit u × (length (layout (replaced v (held u))) ≤ 16384) × (length (layout (replaced v (held u))) ≤ length out))
+replaces-exactly s u out r exit p = (
+  λ e.
+      let ok = andThen-accepted (areaVerdict s) _ (wrote-accepted _ _ _ _ _ (p .wrote) e) in
+      let back = accepted-back s (p .bytes) (ok .0) in
+      let v = back .value in
+      let new : replacedOf s (held u) ≡ layout (replaced v (held u)) = ap (λ (t : List ℕ). replacedOf t (held u)) (sym (back .same)) ∙ replaced-layout v (held u) (back .legal) in
+      let fits = write-accepted u _ _ (p .typed) (ok .1) in
+      (v, back .legal, back .same, fits .0, subst (λ (t : List ℕ). length t ≤ 16384) new (fits .1), subst (λ (t : List ℕ). length t ≤ length out) new (fits .2)),
+  λ w.
+      let v = w .0 in
+      let area : areaVerdict s ≡ Accepted = subst (λ (t : List ℕ). areaVerdict t ≡ Accepted) (w .2) (legal-verdict v (w .1)) in
+      let new : replacedOf s (held u) ≡ layout (replaced v (held u)) = ap (λ (t : List ℕ). replacedOf t (held u)) (sym (w .2)) ∙ replaced-layout v (held u) (w .1) in
+      let value = accepted-write u (length (layout (replaced v (held u)))) (length out) (p .typed) (w .3) (replaced-long v (held u)) (w .4) (w .5) in
+      accepted-wrote _ _ _ _ _ (p .wrote) (accepted-andThen (areaVerdict s) _ area (ap (λ (t : List ℕ). writeVerdict u (length t) (length out)) new ∙ value)),
+)
+
+-- Then the new area stands at the front of the buffer, and nothing else changed. It is the list of units with the new caption unit's exact
+-- layout in the place of the old one, or, where there was none, behind all units (`replaced`), and it is legal.
+pub the-new-area : (v : Area) → Legal v → (u : CaptionUnit) (out : List ℕ) (r : Written) (exit : List ℕ) → Replaces (layout v) u out r exit → r .refusal .number ≡ 0
+    → (r ≡ written (length (layout (replaced v (held u))))) × (exit ≡ over (layout (replaced v (held u))) out) × Legal (replaced v (held u))
+the-new-area v h u out r exit p e =
+    let done = success-left _ _ _ _ _ (p .wrote) (wrote-accepted _ _ _ _ _ (p .wrote) e) in
+    let new = replaced-layout v (held u) h in
+    let ok = andThen-accepted (areaVerdict (layout v)) _ (wrote-accepted _ _ _ _ _ (p .wrote) e) in
+    let fits = write-accepted u _ _ (p .typed) (ok .1) in (
+      done .0 ∙ ap (λ (t : List ℕ). written (length t)) new,
+      done .1 ∙ ap (λ (t : List ℕ). over t out) new,
+      replaced-legal v (held u) h (fits .0 .value) (subst (λ (t : List ℕ). length t ≤ 16384) new (fits .1)),
+    )
+
+-- Each foreign unit keeps its bytes and its place in the order.
+pub foreign-kept : (v : Area) (c : Content) → foreignOf (replaced v c) ≡ foreignOf v
+foreign-kept = foreign-same
+
+-- Cut into units, the new area is those of its value.
+pub new-units : (v : Area) → Legal v → (u : CaptionUnit) (out : List ℕ) (r : Written) (exit : List ℕ) → Replaces (layout v) u out r exit → r .refusal .number ≡ 0
+    → bodiesOf (take (r .len) exit) ≡ bodies (replaced v (held u))
+new-units v h u out r exit p e =
+    let new = the-new-area v h u out r exit p e in
+    ap bodiesOf (written-bytes (layout (replaced v (held u))) out r exit (new .0, new .1)) ∙ layout-bodies _ (bodies-clean (replaced v (held u)) (new .2 .units))
+
+-- Reading the new area gives the new value.
+pub read-replaced : (v : Area) → Legal v → (u : CaptionUnit) (out : List ℕ) (r : Written) (exit : List ℕ) → Replaces (layout v) u out r exit → r .refusal .number ≡ 0
+    → (a : Answer) → Reads (take (r .len) exit) a → a ≡ answerOf Accepted (held u ∷ [])
+read-replaced v h u out r exit p e a read =
+    let new = the-new-area v h u out r exit p e in
+    the-answer (replaced v (held u)) (new .2) a (subst (λ (s : List ℕ). Reads s a) (written-bytes (layout (replaced v (held u))) out r exit (new .0, new .1)) read)
+    ∙ shown-replaced v
+  where
+    shown-replaced : (w : Area) → shown (replaced w (held u)) ≡ answerOf Accepted (held u ∷ [])
+    shown-replaced (bare us) = refl
+    shown-replaced (captioned before d after) = refl
+
+-- Replacing and putting the old value back gives the area byte for byte.
+pub put-back : (before : List (List ℕ)) (c : Content) (after : List (List ℕ)) → Legal (captioned before c after)
+    → (a : Answer) → Reads (layout (captioned before c after)) a
+    → (u : CaptionUnit) (out : List ℕ) (r : Written) (exit : List ℕ) → Replaces (layout (captioned before c after)) u out r exit → r .refusal .number ≡ 0
+    → (room : List ℕ) (again : Written) (end : List ℕ) → Replaces (take (r .len) exit) (a .unit) room again end
+    → length (layout (captioned before c after)) ≤ length room
+    → (again ≡ written (length (layout (captioned before c after)))) × (end ≡ over (layout (captioned before c after)) room)
+put-back before c after h a read u out r exit p e room again end q fits =
+    let v = captioned before c after in
+    let w = captioned before (held u) after in
+    let new = the-new-area v h u out r exit p e in
+    let same : a .unit ≡ stored c = ap (λ (x : Answer). x .unit) (the-answer v h a read) in
+    let second : Replaces (layout w) (stored c) room again end =
+    subst (λ (s : List ℕ). Replaces s (stored c) room again end) (written-bytes (layout w) out r exit (new .0, new .1)) (subst (λ (x : CaptionUnit). Replaces (take (r .len) exit) x room again end) same q) in
+    let value : held (stored c) ≡ c = stored-held c in
+    let back : layout (captioned before (held (stored c)) after) ≡ layout v = ap (λ (d : Content). layout (captioned before d after)) value in
+    let ok = replaces-exactly (layout w) (stored c) room again end second .1 (
+      w,
+      new .2,
+      refl,
+      stored-legal c (h .units .1),
+      omega (arith, ap length back, h .short),
+      omega (arith, ap length back, fits),
+    ) in
+    let done = the-new-area w (new .2) (stored c) room again end second ok in
+    (done .0 ∙ ap (λ (t : List ℕ). written (length t)) back, done .1 ∙ ap (λ (t : List ℕ). over t room) back)
+
+-- A refusal is that of the first check, in 01's order, that finds a fault:
+pub replace-in-order : (s : List ℕ) (u : CaptionUnit) (out : List ℕ) (r : Written) (exit : List ℕ) → Replaces s u out r exit → r .refusal ≡ refusalOf (replaceVerdict s u (length out))
+replace-in-order s u out r exit p = wrote-refusal _ _ _ _ _ (p .wrote)
+
+-- the one of reading the area, with its place, whatever the new value;
+pub refused-as-read : (s : List ℕ) (u : CaptionUnit) (out : List ℕ) (r : Written) (exit : List ℕ) → Replaces s u out r exit
+    → (a : Answer) → Reads s a → (a .refusal .number ≡ 0 → ⊥) → r .refusal ≡ a .refusal
+refused-as-read s u out r exit p a read h =
+    let refuses : areaVerdict s ≡ Accepted → ⊥ = λ e. h (ap (λ (x : Refusal). x .number) (told s a read ∙ ap refusalOf e)) in
+    replace-in-order s u out r exit p ∙ ap refusalOf (andThen-refused (areaVerdict s) _ refuses) ∙ sym (told s a read)
+
+-- then 15, 7, 8 or 9 for a value that is not legal;
+pub replace-illegal : (v : Area) → Legal v → (u : CaptionUnit) (out : List ℕ) (r : Written) (exit : List ℕ) → Replaces (layout v) u out r exit → (LegalUnit u → ⊥) → ForValue (r .refusal)
+replace-illegal v h u out r exit p illegal =
+    subst ForValue (sym (replace-in-order (layout v) u out r exit p ∙ ap refusalOf (value-next v h u (length out)))) (value-refused u (length (layout (replaced v (held u)))) (length out) (λ e. illegal (accepted-unit u (p .typed) e)))
+
+-- then 1 where the new area is too long, whatever the buffer,
+pub replace-1 : (v : Area) → Legal v → (u : CaptionUnit) (out : List ℕ) (r : Written) (exit : List ℕ) → Replaces (layout v) u out r exit → LegalUnit u → u .z ≤ 16384
+    → 16384 < length (layout (replaced v (held u))) → r .refusal ≡ refused 1 0
+replace-1 v h u out r exit p legal z long =
+    replace-in-order (layout v) u out r exit p ∙ ap refusalOf (value-next v h u (length out) ∙ long-refused u _ _ (unit-accepted u (p .typed) legal z) long)
+
+-- and 14 where the buffer is too short.
+pub replace-14 : (v : Area) → Legal v → (u : CaptionUnit) (out : List ℕ) (r : Written) (exit : List ℕ) → Replaces (layout v) u out r exit → LegalUnit u
+    → length (layout (replaced v (held u))) ≤ 16384 → length out < length (layout (replaced v (held u))) → r .refusal ≡ refused 14 0
+replace-14 v h u out r exit p legal short room =
+    let z = z-within u (omega (arith, replaced-long v (held u))) in
+    replace-in-order (layout v) u out r exit p ∙ ap refusalOf (value-next v h u (length out) ∙ no-room-refused u _ _ (unit-accepted u (p .typed) legal z) short room)
+
+-- A refused call counted nothing and changed nothing.
+pub replace-untouched : (s : List ℕ) (u : CaptionUnit) (out : List ℕ) (r : Written) (exit : List ℕ) → Replaces s u out r exit → (r .refusal .number ≡ 0 → ⊥) → (r .len ≡ 0) × (exit ≡ out)
+replace-untouched s u out r exit p h = refusal-left _ _ _ _ _ (p .wrote) h
+
+-- ONE ANSWER
+
+-- For each function, two answers that keep its promise are equal, lent memory too.
 pub read-determined : (s : List ℕ) (a b : Answer) → Reads s a → Reads s b → a ≡ b
 read-determined s a b p q = p .answer ∙ sym (q .answer)
+
+pub write-determined : (u : CaptionUnit) (out : List ℕ) (a : Written) (exit : List ℕ) (b : Written) (end : List ℕ)
+    → Writes u out a exit → Writes u out b end → (a ≡ b) × (exit ≡ end)
+write-determined u out a exit b end p q = wrote-determined _ _ _ _ _ (p .wrote) b end (q .wrote)
+
+pub replace-determined : (s : List ℕ) (u : CaptionUnit) (out : List ℕ) (a : Written) (exit : List ℕ) (b : Written) (end : List ℕ)
+    → Replaces s u out a exit → Replaces s u out b end → (a ≡ b) × (exit ≡ end)
+replace-determined s u out a exit b end p q = wrote-determined _ _ _ _ _ (p .wrote) b end (q .wrote)

@@ -2,7 +2,7 @@
 -- Assumes nothing.
 use Prim.Native.Nat.{ℕ}
 use mathlib.Core.Path.{_≡_, _∙_, ap, ap₂, sym, subst, refl}
-use mathlib.Core.Bool.{true, false, true≢false}
+use mathlib.Core.Bool.{true, true≢false}
 use mathlib.Core.List.{List, [], _∷_, _++_, head-eq-of-cons-eq, tail-eq-of-cons-eq}
 use Rattle.lists.specs.Each.{Each}
 use Rattle.lists.proofs.Each.{each-append, append-each}
@@ -19,7 +19,7 @@ use Rattle.picture.specs.Value.{Area, bare, captioned, bodies, layout, L
 use Rattle.picture.proofs.CleanBody.{legal-clean}
 use Rattle.picture.proofs.Areas.{Other, foreign-clean, foreign-other, caption-ours}
 
-bodies-clean : (v : Area) → LegalUnits v → Each Clean (bodies v)
+pub bodies-clean : (v : Area) → LegalUnits v → Each Clean (bodies v)
 bodies-clean (bare us) h = foreign-clean us h
 bodies-clean (captioned before c after) h =
     each-append Clean before (content.layout c ∷ after) (foreign-clean before (h .0)) (legal-clean c (h .1), foreign-clean after (h .2))

@@ -1,7 +1,18 @@
 -- What private functions promise each other. No theorem for a signer speaks of it.
-use Prim.Native.Nat.{_≤_}
+use Prim.Native.Nat.{ℕ, _≤_}
+use mathlib.Core.List.{List}
+use lib.ListN.{length}
 use Rattle.refusal.specs.declared.Item.{Item}
 use Rattle.refusal.specs.declared.Item.the-variants.{Whole, Bit, Body, Word, Length}
+use Rattle.refusal.specs.declared.Written.{Written}
+use Rattle.refusal.specs.Answers.{Wrote}
+use Rattle.units.specs.declared.Found.{Found}
+use Rattle.units.specs.declared.Found.the-variants.{Refused, Nowhere, At, Many}
+use Rattle.scte20.specs.declared.CaptionUnit.{CaptionUnit}
+use Rattle.scte20.specs.Value.{held, Typed}
+use Rattle.scte20.specs.Writing.{writeVerdict}
+use Rattle.picture.specs.declared.Spot.{Spot}
+use Rattle.picture.specs.Writing.{unitBytes, exchanged}
 
 -- an item that begins not far behind the end of a body, so that its bit in an area is a number that the code holds
 abbrev pub Near : Item → Type 0
@@ -10,3 +21,15 @@ Near (Bit bit) = bit ≤ 1048576
 Near (Body other bit) = Unit {0}
 Near (Word w) = Unit {0}
 Near (Length n) = Unit {0}
+
+-- where the new unit goes: in the place of the only one that was found, else behind the last byte
+abbrev pub spotOf : Found → ℕ → Spot
+spotOf (Refused reason item) len = record { start = len; end = len }
+spotOf Nowhere len = record { start = len; end = len }
+spotOf (At unit end) len = record { start = unit; end = end }
+spotOf (Many k) len = record { start = len; end = len }
+
+-- what `exchange` answers and leaves: the new area is judged as a whole
+pub record Exchanges (s : List ℕ) (start end : ℕ) (u : CaptionUnit) (out : List ℕ) (answer : Written) (exit : List ℕ) : Type 0 where
+  pub typed : Typed u
+  pub wrote : Wrote (writeVerdict u (length (exchanged s start end (unitBytes (held u)))) (length out)) (exchanged s start end (unitBytes (held u))) out answer exit

@@ -1,3 +1,4 @@
 pub mod Value
 pub mod Reading
+pub mod Writing
 pub mod Inside

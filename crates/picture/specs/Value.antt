@@ -3,7 +3,7 @@
 use Prim.Native.Nat.{ℕ, _≤_}
 use mathlib.Core.Path.{_≡_}
 use mathlib.Core.Bool.{false}
-use mathlib.Core.List.{List, _∷_, _++_}
+use mathlib.Core.List.{List, [], _∷_, _++_}
 use lib.ListN.{length}
 use Rattle.lists.specs.Each.{Each}
 use Rattle.lists.specs.Bytes.{Bytes}
@@ -40,3 +40,13 @@ LegalUnits (captioned before c after) = Each Foreign before × scte20.Legal c ×
 pub record Legal (v : Area) : Type 0 where
   pub units : LegalUnits v
   pub short : length (layout v) ≤ 16384
+
+-- the area with another caption unit: in the place of the one that stands there, or behind all units where none does
+abbrev pub replaced : Area → scte20.Content → Area
+replaced (bare foreign) c = captioned foreign c []
+replaced (captioned before old after) c = captioned before c after
+
+-- the bodies of the foreign units, in order
+abbrev pub foreignOf : Area → List (List ℕ)
+foreignOf (bare foreign) = foreign
+foreignOf (captioned before c after) = before ++ after

@@ -17,7 +17,14 @@ use units::START_BYTES;
 pub fn read(s: &[u8]) -> Answer
     ensures { λ r. ⌜ Reads (now (s .entry)) r ⌝ }
 {
-    let found = units::scan(s, Kind::Scte20);
+    answer_of(s, units::scan(s, Kind::Scte20))
+}
+
+// The answer, from what the search for caption units found.
+pub(crate) fn answer_of(s: &[u8], found: Found) -> Answer
+    requires { ⌜ captionsIn (now s) ≡ found ⌝ }
+    ensures { λ r. ⌜ r ≡ readOf (now (s .entry)) ⌝ }
+{
     match found {
         Found::Refused(reason, item) => nothing(Verdict::Refused(reason, item)),
         Found::Nowhere => nothing(Verdict::Accepted),

@@ -1,0 +1,97 @@
+// Writing a caption unit, and putting one into an area.
+ghost use mathlib.Core.Path.{_≡_};
+ghost use Prim.Native.Nat.{_≤_};
+ghost use lib.ListN.{length};
+ghost use Rattle.lists.specs.Room.{over};
+ghost use Rattle.picture.specs.Writing.{Writes, Replaces};
+ghost use Rattle.picture.specs.Inside.{spotOf, Exchanges};
+use crate::Spot;
+use crate::reading;
+use kind::Kind;
+use refusal::Written;
+use scte20::CaptionUnit;
+use units::Found;
+use units::START_BYTES;
+
+// Writes a unit, with its start code and its stuffing, at the front of out.
+pub fn write(unit: CaptionUnit, out: &mut [u8]) -> Written
+    ensures { λ r. ⌜ Writes unit (now (out .entry)) r (now (out .exit)) ⌝ }
+{
+    let laid = scte20::write(unit, START_BYTES, 0, out);
+    let verdict = laid.verdict;
+    let refusal = refusal::told(verdict);
+    if refusal.number != 0 {
+        return Written { refusal, len: 0 };
+    }
+    units::open(out);
+    Written {
+        refusal,
+        len: START_BYTES + laid.len,
+    }
+}
+
+// Writes an area with another caption unit at the front of out. The foreign units pass byte for byte.
+pub fn replace(s: &[u8], unit: CaptionUnit, out: &mut [u8]) -> Written
+    ensures { λ r. ⌜ Replaces (now (s .entry)) unit (now (out .entry)) r (now (out .exit)) ⌝ }
+{
+    let found = units::scan(s, Kind::Scte20);
+    let old = reading::answer_of(s, found);
+    let refusal = old.refusal;
+    if refusal.number != 0 {
+        return Written { refusal, len: 0 };
+    }
+    let spot = spot_of(found, s.len());
+    exchange(s, spot.start, spot.end, unit, out)
+}
+
+// Where the new unit goes: in the place of the only one that was found, else behind the last byte.
+fn spot_of(found: Found, len: usize) -> Spot
+    ensures { λ r. ⌜ r ≡ spotOf found len ⌝ }
+{
+    let behind = Spot {
+        start: len,
+        end: len,
+    };
+    match found {
+        Found::At { unit, end } => Spot { start: unit, end },
+        Found::Nowhere => behind,
+        Found::Refused(_, _) => behind,
+        Found::Many(_) => behind,
+    }
+}
+
+// Writes the area with the unit in place of the bytes from `start` up to `end`.
+fn exchange(s: &[u8], start: usize, end: usize, unit: CaptionUnit, out: &mut [u8]) -> Written
+    requires { ⌜ start ≤ end ⌝ }
+    requires { ⌜ end ≤ length (now s) ⌝ }
+    requires { ⌜ length (now s) ≤ 16384 ⌝ }
+    ensures { λ r. ⌜ Exchanges (now (s .entry)) start end unit (now (out .entry)) r (now (out .exit)) ⌝ }
+{
+    let rest = s.len() - end;
+    let laid = scte20::write(unit, start + START_BYTES, rest, out);
+    let verdict = laid.verdict;
+    let refusal = refusal::told(verdict);
+    if refusal.number != 0 {
+        return Written { refusal, len: 0 };
+    }
+    let behind = start + START_BYTES + laid.len;
+    copy(&s[..start], out);
+    units::open(&mut out[start..]);
+    copy(&s[end..], &mut out[behind..]);
+    Written {
+        refusal,
+        len: behind + rest,
+    }
+}
+
+// Stores s over the front of out.
+fn copy(s: &[u8], out: &mut [u8])
+    requires { ⌜ length (now s) ≤ length (now out) ⌝ }
+    ensures { λ _. ⌜ now (out .exit) ≡ over (now (s .entry)) (now (out .entry)) ⌝ }
+{
+    let mut i = 0;
+    while i < s.len() {
+        out[i] = s[i];
+        i += 1;
+    }
+}
