@@ -16,7 +16,7 @@ shorter : (k n : ℕ) → n < 10 ^ suc k → n / 10 < 10 ^ k
 shorter k n h = omega (arith, pow-suc 10 k)
 
 -- a number below 10 ^ (k + 1) has at most k + 1 digits
-digits-few : (m k n : ℕ) → n < 10 ^ suc k → length (digitsOf m n) ≤ suc k
+pub digits-few : (m k n : ℕ) → n < 10 ^ suc k → length (digitsOf m n) ≤ suc k
 digits-few zero k n h = omega arith
 digits-few (suc m) zero n h =
     let low : ltb n 10 ≡ true = lt-ltb n 10 (omega arith) in

@@ -1,0 +1,3 @@
+pub mod Words
+pub mod Value
+pub mod Inside
