@@ -7,8 +7,10 @@ mod packet_reading;
 mod packet_writing;
 mod payload_reading;
 mod payload_writing;
+mod unit_writing;
 
 ghost use Prim.Native.Nat.{_<_};
+use unit_writing::Call;
 use vectors::Kind;
 use vectors::Tally;
 
@@ -24,16 +26,18 @@ pub(crate) const ROOM: usize = 40969;
 enum Operation {
     AreaCclist,
     AreaRead,
+    AreaReplace,
     AreaUnits,
     PacketRead,
     PacketWrite,
     PayloadRead,
     PayloadWrite,
+    UnitWrite,
     Unknown,
 }
 
 // The places of the operations among the tallies.
-const OPERATIONS: usize = 8;
+const OPERATIONS: usize = 10;
 
 pub(crate) enum Outcome {
     Agrees,
@@ -52,28 +56,32 @@ fn main() {
     let ran = tallies.ran;
     vectors::print_tally(b"area cclist", ran[0]);
     vectors::print_tally(b"area read", ran[1]);
-    vectors::print_tally(b"area units", ran[2]);
-    vectors::print_tally(b"packet read", ran[3]);
-    vectors::print_tally(b"packet write", ran[4]);
-    vectors::print_tally(b"payload read", ran[5]);
-    vectors::print_tally(b"payload write", ran[6]);
-    vectors::print_tally(b"not known", ran[7]);
+    vectors::print_tally(b"area replace", ran[2]);
+    vectors::print_tally(b"area units", ran[3]);
+    vectors::print_tally(b"packet read", ran[4]);
+    vectors::print_tally(b"packet write", ran[5]);
+    vectors::print_tally(b"payload read", ran[6]);
+    vectors::print_tally(b"payload write", ran[7]);
+    vectors::print_tally(b"unit write", ran[8]);
+    vectors::print_tally(b"not known", ran[9]);
     let wrong = tallies.wrong;
     vectors::print_wrong(wrong);
 }
 
 fn place(operation: Operation) -> usize
-    ensures { λ r. ⌜ r < 8 ⌝ }
+    ensures { λ r. ⌜ r < 10 ⌝ }
 {
     match operation {
         Operation::AreaCclist => 0,
         Operation::AreaRead => 1,
-        Operation::AreaUnits => 2,
-        Operation::PacketRead => 3,
-        Operation::PacketWrite => 4,
-        Operation::PayloadRead => 5,
-        Operation::PayloadWrite => 6,
-        Operation::Unknown => 7,
+        Operation::AreaReplace => 2,
+        Operation::AreaUnits => 3,
+        Operation::PacketRead => 4,
+        Operation::PacketWrite => 5,
+        Operation::PayloadRead => 6,
+        Operation::PayloadWrite => 7,
+        Operation::UnitWrite => 8,
+        Operation::Unknown => 9,
     }
 }
 
@@ -130,6 +138,9 @@ fn operation_of(vector: &[u8]) -> Operation {
     if check::same(name, b"area-read") {
         return Operation::AreaRead;
     }
+    if check::same(name, b"area-replace") {
+        return Operation::AreaReplace;
+    }
     if check::same(name, b"area-units") {
         return Operation::AreaUnits;
     }
@@ -144,6 +155,9 @@ fn operation_of(vector: &[u8]) -> Operation {
     }
     if check::same(name, b"payload-write") {
         return Operation::PayloadWrite;
+    }
+    if check::same(name, b"unit-write") {
+        return Operation::UnitWrite;
     }
     Operation::Unknown
 }
@@ -167,11 +181,13 @@ fn outcome_of(operation: Operation, vector: &[u8]) -> Outcome {
     match operation {
         Operation::AreaCclist => area_listing::outcome(&input[..n], &expected[..k]),
         Operation::AreaRead => area_reading::outcome(&input[..n], &expected[..k]),
+        Operation::AreaReplace => unit_writing::outcome(Call::Replace, &input[..n], &expected[..k]),
         Operation::AreaUnits => area_units::outcome(&input[..n], &expected[..k]),
         Operation::PacketRead => packet_reading::outcome(&input[..n], &expected[..k]),
         Operation::PacketWrite => packet_writing::outcome(&input[..n], &expected[..k]),
         Operation::PayloadRead => payload_reading::outcome(&input[..n], &expected[..k]),
         Operation::PayloadWrite => payload_writing::outcome(&input[..n], &expected[..k]),
+        Operation::UnitWrite => unit_writing::outcome(Call::Write, &input[..n], &expected[..k]),
         Operation::Unknown => Outcome::Unreadable,
     }
 }
