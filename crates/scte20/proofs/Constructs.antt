@@ -58,8 +58,10 @@ construct-ranged at xs h =
       priority = field-lt xs at 2 h;
       field = omega (arith, field-lt xs (at + 2) 2 h);
       line = field-lt xs (at + 4) 5 h;
-      data-1 = reversed-lt (field xs (at + 9) 8) (field-lt xs (at + 9) 8 h);
-      data-2 = reversed-lt (field xs (at + 17) 8) (field-lt xs (at + 17) 8 h);
+      bytes = record {
+        data-1 = reversed-lt (field xs (at + 9) 8) (field-lt xs (at + 9) 8 h);
+        data-2 = reversed-lt (field xs (at + 17) 8) (field-lt xs (at + 17) 8 h);
+      };
     }
 
 pub records-ranged : (k at : ℕ) (xs : List ℕ) → AreBits xs → Each Ranged (recordsAt k at xs)
@@ -163,8 +165,8 @@ construct-back r at xs rest h e =
     let priority : field xs at 2 ≡ r .«cc_priority» = ap (λ (l : List ℕ). num (take 2 l)) e ∙ num-bits-small 2 (r .«cc_priority») (h .priority) in
     let shown : field xs (at + 2) 2 ≡ fieldOf r = field-on xs all at 2 2 e ∙ num-bits-small 2 (fieldOf r) (omega (arith, h .field)) in
     let line : field xs (at + 4) 5 ≡ r .«line_offset» = field-on xs all at 4 5 e ∙ num-bits-small 5 (r .«line_offset») (h .line) in
-    let one : reversed (field xs (at + 9) 8) ≡ r .«cc_data_1» = ap reversed (field-on xs all at 9 8 e) ∙ turned (r .«cc_data_1») (h .data-1) in
-    let two : reversed (field xs (at + 17) 8) ≡ r .«cc_data_2» = ap reversed (field-on xs all at 17 8 e) ∙ turned (r .«cc_data_2») (h .data-2) in
+    let one : reversed (field xs (at + 9) 8) ≡ r .«cc_data_1» = ap reversed (field-on xs all at 9 8 e) ∙ turned (r .«cc_data_1») (h .bytes .data-1) in
+    let two : reversed (field xs (at + 17) 8) ≡ r .«cc_data_2» = ap reversed (field-on xs all at 17 8 e) ∙ turned (r .«cc_data_2») (h .bytes .data-2) in
     λ i. record { «cc_priority» = priority i; «field_number» = record { 0 = shown i }; «line_offset» = line i; «cc_data_1» = one i; «cc_data_2» = two i }
   where
     turned : (b : ℕ) → b < 256 → reversed (num (bits 8 (reversed b))) ≡ b

@@ -45,7 +45,7 @@ construct-num r h =
     num-front 2 p two (f * 4194304 + (l * 131072 + (a * 512 + (b * 2 + 1)))) (h .priority)
     (num-front 2 f three (l * 131072 + (a * 512 + (b * 2 + 1))) (omega (arith, h .field))
     (num-front 5 l four (a * 512 + (b * 2 + 1)) (h .line)
-    (num-front 8 a five (b * 2 + 1) (reversed-lt (r .«cc_data_1») (h .data-1)) (num-front 8 b (1 ∷ []) 1 (reversed-lt (r .«cc_data_2») (h .data-2)) refl))))
+    (num-front 8 a five (b * 2 + 1) (reversed-lt (r .«cc_data_1») (h .bytes .data-1)) (num-front 8 b (1 ∷ []) 1 (reversed-lt (r .«cc_data_2») (h .bytes .data-2)) refl))))
     ∙ parts-sum p f l a b
 
 -- ---- a pen and one construct more

@@ -41,8 +41,7 @@ in-range at r bytes e =
       priority = omega (arith, numbers .0);
       field = numbers .1;
       line = omega (arith, numbers .2);
-      data-1 = bytes .data-1;
-      data-2 = bytes .data-2;
+      bytes = bytes;
     }
 
 -- the checks of the records accept exactly those in range that fit behind the ones before them

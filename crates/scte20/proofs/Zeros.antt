@@ -129,7 +129,7 @@ legal-widest =
       few = omega arith;
       each = (
         record {
-          ranged = record { priority = omega arith; field = omega arith; line = omega arith; data-1 = omega arith; data-2 = omega arith };
+          ranged = record { priority = omega arith; field = omega arith; line = omega arith; bytes = record { data-1 = omega arith; data-2 = omega arith } };
           shown = omega arith;
         },
         tt,

@@ -22,13 +22,17 @@ pub record Content : Type 0 where
 abbrev pub fieldOf : Record → ℕ
 fieldOf r = r .«field_number» .0
 
+-- the two data bytes are bytes
+pub record ByteRecord (r : Record) : Type 0 where
+  pub data-1 : r .«cc_data_1» < 256
+  pub data-2 : r .«cc_data_2» < 256
+
 -- what the layout holds: priority 0 to 3, field_number up to 3, line_offset 0 to 31, two bytes
 pub record Ranged (r : Record) : Type 0 where
   pub priority : r .«cc_priority» < 4
   pub field : fieldOf r ≤ 3
   pub line : r .«line_offset» < 32
-  pub data-1 : r .«cc_data_1» < 256
-  pub data-2 : r .«cc_data_2» < 256
+  pub bytes : ByteRecord r
 
 -- field_number 0 is forbidden
 pub record LegalRecord (r : Record) : Type 0 where
@@ -91,11 +95,6 @@ held u = record { reserved = u .reserved; flag = u .«vbi_data_flag»; records =
 pub record LegalUnit (u : CaptionUnit) : Type 0 where
   pub few : u .n ≤ 31
   pub value : Legal (held u)
-
--- the two data bytes are bytes
-pub record ByteRecord (r : Record) : Type 0 where
-  pub data-1 : r .«cc_data_1» < 256
-  pub data-2 : r .«cc_data_2» < 256
 
 -- what every struct of the code satisfies by its type: data bytes are bytes, and the array has 31 places
 pub record Typed (u : CaptionUnit) : Type 0 where
