@@ -1,2 +1,4 @@
+pub mod Folds
 pub mod Words
+pub mod Judged
 pub mod Theorems

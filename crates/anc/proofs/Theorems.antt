@@ -5,6 +5,7 @@ use native.Mathlib.Omega.{arith}
 use mathlib.Core.Path.{_≡_, _∙_, sym}
 use mathlib.Core.List.{List}
 use Rattle.lists.specs.Part.{part}
+use Rattle.lists.specs.Sum.{sum}
 use Rattle.refusal.specs.declared.Verdict.{Verdict}
 use Rattle.anc.specs.Words.{parityOf, wordOf, wordsVerdict, nineBitSum, checksumOf, sumVerdict}
 use Rattle.anc.proofs.Words.{parity-low, byte-word}
@@ -32,3 +33,6 @@ sum-determined w place a b ea eb = ea ∙ sym eb
 
 pub checksum-determined : (words : List ℕ) (a b : ℕ) → a ≡ checksumOf words → b ≡ checksumOf words → a ≡ b
 checksum-determined words a b ea eb = ea ∙ sym eb
+
+pub total-determined : (words : List ℕ) (a b : ℕ) → a ≡ sum words % 65536 → b ≡ sum words % 65536 → a ≡ b
+total-determined words a b ea eb = ea ∙ sym eb

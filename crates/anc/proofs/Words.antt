@@ -1,9 +1,9 @@
 -- The words of bytes hold these bytes, and the checks accept them and no others; a CS word passes its own check.
 -- Assumes nothing.
-use Prim.Native.Nat.{ℕ, suc, _/_, _%_, _≤_, _<_}
+use Prim.Native.Nat.{ℕ, suc, _+_, _/_, _%_, _≤_, _<_}
 use native.Mathlib.Omega.{arith}
 use native.Mathlib.Nat.{mod-lt}
-use mathlib.Core.Path.{_≡_, ap₂, refl, sym}
+use mathlib.Core.Path.{_≡_, _∙_, ap, ap₂, refl, sym}
 use mathlib.Core.Bool.{not}
 use mathlib.Core.List.{List, [], _∷_, map}
 use lib.Dec.{eqb, ltb}
@@ -44,6 +44,16 @@ word-low b h = omega (arith, parity-low b)
 word-accepted : (place b : ℕ) → b < 256 → wordVerdict place (wordOf b) ≡ Accepted
 unfolding wordVerdict
 word-accepted place b h = simp (le-ltb 1023 (wordOf b) (word-low b h), byte-word b h, eq-eqb (wordOf b) (wordOf b) refl)
+
+bits-word : (w : ℕ) → w / 256 + parityOf (byteOf w) ≡ 2 → wordOf (byteOf w) ≡ w
+unfolding wordOf
+bits-word w e = omega (arith, parity-low (byteOf w))
+
+-- bits b9 and b8 that make 2 with the parity are a byte's word's
+pub bits-accepted : (place w : ℕ) → w / 256 + parityOf (byteOf w) ≡ 2 → wordVerdict place w ≡ Accepted
+bits-accepted place w e =
+    let byte : byteOf w < 256 = omega arith in
+    ap (wordVerdict place) (sym (bits-word w e)) ∙ word-accepted place (byteOf w) byte
 
 accepted-word : (place w : ℕ) → wordVerdict place w ≡ Accepted → wordOf (byteOf w) ≡ w
 unfolding wordVerdict

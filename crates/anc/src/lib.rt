@@ -2,8 +2,11 @@
 //
 // Normative references: document 01, "Subtitling packet"; SMPTE 291M.
 ghost use mathlib.Core.Path.{_≡_};
+ghost use Prim.Native.Nat.{_%_, _<_};
 ghost use Rattle.lists.specs.Part.{part};
-ghost use Rattle.anc.specs.Words.{wordOf, wordsVerdict, sumVerdict, checksumOf};
+ghost use Rattle.lists.specs.Sum.{sum as Sum·sum};
+ghost use Rattle.anc.specs.Words.{parityOf, wordOf, wordsVerdict, sumVerdict, checksumOf};
+ghost use Rattle.anc.specs.Inside.{Vouches};
 use refusal::Item;
 use refusal::Reason;
 use refusal::Verdict;
@@ -21,6 +24,47 @@ pub fn word(byte: u8) -> u16
 
 // 11 of the words from index from up to, not including, index to: the first that is no byte's word.
 pub fn judge_words(words: &[u16], from: usize, to: usize) -> Verdict
+    ensures { λ r. ⌜ r ≡ wordsVerdict from (part from to (now (words .entry))) ⌝ }
+{
+    if are_words(words, from, to) {
+        return Verdict::Accepted;
+    }
+    first_wrong(words, from, to)
+}
+
+// Whether each is a byte's word. It looks at all of them, since a loop that does not leave early takes several at a time; where it
+// answers no, none may be wrong.
+fn are_words(words: &[u16], from: usize, to: usize) -> bool
+    ensures { λ r. ⌜ Vouches from (part from to (now (words .entry))) r ⌝ }
+{
+    if words.len() < to {
+        return false;
+    }
+    let mut clean = true;
+    let mut i = from;
+    while i < to {
+        let w = words[i];
+        // b9 and b8 are 10 or 01, so that they and the parity make 2.
+        if w / 256 + parity(w % 256) != 2 {
+            clean = false;
+        }
+        i += 1;
+    }
+    clean
+}
+
+// The parity of a byte, in the width of a word.
+fn parity(byte: u16) -> u16
+    requires { ⌜ byte < 256 ⌝ }
+    ensures { λ r. ⌜ r ≡ parityOf byte ⌝ }
+{
+    let four = byte ^ byte / 16;
+    let two = four ^ four / 4;
+    let one = two ^ two / 2;
+    one % 2
+}
+
+fn first_wrong(words: &[u16], from: usize, to: usize) -> Verdict
     ensures { λ r. ⌜ r ≡ wordsVerdict from (part from to (now (words .entry))) ⌝ }
 {
     let mut i = from;
@@ -57,11 +101,19 @@ pub fn judge_sum(w: u16, place: usize) -> Verdict
 pub fn checksum(words: &[u16]) -> u16
     ensures { λ r. ⌜ r ≡ checksumOf (now (words .entry)) ⌝ }
 {
-    let mut sum = 0;
+    let sum = sum(words) % 512;
+    sum + 512 * (1 - sum / 256)
+}
+
+// The sum of words, modulo 65,536. 512 and 256 divide that, so that the sums of their low nine bits and of their bytes follow.
+pub fn sum(words: &[u16]) -> u16
+    ensures { λ r. ⌜ r ≡ Sum·sum (now (words .entry)) % 65536 ⌝ }
+{
+    let mut total: u16 = 0;
     let mut i = 0;
     while i < words.len() {
-        sum = (sum + words[i] % 512) % 512;
+        total = std::num::wrapping_add_u16(total, words[i]);
         i += 1;
     }
-    sum + 512 * (1 - sum / 256)
+    total
 }

@@ -5,6 +5,7 @@ ghost use mathlib.Core.List.{[], _∷_};
 ghost use lib.ListN.{getD};
 ghost use Rattle.bits.specs.Bits.{num, bitsOf, reversed};
 ghost use Rattle.bits.specs.Peek.{peekOf, firstSet, leadingOf};
+use blocks::BLOCK;
 
 // The number that w bits, at most 32, from bit `at` on write. Bits beyond the last byte are zero.
 pub fn peek(s: &[u8], at: usize, w: u32) -> u32
@@ -61,10 +62,14 @@ pub fn first_set(s: &[u8], from: usize) -> usize
 {
     let mut i = from;
     while i < s.len() {
-        if s[i] != 0 {
-            return i;
+        if blocks::is_all(s, i, 0) {
+            i += BLOCK;
+        } else {
+            if s[i] != 0 {
+                return i;
+            }
+            i += 1;
         }
-        i += 1;
     }
     i
 }

@@ -1,26 +1,21 @@
 -- The layout of units, one after the other.
 -- Assumes nothing.
 use Prim.Native.Nat.{ℕ, _+_, _*_, _<_}
-use native.Mathlib.Omega.{arith}
 use native.Mathlib.Numerals.{add-one}
 use mathlib.Core.Path.{_≡_, _∙_, ap, refl}
-use mathlib.Core.List.{List, [], _∷_, _++_}
+use mathlib.Core.List.{List, _++_}
 use lib.ListN.{length, take, getD}
 use lib.Seq.{take-suc}
+use Rattle.lists.proofs.Flat.{length-flat, flat-more}
 use Rattle.line21.specs.declared.AccessUnit.{AccessUnit}
 use Rattle.line21.specs.Value.{blank}
 use Rattle.line21.specs.Layout.{layoutUnit, layoutUnits}
 
 pub length-layoutUnits : (us : List AccessUnit) → length (layoutUnits us) ≡ 5 * length us
-length-layoutUnits [] = refl
-length-layoutUnits (u ∷ us) = omega (arith, length-layoutUnits us)
-
-pub layoutUnits-append : (us vs : List AccessUnit) → layoutUnits (us ++ vs) ≡ layoutUnits us ++ layoutUnits vs
-layoutUnits-append [] vs = refl
-layoutUnits-append (u ∷ us) vs = ap (λ (bytes : List ℕ). layoutUnit u ++ bytes) (layoutUnits-append us vs)
+length-layoutUnits = length-flat layoutUnit 5 (λ u. refl)
 
 -- one unit more is laid behind the others
 pub layoutUnits-more : (us : List AccessUnit) (i : ℕ) → i < length us → layoutUnits (take (i + 1) us) ≡ layoutUnits (take i us) ++ layoutUnit (getD us i blank)
 layoutUnits-more us i h =
-    ap layoutUnits (ap (λ (k : ℕ). take k us) (add-one i) ∙ take-suc us i blank h)
-    ∙ layoutUnits-append (take i us) (getD us i blank ∷ [])
+    ap (λ (vs : List AccessUnit). layoutUnits vs) (ap (λ (k : ℕ). take k us) (add-one i) ∙ take-suc us i blank h)
+    ∙ flat-more layoutUnit (take i us) (getD us i blank)

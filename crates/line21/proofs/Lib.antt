@@ -5,5 +5,6 @@ pub mod Types
 pub mod Numbers
 pub mod Fifteen
 pub mod Answers
+pub mod LentUnits
 pub mod Back
 pub mod Theorems

@@ -1,33 +1,40 @@
 -- The theorems of the Line 21 payload (document 01, demands 1 to 3). What they speak of is defined in specs/: a value and when it is legal in
--- Value; its bytes in Layout, without the reader; what reading answers in Reading; what writing answers and leaves in Writing.
+-- Value; its bytes in Layout, without the reader; what reading answers in Reading; what writing answers and leaves in Writing; its units as bytes
+-- in a lent array in Lent.
 --
--- The contracts of `read`, `read_head`, `read_unit` and `write` are the promises `Reads`, `ReadsHead`, `ReadsUnit` and `Writes`. `Reads s r` says that
--- r is the answer to the bytes s, and `Writes p out r exit` that writing p to an output that held `out` answers r and leaves `exit`. So each
--- theorem speaks of every call. Assumes nothing.
+-- The contracts of `read`, `read_head`, `read_unit`, `read_into` and `write` are the promises `Reads`, `ReadsHead`, `ReadsUnit`, `ReadsInto` and
+-- `Writes`. `Reads s r` says that r is the answer to the bytes s, and `Writes p out r exit` that writing p to an output that held `out` answers r
+-- and leaves `exit`. The contract of `write_from` is `Writes` too, of the struct that its arguments tell. So each theorem speaks of every call.
+-- Assumes nothing.
 use Prim.Native.Nat.{ℕ, _-_, _%_, _≤_, _<_}
 use native.Mathlib.Omega.{arith}
 use mathlib.Core.Path.{_≡_, _∙_, ap, ap₂, sym, subst}
 use mathlib.Core.Logic.{_↔_}
 use mathlib.Core.List.{List}
 use borrow.Author.Tests.{eq-eqb, ne-eqb, lt-ltb, le-ltb}
-use lib.ListN.{length, take, drop}
+use lib.ListN.{length, take, drop, getD}
 use lib.Seq.{take-append-seam}
 use Rattle.lists.specs.Room.{over}
 use Rattle.refusal.specs.declared.Refusal.{Refusal}
 use Rattle.refusal.specs.declared.Written.{Written}
+use Rattle.refusal.specs.declared.Verdict.{Verdict}
+use Rattle.refusal.specs.Answers.{lentOf}
 use Rattle.refusal.proofs.Outputs.{wrote-accepted, accepted-wrote, wrote-refusal, success-left, refusal-left, wrote-determined}
+use Rattle.line21.specs.declared.AccessUnit.{AccessUnit}
 use Rattle.line21.specs.declared.Payload.{Payload}
 use Rattle.line21.specs.declared.Answer.{Answer}
 use Rattle.line21.specs.declared.Head.{Head}
 use Rattle.line21.specs.declared.One.{One}
-use Rattle.line21.specs.Value.{Line21, Legal, LegalPayload, none, stored, held}
+use Rattle.line21.specs.Value.{Line21, Legal, LegalPayload, Typed, blank, none, stored, held}
 use Rattle.line21.specs.Layout.{layout}
-use Rattle.line21.specs.Reading.{lengthVerdict, valueOf, readOf, Reads, ReadsHead, ReadsUnit}
+use Rattle.line21.specs.Reading.{lengthVerdict, valueOf, readOf, headOf, Reads, ReadsHead, ReadsUnit}
 use Rattle.line21.specs.Writing.{valueVerdict, Writes}
-use Rattle.line21.proofs.Answers.{held-stored, refused-nothing, shown-one}
+use Rattle.line21.specs.Lent.{unitsBytes, unitsIn, payloadIn, ReadsInto}
+use Rattle.line21.proofs.Answers.{held-stored, accepted-verdict, refused-nothing, shown-one}
 use Rattle.line21.proofs.Back.{value-layout, length-layout, read-layout, read-legal, read-stored}
 use Rattle.line21.proofs.Numbers.{accepted-value, value-accepted, units-accepted, checked-legal, legal-writable}
 use Rattle.line21.proofs.Fifteen.{illegal-15}
+use Rattle.line21.proofs.LentUnits.{payload-held, refused-lent}
 
 -- number and place 0
 abbrev accepted : Refusal
@@ -86,7 +93,24 @@ refused-zero s r p h =
     ap (λ (a : Answer). a .payload) (p .answer)
     ∙ refused-nothing (lengthVerdict (length s)) (valueOf s) (λ e. h (ap (λ (a : Answer). a .refusal .number) (p .answer) ∙ e))
 
+-- `read_into` answers the head of what `read` answers. Its array holds all units of that answer, and in a refusal it is as it was.
+pub read-into-as-read : (s lent : List ℕ) (r : Head) (exit : List ℕ) → ReadsInto s lent r exit → (a : Answer) → Reads s a
+    → (r ≡ headOf a) × (a .refusal .number ≡ 0 → exit ≡ unitsBytes (a .payload .units)) × ((a .refusal .number ≡ 0 → ⊥) → exit ≡ lent)
+read-into-as-read s lent r exit into a read =
+    let same = read .answer in (
+      into .answer ∙ ap headOf (sym same),
+      λ e.
+          into .left
+          ∙ ap (λ (v : Verdict). lentOf v (unitsBytes (readOf s .payload .units)) lent) (accepted-verdict s (sym (ap (λ (x : Answer). x .refusal .number) same) ∙ e))
+          ∙ ap (λ (x : Answer). unitsBytes (x .payload .units)) (sym same),
+      λ h. into .left ∙ refused-lent (lengthVerdict (length s)) (valueOf s) _ lent (λ e. h (ap (λ (x : Answer). x .refusal .number) same ∙ e)),
+    )
+
 -- WRITING
+
+-- A struct whose units are lent as bytes is that struct.
+pub lent-held : (p : Payload) → Typed p → payloadIn (p .flags) (p .m) (unitsBytes (p .units)) ≡ p
+lent-held = payload-held
 
 -- Writing succeeds exactly when the value is legal and the result fits limit and buffer.
 pub writes-exactly : (p : Payload) (out : List ℕ) (r : Written) (exit : List ℕ) → Writes p out r exit
@@ -164,6 +188,16 @@ head-determined s a b ra rb = ra ∙ sym rb
 
 pub unit-determined : (s : List ℕ) (i : ℕ) (a b : One) → ReadsUnit s i a → ReadsUnit s i b → a ≡ b
 unit-determined s i a b ra rb = shown-one a b (ra ∙ sym rb)
+
+pub read-into-determined : (s lent : List ℕ) (a : Head) (exit : List ℕ) (b : Head) (end : List ℕ)
+    → ReadsInto s lent a exit → ReadsInto s lent b end → (a ≡ b) × (exit ≡ end)
+read-into-determined s lent a exit b end ra rb = (ra .answer ∙ sym (rb .answer), ra .left ∙ sym (rb .left))
+
+pub unit-in-determined : (units : List ℕ) (i : ℕ) (a b : AccessUnit) → a ≡ getD (unitsIn units) i blank → b ≡ getD (unitsIn units) i blank → a ≡ b
+unit-in-determined units i a b ra rb = ra ∙ sym rb
+
+pub bytes-of-determined : (p : Payload) (a b : List ℕ) → a ≡ unitsBytes (p .units) → b ≡ unitsBytes (p .units) → a ≡ b
+bytes-of-determined p a b ra rb = ra ∙ sym rb
 
 pub write-determined : (p : Payload) (out : List ℕ) (a : Written) (exit : List ℕ) (b : Written) (end : List ℕ)
     → Writes p out a exit → Writes p out b end → (a ≡ b) × (exit ≡ end)

@@ -1,6 +1,7 @@
 -- The bytes of a Line 21 payload, from its value alone. Document 01, "Line 21 payload"; document 004, 3.2.1, Tables 1 and 2.
 use Prim.Native.Nat.{ℕ, _+_, _*_}
-use mathlib.Core.List.{List, [], _∷_, _++_}
+use mathlib.Core.List.{List, [], _∷_}
+use Rattle.lists.specs.Flat.{flat}
 use Rattle.line21.specs.declared.AccessUnit.{AccessUnit}
 use Rattle.line21.specs.Value.{Line21}
 
@@ -11,8 +12,7 @@ layoutUnit u =
     ∷ u .«field1_data1» ∷ u .«field1_data2» ∷ u .«field2_data1» ∷ u .«field2_data2» ∷ []
 
 abbrev pub layoutUnits : List AccessUnit → List ℕ
-layoutUnits [] = []
-layoutUnits (u ∷ us) = layoutUnit u ++ layoutUnits us
+layoutUnits us = flat layoutUnit us
 
 -- one flags byte, then the units
 abbrev pub layout : Line21 → List ℕ

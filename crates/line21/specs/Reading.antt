@@ -1,11 +1,12 @@
 -- What reading a Line 21 payload answers, for every list of bytes. Document 01, "Which refusal comes first": 2, 1, 13.
-use Prim.Native.Nat.{ℕ, zero, suc, _-_, _/_, _%_}
+use Prim.Native.Nat.{ℕ, _-_, _/_, _%_}
 use mathlib.Core.Path.{_≡_}
 use mathlib.Core.Bool.{not}
 use mathlib.Core.List.{List, [], _∷_}
 use lib.Dec.{eqb, ltb}
 use lib.ListN.{length, getD, take, drop}
 use Rattle.lists.specs.Bytes.{Bytes}
+use Rattle.lists.specs.Flat.{taken}
 use Rattle.refusal.specs.declared.Verdict.{Verdict}
 use Rattle.refusal.specs.declared.Verdict.the-variants.{Accepted, Refused}
 use Rattle.refusal.specs.declared.Refusal.{Refusal}
@@ -49,8 +50,7 @@ readUnit s =
 
 -- the first k units
 abbrev pub readUnits : ℕ → List ℕ → List AccessUnit
-readUnits zero s = []
-readUnits (suc k) s = readUnit s ∷ readUnits k (drop 5 s)
+readUnits k s = taken readUnit 5 k s
 
 abbrev pub valueOf : List ℕ → Line21
 valueOf s = record { flags = getD s 0 0; units = readUnits (unitCount (length s)) (drop 1 s) }

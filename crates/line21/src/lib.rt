@@ -1,20 +1,30 @@
 // The ISMA Line 21 RTP payload: what follows the RTP header.
 //
 // Normative references: document 01, "Line 21 payload"; document 004, 3.2.1, Tables 1 and 2.
+mod lent;
 mod reading;
 mod writing;
 
+pub use lent::bytes_of;
+pub use lent::unit_in;
 pub use reading::read;
 pub use reading::read_head;
+pub use reading::read_into;
 pub use reading::read_unit;
 use refusal::Refusal;
 pub use writing::write;
+pub use writing::write_from;
 
 pub const MAX_UNITS: usize = 291;
 
 pub const UNIT_BYTES: usize = 5;
 
 pub const MAX_BYTES: usize = 1456;
+
+// A unit in a lent array: seven bytes, one for each number of an `AccessUnit` and in its order.
+pub const LENT_UNIT: usize = 7;
+
+pub const LENT_UNITS: usize = 2037;
 
 // One access unit (004, Table 2). A field's data bytes are carried whatever its flag says.
 pub struct AccessUnit {
@@ -40,7 +50,8 @@ pub struct Answer {
     pub payload: Payload,
 }
 
-// What `read_head` answers: the flags byte and how many units follow it, or a refusal and zeros.
+// What `read_head` and `read_into` answer: the flags byte and how many units follow it, or a refusal and zeros.
+#[repr(C)]
 pub struct Head {
     pub refusal: Refusal,
     pub flags: u8,

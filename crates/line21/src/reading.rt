@@ -2,17 +2,22 @@
 ghost use mathlib.Core.Path.{_≡_};
 ghost use Prim.Native.Nat.{_+_, _≤_};
 ghost use lib.ListN.{length, drop};
+ghost use Rattle.lists.specs.Room.{over};
 ghost use Rattle.refusal.specs.declared.Verdict.the-variants.{Accepted};
 ghost use Rattle.line21.specs.Value.{blank as Value·blank, none, stored};
 ghost use Rattle.line21.specs.Reading.{lengthVerdict, readUnit, valueOf, Reads, ReadsHead, ReadsUnit};
+ghost use Rattle.line21.specs.Lent.{unitsBytes, ReadsInto};
 use crate::AccessUnit;
 use crate::Answer;
 use crate::Head;
+use crate::LENT_UNIT;
+use crate::LENT_UNITS;
 use crate::MAX_BYTES;
 use crate::MAX_UNITS;
 use crate::One;
 use crate::Payload;
 use crate::UNIT_BYTES;
+use crate::lent;
 use refusal::Item;
 use refusal::Misfit;
 use refusal::Reason;
@@ -54,6 +59,19 @@ pub fn read_head(s: &[u8]) -> Head
             m: 0,
         },
     }
+}
+
+// Reads a whole payload, its units into a lent array, which a refusal leaves as it is.
+pub fn read_into(s: &[u8], units: &mut [u8; LENT_UNITS]) -> Head
+    ensures { λ r. ⌜ ReadsInto (now (s .entry)) (now (units .entry)) r (now (units .exit)) ⌝ }
+{
+    let head = read_head(s);
+    if head.refusal.number != 0 {
+        return head;
+    }
+    collect_into(s, units);
+    lent::clear_from(LENT_UNIT * head.m, units);
+    head
 }
 
 // Reads the access unit of index i, counted from 0, with no array of them.
@@ -104,6 +122,20 @@ fn collect(s: &[u8]) -> Payload
     }
 }
 
+// The units of a payload whose length was judged, at the front of a lent array.
+fn collect_into(s: &[u8], units: &mut [u8])
+    requires { ⌜ lengthVerdict (length (now s)) ≡ Accepted ⌝ }
+    requires { ⌜ length (now units) ≡ 2037 ⌝ }
+    ensures { λ _. ⌜ now (units .exit) ≡ over (unitsBytes (valueOf (now (s .entry)) .units)) (now (units .entry)) ⌝ }
+{
+    let m = (s.len() - 1) / UNIT_BYTES;
+    let mut i = 0;
+    while i < m {
+        lent::put_flat(unit_at(s, 1 + UNIT_BYTES * i), LENT_UNIT * i, units);
+        i += 1;
+    }
+}
+
 // The unit that the five bytes from index at hold.
 fn unit_at(s: &[u8], at: usize) -> AccessUnit
     requires { ⌜ at + 5 ≤ length (now s) ⌝ }
@@ -121,7 +153,7 @@ fn unit_at(s: &[u8], at: usize) -> AccessUnit
     }
 }
 
-fn blank() -> AccessUnit
+pub(crate) fn blank() -> AccessUnit
     ensures { λ r. ⌜ r ≡ Value·blank ⌝ }
 {
     AccessUnit {

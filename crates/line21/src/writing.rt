@@ -2,15 +2,19 @@
 ghost use mathlib.Core.Path.{_≡_};
 ghost use Prim.Native.Nat.{_≤_};
 ghost use lib.ListN.{length};
+ghost use Rattle.lists.specs.Bytes.{Bytes};
 ghost use Rattle.lists.specs.Room.{over};
 ghost use Rattle.refusal.specs.declared.Verdict.the-variants.{Accepted};
 ghost use Rattle.line21.specs.Value.{held};
 ghost use Rattle.line21.specs.Layout.{layout, layoutUnit};
 ghost use Rattle.line21.specs.Writing.{unitVerdict, valueVerdict, Writes};
+ghost use Rattle.line21.specs.Lent.{payloadIn};
 use crate::AccessUnit;
+use crate::LENT_UNITS;
 use crate::MAX_UNITS;
 use crate::Payload;
 use crate::UNIT_BYTES;
+use crate::lent;
 use refusal::Excess;
 use refusal::Item;
 use refusal::Reason;
@@ -21,35 +25,45 @@ use refusal::Written;
 pub fn write(p: Payload, out: &mut [u8]) -> Written
     ensures { λ r. ⌜ Writes p (now (out .entry)) r (now (out .exit)) ⌝ }
 {
-    let refusal = refusal::told(judge_value(p, out.len()));
+    let units = lent::bytes_of(p);
+    write_from(p.flags, p.m, &units, out)
+}
+
+// Writes the payload of a flags byte and the first m of the units in a lent array.
+pub fn write_from(flags: u8, m: usize, units: &[u8; LENT_UNITS], out: &mut [u8]) -> Written
+    ensures { λ r. ⌜ Writes (payloadIn flags m (now (units .entry))) (now (out .entry)) r (now (out .exit)) ⌝ }
+{
+    let refusal = refusal::told(judge_value(m, units, out.len()));
     if refusal.number != 0 {
         return Written { refusal, len: 0 };
     }
-    put(p, out);
+    put(flags, m, units, out);
     Written {
         refusal,
-        len: 1 + UNIT_BYTES * p.m,
+        len: 1 + UNIT_BYTES * m,
     }
 }
 
 // 01, "Which refusal comes first": 15 of the whole value, 15 of each unit in order, then 1, which
-// 291 units cannot meet, then 14.
-fn judge_value(p: Payload, room: usize) -> Verdict
-    ensures { λ r. ⌜ r ≡ valueVerdict p room ⌝ }
+// 291 units cannot meet, then 14. No flags byte is refused.
+// A slice tells that its elements are bytes, which `Writes` asks of the lent array.
+fn judge_value(m: usize, units: &[u8], room: usize) -> Verdict
+    requires { ⌜ length (now units) ≡ 2037 ⌝ }
+    ensures { λ r. ⌜ r ≡ valueVerdict (payloadIn 0 m (now (units .entry))) room ⌝ }
+    ensures { λ _. ⌜ Bytes (now (units .entry)) ⌝ }
 {
-    if MAX_UNITS < p.m {
+    if MAX_UNITS < m {
         return Verdict::Refused(Reason::Unholdable(Excess::Count), Item::Whole);
     }
     let mut i = 0;
-    while i < p.m {
-        let unit = p.units[i];
-        let verdict = judge_unit(unit);
+    while i < m {
+        let verdict = judge_unit(lent::unit_from(units, i));
         if let Verdict::Refused(_, _) = verdict {
             return verdict;
         }
         i += 1;
     }
-    if room < 1 + UNIT_BYTES * p.m {
+    if room < 1 + UNIT_BYTES * m {
         return Verdict::Refused(Reason::NoRoom, Item::Whole);
     }
     Verdict::Accepted
@@ -71,15 +85,15 @@ fn judge_unit(u: AccessUnit) -> Verdict
 }
 
 // Stores the layout of a value that was judged.
-fn put(p: Payload, out: &mut [u8])
-    requires { ⌜ valueVerdict p (length (now out)) ≡ Accepted ⌝ }
-    ensures { λ _. ⌜ now (out .exit) ≡ over (layout (held p)) (now (out .entry)) ⌝ }
+fn put(flags: u8, m: usize, units: &[u8], out: &mut [u8])
+    requires { ⌜ length (now units) ≡ 2037 ⌝ }
+    requires { ⌜ valueVerdict (payloadIn flags m (now units)) (length (now out)) ≡ Accepted ⌝ }
+    ensures { λ _. ⌜ now (out .exit) ≡ over (layout (held (payloadIn flags m (now (units .entry))))) (now (out .entry)) ⌝ }
 {
-    out[0] = p.flags;
+    out[0] = flags;
     let mut i = 0;
-    while i < p.m {
-        let unit = p.units[i];
-        put_unit(unit, &mut out[1 + UNIT_BYTES * i..]);
+    while i < m {
+        put_unit(lent::unit_from(units, i), &mut out[1 + UNIT_BYTES * i..]);
         i += 1;
     }
 }

@@ -3,4 +3,6 @@ pub mod Lay
 pub mod Each
 pub mod Sum
 pub mod Part
+pub mod Flat
 pub mod Below
+pub mod Tests

@@ -3,3 +3,4 @@ pub mod Each
 pub mod Bytes
 pub mod Sum
 pub mod Part
+pub mod Flat

@@ -2,6 +2,7 @@ pub mod CleanBody
 pub mod Areas
 pub mod Unique
 pub mod Placing
+pub mod Lending
 pub mod Laying
 pub mod Wholes
 pub mod Spots

@@ -1,34 +1,24 @@
--- What the code needs to know of the caption unit that was found: where it lies, and what the area's answer is by the content's.
+-- What the code needs to know of the caption unit that was found: where it lies, and that what its content refuses is not far behind it.
 -- Assumes nothing.
 use Prim.Native.Nat.{ℕ, _+_, _≤_}
 use native.Mathlib.Omega.{arith}
-use mathlib.Core.Path.{_≡_, _∙_, ap, sym, subst, refl}
-use mathlib.Core.Bool.{false}
-use mathlib.Core.List.{List, [], _∷_}
+use mathlib.Core.Path.{_≡_, _∙_, ap, sym, subst}
+use mathlib.Core.List.{List}
 use lib.ListN.{length}
 use Rattle.lists.specs.Part.{part}
 use Rattle.lists.proofs.Part.{length-part}
 use Rattle.refusal.specs.declared.Reason.{Reason}
 use Rattle.refusal.specs.declared.Item.{Item}
-use Rattle.refusal.specs.declared.Verdict.{Verdict}
-use Rattle.refusal.specs.declared.Verdict.the-variants.{Accepted, Refused}
-use Rattle.refusal.specs.Numbers.{refusalOf}
+use Rattle.refusal.specs.declared.Verdict.the-variants.{Refused}
 use Rattle.kind.specs.declared.Kind.the-variants.{Scte20}
 use Rattle.kind.specs.Ours.{ours}
-use Rattle.units.specs.declared.Found.{Found}
 use Rattle.units.specs.declared.Found.the-variants as found
 use Rattle.units.proofs.Splits.{length-around}
 use Rattle.units.proofs.Spans.{Alone, found-at}
-use Rattle.scte20.specs.Value.{Content, none, stored}
-use Rattle.scte20.specs.Reading.{contentVerdict, valueOf}
+use Rattle.scte20.specs.Reading.{contentVerdict}
 use Rattle.scte20.proofs.Numbered.{content-placed}
-use Rattle.picture.specs.Reading.{placedItem, placed, captionsIn, foundVerdict, foundContent, answerOf, readOf}
+use Rattle.picture.specs.Reading.{captionsIn}
 use Rattle.picture.specs.Inside.{Near}
-
--- an answer without a caption unit
-pub nothing-answer : (verdict : Verdict) → record { refusal = refusalOf verdict; present = false; unit = stored none } ≡ answerOf verdict []
-nothing-answer Accepted = refl
-nothing-answer (Refused reason item) = refl
 
 module _ (s : List ℕ) (unit end : ℕ) (e : captionsIn s ≡ found.At unit end) where
   pub unit-within : (unit + 4 ≤ end) × (end ≤ length s) × (length s ≤ 16384)
@@ -45,20 +35,3 @@ module _ (s : List ℕ) (unit end : ℕ) (e : captionsIn s ≡ found.At unit end
       let bit = content-placed (part (unit + 4) end s) body-short reason item refused in
       let within : bit .bit ≤ 1048576 = omega (arith, bit .within, body-short) in
       subst Near (sym (bit .here)) within
-
-  -- the area's answer
-  pub body-refused : (reason : Reason) (item : Item) → contentVerdict (part (unit + 4) end s) ≡ Refused reason item
-      → answerOf (Refused reason (placedItem unit item)) [] ≡ readOf s
-  body-refused reason item refused =
-      ap (λ (v : Verdict). answerOf (placed unit v) (valueOf (part (unit + 4) end s) ∷ [])) (sym refused)
-      ∙ ap (λ (f : Found). answerOf (foundVerdict f s) (foundContent f s)) (sym e)
-
-  pub body-accepted : contentVerdict (part (unit + 4) end s) ≡ Accepted → answerOf Accepted (valueOf (part (unit + 4) end s) ∷ []) ≡ readOf s
-  body-accepted ok =
-      ap (λ (v : Verdict). answerOf (placed unit v) (valueOf (part (unit + 4) end s) ∷ [])) (sym ok)
-      ∙ ap (λ (f : Found). answerOf (foundVerdict f s) (foundContent f s)) (sym e)
-
--- where no unit was found alone, nothing is answered but the verdict
-pub other-answer : (s : List ℕ) (f : Found) → captionsIn s ≡ f → foundContent f s ≡ [] → answerOf (foundVerdict f s) [] ≡ readOf s
-other-answer s f e none =
-    ap (λ (cs : List Content). answerOf (foundVerdict f s) cs) (sym none) ∙ ap (λ (f : Found). answerOf (foundVerdict f s) (foundContent f s)) (sym e)

@@ -1,14 +1,16 @@
 -- The theorems of the picture area (document 01, demands 1 to 3). What they speak of is defined in specs/: an area's value, when it is legal, its
--- bytes, and the value with another caption unit in Value, without the reader; what reading answers in Reading; what writing and replacing answer
--- and leave in Writing. Which units are ours stands in crate `kind`; units and start codes in `units`; the caption content in `scte20`, whose page has
+-- bytes, and the value with another caption unit in Value, without the reader; what reading answers in Reading, and in a lent array in Lent; what
+-- writing and replacing answer and leave in Writing. Which units are ours stands in crate `kind`; units and start codes in `units`; the caption content in `scte20`, whose page has
 -- the sizes and the zero run.
 --
 -- The contracts of `read`, `write` and `replace` are the promises `Reads`, `Writes` and `Replaces`. `Reads s r` says that r is the answer to the bytes s,
 -- `Writes u out r exit` that writing the unit u to an output that held `out` answers r and leaves `exit`, and `Replaces s u out r exit` the same of
--- putting u into the area s. So each theorem speaks of every call. Assumes nothing.
+-- putting u into the area s. So each theorem speaks of every call. `ReadsInto`, the promise of `read_into`, gives what `read` answers
+-- (`read-into-as-read`), and `write_from` and `replace_from` promise `Writes` and `Replaces` of the value that they are lent, `unitIn` of crate `scte20`:
+-- the theorems speak of them too. Assumes nothing.
 use Prim.Native.Nat.{ℕ, _+_, _≤_, _<_}
 use native.Mathlib.Omega.{arith}
-use mathlib.Core.Path.{_≡_, _∙_, ap, sym, subst, refl}
+use mathlib.Core.Path.{_≡_, _∙_, ap, ap₂, sym, subst, refl}
 use mathlib.Core.Logic.{_↔_}
 use mathlib.Core.Bool.{true, false}
 use mathlib.Core.List.{List, [], _∷_, _++_, append-nil}
@@ -23,6 +25,7 @@ use Rattle.refusal.specs.declared.Verdict.{Verdict}
 use Rattle.refusal.specs.declared.Verdict.the-variants.{Accepted, Refused}
 use Rattle.refusal.specs.declared.Written.{Written}
 use Rattle.refusal.specs.Numbers.{numberOf, refusalOf}
+use Rattle.refusal.specs.Answers.{lentOf}
 use Rattle.refusal.proofs.Acceptance.{told-accepted}
 use Rattle.refusal.proofs.Checks.{andThen-accepted, accepted-andThen, andThen-refused}
 use Rattle.refusal.proofs.Outputs.{wrote-accepted, accepted-wrote, wrote-refusal, success-left, refusal-left, wrote-determined}
@@ -40,12 +43,15 @@ use Rattle.scte20.specs.Value.{Content, LegalUnit, none, stored, held}
 use Rattle.scte20.specs.Layout as content
 use Rattle.scte20.specs.Reading.{contentVerdict}
 use Rattle.scte20.specs.Writing.{wholeVerdict, writeVerdict}
+use Rattle.scte20.specs.Lent.{recordsBytes}
 use Rattle.scte20.proofs.Numbered.{AtBit, content-placed}
 use Rattle.scte20.proofs.Writable.{ForValue, accepted-unit, unit-accepted, write-accepted, accepted-write, z-within, whole-15, value-refused, long-refused, no-room-refused}
 use Rattle.scte20.proofs.Theorems.{stored-held, stored-legal}
 use Rattle.picture.specs.declared.Answer.{Answer}
+use Rattle.picture.specs.declared.Head.{Head}
 use Rattle.picture.specs.Value.{Area, bare, captioned, bodies, layout, Foreign, Legal, replaced, foreignOf}
-use Rattle.picture.specs.Reading.{placedItem, placed, captionsIn, foundVerdict, areaVerdict, foundContent, answerOf, shown, Reads}
+use Rattle.picture.specs.Reading.{placedItem, placed, captionsIn, foundVerdict, areaVerdict, foundContent, answerOf, readOf, shown, Reads}
+use Rattle.picture.specs.Lent.{headOf, ReadsInto}
 use Rattle.picture.specs.Writing.{unitBytes, replacedOf, replaceVerdict, Writes, Replaces}
 use Rattle.picture.proofs.Areas.{foreign-clean, foreign-other, accepted-back, legal-verdict, legal-read, caption-short}
 use Rattle.picture.proofs.Unique.{bodies-clean, same-layout}
@@ -155,6 +161,22 @@ refused-content before body after r p fb clean mine fa short reason item e =
       bit .least,
       bit .most,
     )
+
+-- READING INTO A LENT ARRAY
+
+-- What `read_into` answers is what `read` does, and the array then holds all records of that answer, zeros beyond n and where no caption unit stands; in a
+-- refusal it is as it was.
+pub read-into-as-read : (s lent : List ℕ) (r : Head) (exit : List ℕ) → ReadsInto s lent r exit → (a : Answer) → Reads s a
+    → (r ≡ headOf a) × (a .refusal .number ≡ 0 → exit ≡ recordsBytes (a .unit .records)) × ((a .refusal .number ≡ 0 → ⊥) → exit ≡ lent)
+read-into-as-read s lent r exit p a read = (
+  p .answer ∙ ap headOf (sym (read .answer)),
+  λ e. p .left ∙ ap₂ (λ (v : Verdict) (x : Answer). lentOf v (recordsBytes (x .unit .records)) lent) (accepts s a read e) (sym (read .answer)),
+  λ h. p .left ∙ kept (areaVerdict s) (λ e. h (ap (λ (x : Refusal). x .number) (told s a read ∙ ap refusalOf e))),
+)
+  where
+    kept : (verdict : Verdict) → (verdict ≡ Accepted → ⊥) → lentOf verdict (recordsBytes (readOf s .unit .records)) lent ≡ lent
+    kept Accepted g = absurd (g refl)
+    kept (Refused reason item) g = refl
 
 -- WRITING A UNIT
 
@@ -355,6 +377,10 @@ replace-untouched s u out r exit p h = refusal-left _ _ _ _ _ (p .wrote) h
 -- For each function, two answers that keep its promise are equal, lent memory too.
 pub read-determined : (s : List ℕ) (a b : Answer) → Reads s a → Reads s b → a ≡ b
 read-determined s a b p q = p .answer ∙ sym (q .answer)
+
+pub read-into-determined : (s lent : List ℕ) (a : Head) (exit : List ℕ) (b : Head) (end : List ℕ)
+    → ReadsInto s lent a exit → ReadsInto s lent b end → (a ≡ b) × (exit ≡ end)
+read-into-determined s lent a exit b end p q = (p .answer ∙ sym (q .answer), p .left ∙ sym (q .left))
 
 pub write-determined : (u : CaptionUnit) (out : List ℕ) (a : Written) (exit : List ℕ) (b : Written) (end : List ℕ)
     → Writes u out a exit → Writes u out b end → (a ≡ b) × (exit ≡ end)

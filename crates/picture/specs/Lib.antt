@@ -1,4 +1,5 @@
 pub mod Value
 pub mod Reading
+pub mod Lent
 pub mod Writing
 pub mod Inside

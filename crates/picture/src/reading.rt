@@ -3,13 +3,17 @@ ghost use mathlib.Core.Path.{_≡_};
 ghost use Prim.Native.Nat.{_≤_};
 ghost use mathlib.Core.List.{[]};
 ghost use Rattle.units.specs.declared.Found.the-variants.{At};
-ghost use Rattle.picture.specs.Reading.{answerOf, captionsIn, placedItem, readOf, Reads};
+ghost use Rattle.picture.specs.Reading.{answerOf, captionsIn, placedItem, Reads};
+ghost use Rattle.picture.specs.Lent.{headOf, ReadsInto};
 ghost use Rattle.picture.specs.Inside.{Near};
 use crate::Answer;
+use crate::Head;
 use kind::Kind;
 use refusal::Item;
 use refusal::Reason;
 use refusal::Verdict;
+use scte20::LENT_RECORDS;
+use scte20::Numbers;
 use units::Found;
 use units::START_BYTES;
 
@@ -17,38 +21,57 @@ use units::START_BYTES;
 pub fn read(s: &[u8]) -> Answer
     ensures { λ r. ⌜ Reads (now (s .entry)) r ⌝ }
 {
-    answer_of(s, units::scan(s, Kind::Scte20))
+    let mut records = [0; LENT_RECORDS];
+    let head = read_into(s, &mut records);
+    let refusal = head.refusal;
+    let numbers = head.numbers;
+    let unit = scte20::unit_of(numbers, &records);
+    Answer {
+        refusal,
+        present: head.present,
+        unit,
+    }
+}
+
+// The same with the records in a lent array, which a refusal leaves as it is. Without a caption unit it is cleared.
+pub fn read_into(s: &[u8], records: &mut [u8; LENT_RECORDS]) -> Head
+    ensures { λ r. ⌜ ReadsInto (now (s .entry)) (now (records .entry)) r (now (records .exit)) ⌝ }
+{
+    head_of(s, units::scan(s, Kind::Scte20), records)
 }
 
 // The answer, from what the search for caption units found.
-pub(crate) fn answer_of(s: &[u8], found: Found) -> Answer
+pub(crate) fn head_of(s: &[u8], found: Found, records: &mut [u8; LENT_RECORDS]) -> Head
     requires { ⌜ captionsIn (now s) ≡ found ⌝ }
-    ensures { λ r. ⌜ r ≡ readOf (now (s .entry)) ⌝ }
+    ensures { λ r. ⌜ ReadsInto (now (s .entry)) (now (records .entry)) r (now (records .exit)) ⌝ }
 {
     match found {
         Found::Refused(reason, item) => nothing(Verdict::Refused(reason, item)),
-        Found::Nowhere => nothing(Verdict::Accepted),
-        Found::At { unit, end } => read_unit(s, unit, end),
+        Found::Nowhere => {
+            *records = [0; LENT_RECORDS];
+            nothing(Verdict::Accepted)
+        }
+        Found::At { unit, end } => read_unit(s, unit, end, records),
         Found::Many(_) => nothing(Verdict::Refused(Reason::SecondUnit, Item::Whole)),
     }
 }
 
 // Reads the only caption unit, which stands from byte `unit` up to `end`.
-fn read_unit(s: &[u8], unit: usize, end: usize) -> Answer
+fn read_unit(s: &[u8], unit: usize, end: usize, records: &mut [u8; LENT_RECORDS]) -> Head
     requires { ⌜ captionsIn (now s) ≡ At unit end ⌝ }
-    ensures { λ r. ⌜ r ≡ readOf (now (s .entry)) ⌝ }
+    ensures { λ r. ⌜ ReadsInto (now (s .entry)) (now (records .entry)) r (now (records .exit)) ⌝ }
 {
     let body = unit + START_BYTES;
-    let content = scte20::read(&s[body..end]);
+    let content = scte20::read_into(&s[body..end], records);
     let verdict = content.verdict;
     if let Verdict::Refused(reason, item) = verdict {
         return nothing(Verdict::Refused(reason, placed(unit, item)));
     }
-    let caption = content.unit;
-    Answer {
+    let numbers = content.numbers;
+    Head {
         refusal: refusal::told(verdict),
         present: true,
-        unit: caption,
+        numbers,
     }
 }
 
@@ -71,13 +94,17 @@ fn placed(unit: usize, item: Item) -> Item
 }
 
 // An answer with no caption unit in it.
-fn nothing(verdict: Verdict) -> Answer
-    ensures { λ r. ⌜ r ≡ answerOf verdict [] ⌝ }
+fn nothing(verdict: Verdict) -> Head
+    ensures { λ r. ⌜ r ≡ headOf (answerOf verdict []) ⌝ }
 {
-    let unit = scte20::nothing();
-    Answer {
+    Head {
         refusal: refusal::told(verdict),
         present: false,
-        unit,
+        numbers: Numbers {
+            reserved: 0,
+            vbi_data_flag: 0,
+            n: 0,
+            z: 0,
+        },
     }
 }

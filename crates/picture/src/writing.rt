@@ -3,6 +3,7 @@ ghost use mathlib.Core.Path.{_≡_};
 ghost use Prim.Native.Nat.{_≤_};
 ghost use lib.ListN.{length};
 ghost use Rattle.lists.specs.Room.{over};
+ghost use Rattle.scte20.specs.Lent.{unitIn};
 ghost use Rattle.picture.specs.Writing.{Writes, Replaces};
 ghost use Rattle.picture.specs.Inside.{spotOf, Exchanges};
 use crate::Spot;
@@ -10,6 +11,8 @@ use crate::reading;
 use kind::Kind;
 use refusal::Written;
 use scte20::CaptionUnit;
+use scte20::LENT_RECORDS;
+use scte20::Numbers;
 use units::Found;
 use units::START_BYTES;
 
@@ -17,7 +20,16 @@ use units::START_BYTES;
 pub fn write(unit: CaptionUnit, out: &mut [u8]) -> Written
     ensures { λ r. ⌜ Writes unit (now (out .entry)) r (now (out .exit)) ⌝ }
 {
-    let laid = scte20::write(unit, START_BYTES, 0, out);
+    let numbers = scte20::numbers_of(unit);
+    let records = scte20::bytes_of(unit);
+    write_from(numbers, &records, out)
+}
+
+// The same of the value that numbers and a lent array tell.
+pub fn write_from(v: Numbers, records: &[u8; LENT_RECORDS], out: &mut [u8]) -> Written
+    ensures { λ r. ⌜ Writes (unitIn v (now (records .entry))) (now (out .entry)) r (now (out .exit)) ⌝ }
+{
+    let laid = scte20_writer::write_from(v, records, START_BYTES, 0, out);
     let verdict = laid.verdict;
     let refusal = refusal::told(verdict);
     if refusal.number != 0 {
@@ -34,14 +46,25 @@ pub fn write(unit: CaptionUnit, out: &mut [u8]) -> Written
 pub fn replace(s: &[u8], unit: CaptionUnit, out: &mut [u8]) -> Written
     ensures { λ r. ⌜ Replaces (now (s .entry)) unit (now (out .entry)) r (now (out .exit)) ⌝ }
 {
+    let numbers = scte20::numbers_of(unit);
+    let records = scte20::bytes_of(unit);
+    replace_from(s, numbers, &records, out)
+}
+
+// The same of the value that numbers and a lent array tell.
+pub fn replace_from(s: &[u8], v: Numbers, records: &[u8; LENT_RECORDS], out: &mut [u8]) -> Written
+    ensures { λ r. ⌜ Replaces (now (s .entry)) (unitIn v (now (records .entry))) (now (out .entry)) r (now (out .exit)) ⌝ }
+{
     let found = units::scan(s, Kind::Scte20);
-    let old = reading::answer_of(s, found);
+    let mut kept = [0; LENT_RECORDS];
+    let old = reading::head_of(s, found, &mut kept);
     let refusal = old.refusal;
     if refusal.number != 0 {
+        scte20::known(records);
         return Written { refusal, len: 0 };
     }
     let spot = spot_of(found, s.len());
-    exchange(s, spot.start, spot.end, unit, out)
+    exchange(s, spot.start, spot.end, v, records, out)
 }
 
 // Where the new unit goes: in the place of the only one that was found, else behind the last byte.
@@ -61,14 +84,21 @@ fn spot_of(found: Found, len: usize) -> Spot
 }
 
 // Writes the area with the unit in place of the bytes from `start` up to `end`.
-fn exchange(s: &[u8], start: usize, end: usize, unit: CaptionUnit, out: &mut [u8]) -> Written
+fn exchange(
+    s: &[u8],
+    start: usize,
+    end: usize,
+    v: Numbers,
+    records: &[u8; LENT_RECORDS],
+    out: &mut [u8],
+) -> Written
     requires { ⌜ start ≤ end ⌝ }
     requires { ⌜ end ≤ length (now s) ⌝ }
     requires { ⌜ length (now s) ≤ 16384 ⌝ }
-    ensures { λ r. ⌜ Exchanges (now (s .entry)) start end unit (now (out .entry)) r (now (out .exit)) ⌝ }
+    ensures { λ r. ⌜ Exchanges (now (s .entry)) start end (unitIn v (now (records .entry))) (now (out .entry)) r (now (out .exit)) ⌝ }
 {
     let rest = s.len() - end;
-    let laid = scte20::write(unit, start + START_BYTES, rest, out);
+    let laid = scte20_writer::write_from(v, records, start + START_BYTES, rest, out);
     let verdict = laid.verdict;
     let refusal = refusal::told(verdict);
     if refusal.number != 0 {

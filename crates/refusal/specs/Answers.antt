@@ -22,3 +22,8 @@ leftOf (Refused reason item) laid out = out
 pub record Wrote (verdict : Verdict) (laid out : List ℕ) (answer : Written) (exit : List ℕ) : Type 0 where
   pub counted : answer ≡ countedOf verdict laid
   pub left : exit ≡ leftOf verdict laid out
+
+-- what a reader leaves in a lent array: all of it anew where it accepts, and as it was in a refusal
+abbrev pub lentOf : {A : Type 0} → Verdict → List A → List A → List A
+lentOf Accepted new lent = new
+lentOf (Refused reason item) new lent = lent

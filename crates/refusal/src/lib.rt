@@ -48,6 +48,8 @@ pub enum Excess {
     SlotUnwritable,
     CcValid,
     Padding,
+    // A payload's flags byte.
+    FlagsByte,
 }
 
 // Why a check refused: finer than 01's numbers, since two reasons may share one.
@@ -95,12 +97,14 @@ pub enum Verdict {
 }
 
 // What a caller is told: 01's number and place, both 0 where the call is accepted.
+#[repr(C)]
 pub struct Refusal {
     pub number: u8,
     pub place: usize,
 }
 
 // What a writer tells: a refusal, or how many bytes or words it wrote at the front of its output.
+#[repr(C)]
 pub struct Written {
     pub refusal: Refusal,
     pub len: usize,

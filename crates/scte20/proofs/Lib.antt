@@ -8,14 +8,12 @@ pub mod Zeros
 pub mod Quiet
 pub mod Numbered
 pub mod Bytewise
+pub mod Lending
 pub mod Stepwise
 pub mod Trailing
 pub mod Answers
 pub mod Types
 pub mod Holding
-pub mod Judging
-pub mod Packing
-pub mod Pieces
-pub mod Penned
+pub mod Judged
 pub mod Writable
 pub mod Theorems

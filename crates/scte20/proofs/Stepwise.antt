@@ -8,10 +8,9 @@ use mathlib.Core.Bool.{Bool, true, false}
 use mathlib.Core.List.{List, [], _∷_}
 use borrow.Author.Tests.{eq-eqb, ne-eqb}
 use lib.Dec.{eqb}
-use lib.ListN.{length, getD, take, set, replicate}
-use lib.Seq.{take-all}
-use Rattle.lists.specs.Room.{filled}
-use Rattle.lists.proofs.Fill.{filled-next}
+use lib.ListN.{length, getD, take}
+use lib.Seq.{length-take-le, take-all}
+use Rattle.lists.specs.Room.{over, overAt}
 use Rattle.refusal.specs.declared.Verdict.{Verdict}
 use Rattle.refusal.specs.declared.Verdict.the-variants.{Accepted, Refused}
 use Rattle.refusal.specs.declared.Reason.the-variants.{Unfixed}
@@ -26,9 +25,11 @@ use Rattle.scte20.specs.declared.Last.{Last}
 use Rattle.scte20.specs.Value.{fieldOf, one, blank}
 use Rattle.scte20.specs.Rules.{recordVerdict}
 use Rattle.scte20.specs.Reading.{missing, constructAt, markerVerdict, constructsVerdict, recordsAt}
+use Rattle.scte20.specs.Lent.{recordBytes, recordsBytes}
 use Rattle.scte20.specs.Inside.{constructOf, lastOf, lastVerdict, kept, lastAfter}
 use Rattle.scte20.proofs.Constructs.{length-records}
 use Rattle.scte20.proofs.Order.{Back, last-record, record-back, last-after}
+use Rattle.scte20.proofs.Lending.{lent-next, lent-room}
 
 module _ (xs : List ℕ) (at : ℕ) (h : AreBits xs) (fits : at + 26 ≤ length xs) where
   priority-at : field xs at 26 / 16777216 ≡ field xs at 2
@@ -79,17 +80,17 @@ abbrev pub behind : ℕ → List ℕ → List Record
 behind zero xs = []
 behind (suc i) xs = constructAt (21 + 26 * i) xs ∷ behind i xs
 
--- what holds where i of n constructs are read and accepted
-pub record Going (xs : List ℕ) (n : ℕ) (records : List Record) (last : Last) (i : ℕ) : Type 0 where
+-- what holds where i of n constructs are read and accepted, and their records' bytes laid over the front of what was lent
+pub record Going (xs : List ℕ) (n : ℕ) (lent records : List ℕ) (last : Last) (i : ℕ) : Type 0 where
   pub within : i ≤ n
   pub latest : last ≡ lastOf (behind i xs)
   pub back : Back (behind i xs)
   pub few : last .urgent ≤ i
   pub left : constructsVerdict [] n 21 xs ≡ constructsVerdict (behind i xs) (n - i) (21 + 26 * i) xs
-  pub stored : records ≡ filled (take i (recordsAt n 21 xs)) 31 blank
+  pub laid : records ≡ over (recordsBytes (take i (recordsAt n 21 xs))) lent
 
-pub going-first : (xs : List ℕ) (n : ℕ) → Going xs n (replicate 31 blank) (lastOf []) 0
-going-first xs n =
+pub going-first : (xs : List ℕ) (n : ℕ) (lent : List ℕ) → Going xs n lent lent (lastOf []) 0
+going-first xs n lent =
     let all : n ≡ n - 0 = omega arith in
     record {
       within = omega arith;
@@ -97,7 +98,7 @@ going-first xs n =
       back = tt;
       few = omega arith;
       left = ap (λ (k : ℕ). constructsVerdict [] k 21 xs) all;
-      stored = refl;
+      laid = refl;
     }
 
 -- one record more adds no more than one of priority 0
@@ -112,7 +113,14 @@ unfolding lastAfter
 urgent-after last r = urgent-one (eqb (last .«field_number» .0) (fieldOf r)) (eqb (r .«cc_priority») 0) (last .urgent)
 
 -- the turn of construct i
-module _ (xs : List ℕ) (n : ℕ) (records : List Record) (last : Last) (i : ℕ) (going : Going xs n records last i) (more : i < n) where
+module _ (xs : List ℕ) (n : ℕ) (lent records : List ℕ) (last : Last) (i : ℕ) (going : Going xs n lent records last i) (more : i < n) where
+  -- the array keeps its length
+  pub going-room : n ≤ 31 → length lent ≡ 155 → length records ≡ 155
+  going-room few e =
+      let rs = recordsAt n 21 xs in
+      let front : length (take i rs) ≤ 31 = omega (arith, length-take-le i rs (omega (arith, length-records n 21 xs))) in
+      ap length (going .laid) ∙ lent-room (take i rs) lent front e
+
   -- its record, judged by what the code keeps
   judged : let at = 21 + 26 * i in let r = constructAt at xs in recordVerdict at (behind i xs) r ≡ lastVerdict at last r
   judged =
@@ -137,11 +145,12 @@ module _ (xs : List ℕ) (n : ℕ) (records : List Record) (last : Last) (i : �
       ∙ ap (λ (v : Verdict). andThen (missing at 26 xs) (andThen v (andThen (markerVerdict at xs) (andThen rest Accepted)))) judged
 
   -- and where they accept, one construct more is read
-  pub going-next : n ≤ 31
-      → let at = 21 + 26 * i in
+  pub going-next :
+      let at = 21 + 26 * i in
       let r = constructAt at xs in
-      missing at 26 xs ≡ Accepted → lastVerdict at last r ≡ Accepted → markerVerdict at xs ≡ Accepted → Going xs n (set records i r) (lastAfter last r) (i + 1)
-  going-next room long legal marked =
+      missing at 26 xs ≡ Accepted → lastVerdict at last r ≡ Accepted → markerVerdict at xs ≡ Accepted
+      → Going xs n lent (overAt (5 * i) (recordBytes r) records) (lastAfter last r) (i + 1)
+  going-next long legal marked =
       let at = 21 + 26 * i in
       let r = constructAt at xs in
       let before = behind i xs in
@@ -149,7 +158,6 @@ module _ (xs : List ℕ) (n : ℕ) (records : List Record) (last : Last) (i : �
       let next : behind (i + 1) xs ≡ r ∷ before = ap (λ (k : ℕ). behind k xs) (add-one i) in
       let far : at + 26 ≡ 21 + 26 * (i + 1) = omega arith in
       let on : constructsVerdict [] n 21 xs ≡ constructsVerdict (r ∷ before) (n - (i + 1)) (at + 26) xs = constructs-here ∙ (simp (long, legal, marked, andThen-last)) in
-      let place : i < 31 = omega arith in
       let inside : i < length (recordsAt n 21 xs) = omega (arith, length-records n 21 xs) in
       record {
         within = omega arith;
@@ -157,17 +165,19 @@ module _ (xs : List ℕ) (n : ℕ) (records : List Record) (last : Last) (i : �
         back = subst Back (sym next) (record-back at before r (going .back) fits);
         few = omega (arith, urgent-after last r, going .few);
         left = on ∙ ap₂ (λ (rs : List Record) (k : ℕ). constructsVerdict rs (n - (i + 1)) k xs) (sym next) far;
-        stored = filled-next (recordsAt n 21 xs) 31 blank i place inside records r (going .stored) (sym (getD-recordsAt n 21 i xs more));
+        laid =
+            ap₂ (λ (s : Record) (bytes : List ℕ). overAt (5 * i) (recordBytes s) bytes) (sym (getD-recordsAt n 21 i xs more)) (going .laid)
+            ∙ lent-next (recordsAt n 21 xs) lent i inside;
       }
 
 -- all n constructs are read
-module _ (xs : List ℕ) (n : ℕ) (records : List Record) (last : Last) (i : ℕ) (going : Going xs n records last i) (done : n ≤ i) where
+module _ (xs : List ℕ) (n : ℕ) (lent records : List ℕ) (last : Last) (i : ℕ) (going : Going xs n lent records last i) (done : n ≤ i) where
   pub going-accepted : constructsVerdict [] n 21 xs ≡ Accepted
   going-accepted =
       let none : n - i ≡ 0 = omega arith in
       going .left ∙ ap (λ (k : ℕ). constructsVerdict (behind i xs) k (21 + 26 * i) xs) none
 
-  pub going-stored : records ≡ filled (recordsAt n 21 xs) 31 blank
-  going-stored =
+  pub going-laid : records ≡ over (recordsBytes (recordsAt n 21 xs)) lent
+  going-laid =
       let all : take i (recordsAt n 21 xs) ≡ recordsAt n 21 xs = take-all i (recordsAt n 21 xs) (omega (arith, length-records n 21 xs)) in
-      going .stored ∙ ap (λ (rs : List Record). filled rs 31 blank) all
+      going .laid ∙ ap (λ (rs : List Record). over (recordsBytes rs) lent) all

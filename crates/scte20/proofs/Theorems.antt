@@ -1,32 +1,38 @@
 -- The theorems of SCTE 20 caption content (document 01, demands 1 to 3). What they speak of is defined in specs/: a value and when it is legal in
 -- Value; its bits and bytes in Layout, without the reader; the rules over records in Rules; what reading answers in Reading; what writing answers and
--- leaves in Writing.
+-- leaves in Writing; records as bytes in a lent array in Lent.
 --
--- The contract of `read` is the promise `Reads`: `Reads body r` says that r is the answer to the bytes of a unit's body. That of `write` is `Writes`:
--- `Writes u before after out r exit` says that writing the body of u, with so many bytes before and after it, to an output that held `out` answers r
--- and leaves `exit`. So each theorem speaks of every call. Assumes nothing.
+-- The contract of `read` is the promise `Reads`: `Reads body r` says that r is the answer to the bytes of a unit's body. That of `read_into` is
+-- `ReadsInto`: `ReadsInto body lent r exit` says that it answers r, and leaves `exit` in a lent array that held `lent`. That of `write`, which lives in
+-- the crate scte20_writer, is `Writes`: `Writes u before after out r exit` says that writing the body of u, with so many bytes before and after it, to an
+-- output that held `out` answers r and leaves `exit`. So each theorem speaks of every call. Assumes nothing.
 use Prim.Native.Nat.{ℕ, _+_, _*_, _≤_}
 use native.Mathlib.Omega.{arith}
 use mathlib.Core.Path.{_≡_, _∙_, ap, ap₂, sym, subst, refl}
 use mathlib.Core.Logic.{_↔_}
 use mathlib.Core.List.{List}
-use lib.ListN.{length}
+use lib.ListN.{length, getD}
 use lib.Seq.{take-append-seam}
 use Rattle.lists.specs.Room.{overAt}
 use Rattle.refusal.specs.declared.Reason.{Reason}
 use Rattle.refusal.specs.declared.Item.{Item}
 use Rattle.refusal.specs.declared.Verdict.{Verdict}
 use Rattle.refusal.specs.declared.Verdict.the-variants.{Accepted, Refused}
+use Rattle.refusal.specs.Answers.{lentOf}
 use Rattle.scte20.specs.declared.Record.{Record}
+use Rattle.scte20.specs.declared.Numbers.{Numbers}
 use Rattle.scte20.specs.declared.CaptionUnit.{CaptionUnit}
 use Rattle.scte20.specs.declared.Answer.{Answer}
+use Rattle.scte20.specs.declared.Head.{Head}
 use Rattle.scte20.specs.declared.Laid.{Laid}
-use Rattle.scte20.specs.Value.{Content, Legal, LegalUnit, none, stored, held}
+use Rattle.scte20.specs.Value.{Content, Legal, LegalUnit, Typed, blank, none, stored, held}
 use Rattle.scte20.specs.Layout.{contentBits, contentBytes, layout, longest}
-use Rattle.scte20.specs.Reading.{contentVerdict, sizeIn, valueOf, answerOf, Reads}
-use Rattle.scte20.specs.Writing.{bodyVerdict, countedOf, leftOf, Writes}
+use Rattle.scte20.specs.Reading.{contentVerdict, sizeIn, valueOf, answerOf, readOf, Reads}
+use Rattle.scte20.specs.Writing.{valueVerdict, bodyVerdict, countedOf, leftOf, Writes}
+use Rattle.scte20.specs.Lent.{recordsBytes, lentRecords, unitIn, numbersOf, headOf, ReadsInto}
 use Rattle.scte20.proofs.Contents.{content-accepted, value-legal, value-layout}
 use Rattle.scte20.proofs.Layouts.{layout-accepted, layout-value}
+use Rattle.scte20.proofs.Lending.{lent-unit}
 use Rattle.scte20.proofs.Numbered.{AtBit, content-placed}
 use Rattle.scte20.proofs.Writable.{write-accepted, accepted-write}
 use Rattle.scte20.proofs.Sizes as sizes
@@ -83,6 +89,25 @@ refused-zero body r p h = ap (λ (a : Answer). a .unit) (p .answer) ∙ nothing 
     nothing : (verdict : Verdict) → (verdict ≡ Accepted → ⊥) → answerOf verdict (valueOf body) .unit ≡ stored none
     nothing Accepted g = absurd (g refl)
     nothing (Refused reason item) g = refl
+
+-- READING INTO A LENT ARRAY
+
+-- It answers what `read` answers, with all its records in the lent array, which a refusal leaves as it was. So every theorem on reading speaks of it.
+pub read-into-as-read : (body lent : List ℕ) (r : Head) (exit : List ℕ) (a : Answer) → ReadsInto body lent r exit → Reads body a
+    → (r ≡ headOf a) × (a .verdict ≡ Accepted → exit ≡ recordsBytes (a .unit .records)) × ((a .verdict ≡ Accepted → ⊥) → exit ≡ lent)
+read-into-as-read body lent r exit a p q = (
+  p .answer ∙ ap headOf (sym (q .answer)),
+  λ e. p .left ∙ ap₂ (λ (v : Verdict) (b : Answer). lentOf v (recordsBytes (b .unit .records)) lent) (sym (told body a q) ∙ e) (sym (q .answer)),
+  λ h. p .left ∙ nothing (contentVerdict body) (λ e. h (told body a q ∙ e)),
+)
+  where
+    nothing : (verdict : Verdict) → (verdict ≡ Accepted → ⊥) → lentOf verdict (recordsBytes (readOf body .unit .records)) lent ≡ lent
+    nothing Accepted g = absurd (g refl)
+    nothing (Refused reason item) g = refl
+
+-- A struct is told again by its numbers and its records' bytes.
+pub lent-held : (u : CaptionUnit) → Typed u → unitIn (numbersOf u) (recordsBytes (u .records)) ≡ u
+lent-held u h = lent-unit u (h .places)
 
 -- SIZES
 
@@ -158,6 +183,25 @@ zero-run-reached = zeros.zero-run-reached
 -- For each function, two answers that keep its promise are equal, lent memory too.
 pub read-determined : (body : List ℕ) (a b : Answer) → Reads body a → Reads body b → a ≡ b
 read-determined body a b p q = p .answer ∙ sym (q .answer)
+
+pub read-into-determined : (body lent : List ℕ) (a : Head) (exit : List ℕ) (b : Head) (end : List ℕ) → ReadsInto body lent a exit → ReadsInto body lent b end
+    → (a ≡ b) × (exit ≡ end)
+read-into-determined body lent a exit b end p q = (p .answer ∙ sym (q .answer), p .left ∙ sym (q .left))
+
+pub record-in-determined : (s : List ℕ) (i : ℕ) (a b : Record) → a ≡ getD (lentRecords s) i blank → b ≡ getD (lentRecords s) i blank → a ≡ b
+record-in-determined s i a b p q = p ∙ sym q
+
+pub unit-of-determined : (v : Numbers) (s : List ℕ) (a b : CaptionUnit) → a ≡ unitIn v s → b ≡ unitIn v s → a ≡ b
+unit-of-determined v s a b p q = p ∙ sym q
+
+pub numbers-of-determined : (u : CaptionUnit) (a b : Numbers) → a ≡ numbersOf u → b ≡ numbersOf u → a ≡ b
+numbers-of-determined u a b p q = p ∙ sym q
+
+pub bytes-of-determined : (u : CaptionUnit) (a b : List ℕ) → a ≡ recordsBytes (u .records) → b ≡ recordsBytes (u .records) → a ≡ b
+bytes-of-determined u a b p q = p ∙ sym q
+
+pub judge-value-determined : (v : Numbers) (s : List ℕ) (a b : Verdict) → a ≡ valueVerdict (unitIn v s) → b ≡ valueVerdict (unitIn v s) → a ≡ b
+judge-value-determined v s a b p q = p ∙ sym q
 
 pub nothing-determined : (a b : CaptionUnit) → a ≡ stored none → b ≡ stored none → a ≡ b
 nothing-determined a b p q = p ∙ sym q

@@ -13,7 +13,7 @@ use Rattle.scte20.specs.Value.{ByteRecord, Typed}
 use Rattle.scte20.proofs.Record as rec
 use Rattle.scte20.proofs.CaptionUnit as unit
 
-byte-record : (r : Record) (v : Val) → shadow (rec.the-field .row .own (rec.the-field .into r) (v ∷ [])) → ByteRecord r
+pub byte-record : (r : Record) (v : Val) → shadow (rec.the-field .row .own (rec.the-field .into r) (v ∷ [])) → ByteRecord r
 byte-record r v h = let two = h .1 .1 .1 .1 .1 in record { data-1 = two .0 .1; data-2 = two .1 .0 .1 }
 
 byte-records : (rs : List Record) (vs : List Val) → shadow (each (rec.the-field .row .Denot) (rec.the-field .row .own) (map (rec.the-field .into) rs) vs) → Each ByteRecord rs

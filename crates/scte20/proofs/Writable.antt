@@ -33,10 +33,13 @@ use Rattle.scte20.proofs.Holding.{whole-accepted, accepted-whole, range
 
 -- ---- the value
 
+-- the numbers that the checks look at
+abbrev pub InRange : Record → Type 0
+InRange r = (r .«cc_priority» ≤ 3) × (fieldOf r ≤ 3) × (r .«line_offset» ≤ 31)
+
 -- bytes are bytes by their type
-in-range : (at : ℕ) (r : Record) → ByteRecord r → rangeVerdict at r ≡ Accepted → Ranged r
-in-range at r bytes e =
-    let numbers = accepted-range at r e in
+pub in-range : (r : Record) → ByteRecord r → InRange r → Ranged r
+in-range r bytes numbers =
     record {
       priority = omega (arith, numbers .0);
       field = numbers .1;
@@ -45,16 +48,15 @@ in-range at r bytes e =
     }
 
 -- the checks of the records accept exactly those in range that fit behind the ones before them
-records-accepted : (before : List Record) (at : ℕ) (rs : List Record) → Each ByteRecord rs → recordsVerdict before at rs ≡ Accepted
-    → Each Ranged rs × AllFit before rs
-records-accepted before at [] bytes e = (tt, tt)
-records-accepted before at (r ∷ rs) bytes e =
+records-accepted : (before : List Record) (at : ℕ) (rs : List Record) → recordsVerdict before at rs ≡ Accepted → Each InRange rs × AllFit before rs
+records-accepted before at [] e = (tt, tt)
+records-accepted before at (r ∷ rs) e =
     let later = recordsVerdict (r ∷ before) (at + 26) rs in
     let one = andThen-accepted (rangeVerdict at r) (first (recordVerdict at before r ∷ later ∷ [])) e in
     let two = andThen-accepted (recordVerdict at before r) (first (later ∷ [])) (one .1) in
     let three = andThen-accepted later Accepted (two .1) in
-    let rest = records-accepted (r ∷ before) (at + 26) rs (bytes .1) (three .0) in
-    ((in-range at r (bytes .0) (one .0), rest .0), (record-fits at before r (two .0), rest .1))
+    let rest = records-accepted (r ∷ before) (at + 26) rs (three .0) in
+    ((accepted-range at r (one .0), rest .0), (record-fits at before r (two .0), rest .1))
 
 accepted-records : (before : List Record) (at : ℕ) (rs : List Record) → Each Ranged rs → AllFit before rs → recordsVerdict before at rs ≡ Accepted
 accepted-records before at [] ranged fit = refl
@@ -66,13 +68,18 @@ accepted-records before at (r ∷ rs) ranged fit =
     (accepted-andThen (recordVerdict at before r) (first (later ∷ [])) (fits-record at before r (fit .0))
     (accepted-andThen later Accepted (accepted-records (r ∷ before) (at + 26) rs (ranged .1) (fit .1)) refl))
 
+pub value-ranged : (u : CaptionUnit) → valueVerdict u ≡ Accepted → Each InRange (held u .records)
+unfolding valueVerdict
+value-ranged u e = records-accepted [] 21 (held u .records) (andThen-accepted (wholeVerdict u) (recordsVerdict [] 21 (held u .records)) e .1) .0
+
 pub accepted-unit : (u : CaptionUnit) → Typed u → valueVerdict u ≡ Accepted → LegalUnit u
 unfolding valueVerdict
 accepted-unit u t e =
     let rs = held u .records in
     let both = andThen-accepted (wholeVerdict u) (recordsVerdict [] 21 rs) e in
     let whole = whole-accepted u (both .0) in
-    let known = records-accepted [] 21 rs (each-take ByteRecord (u .n) (u .records) (t .bytes)) (both .1) in
+    let known = records-accepted [] 21 rs (both .1) in
+    let ranged = each-both ByteRecord InRange Ranged in-range rs (each-take ByteRecord (u .n) (u .records) (t .bytes)) (known .0) in
     let fit = known .1 in
     record {
       few = whole .few;
@@ -80,7 +87,7 @@ accepted-unit u t e =
         reserved = omega (arith, whole .reserved);
         flag = omega (arith, whole .flag);
         few = omega (arith, whole .few, length-held u (t .places) (whole .few));
-        each = each-both (λ (r : Record). 1 ≤ fieldOf r) Ranged LegalRecord (λ r shown ranged. record { ranged = ranged; shown = shown }) rs (fit-shown rs fit) (known .0);
+        each = each-both (λ (r : Record). 1 ≤ fieldOf r) Ranged LegalRecord (λ r shown ranged. record { ranged = ranged; shown = shown }) rs (fit-shown rs fit) ranged;
         order = fit-order rs fit;
         four = fit-four rs fit;
         bare = λ zero. ap (λ (n : ℕ). take n (u .records)) (whole .bare zero);

@@ -1,24 +1,21 @@
--- What private functions promise each other: what the reader and the writer keep on their way. No theorem for a signer speaks of it.
-use Prim.Native.Nat.{ℕ, _+_, _*_, _/_, _%_, _^_}
+-- What private functions promise each other: what the reader keeps on its way. No theorem for a signer speaks of it.
+use Prim.Native.Nat.{ℕ, _+_, _/_, _%_, _^_}
 use mathlib.Core.Path.{_≡_}
 use mathlib.Core.Bool.{Bool, true, false, not, _&&_}
-use mathlib.Core.List.{List, [], _∷_, _++_}
+use mathlib.Core.List.{List, [], _∷_}
 use lib.Dec.{eqb, ltb}
-use lib.ListN.{length, drop, replicate}
-use Rattle.lists.specs.Room.{filled, overAt}
+use Rattle.lists.specs.Room.{over}
 use Rattle.refusal.specs.declared.Verdict.{Verdict}
 use Rattle.refusal.specs.declared.Verdict.the-variants.{Accepted}
 use Rattle.refusal.specs.declared.Reason.the-variants.{FieldNumberZero, FieldFalls, LineDoesNotRise, FifthPriority}
 use Rattle.refusal.specs.declared.Item.the-variants.{Bit}
 use Rattle.refusal.specs.Checks.{refuseIf, first}
-use Rattle.bits.specs.Bits.{bits, num, bitsOf, bytesOf, reversed}
+use Rattle.bits.specs.Bits.{bitsOf, reversed}
 use Rattle.scte20.specs.declared.Record.{Record}
 use Rattle.scte20.specs.declared.Last.{Last}
-use Rattle.scte20.specs.declared.Run.{Run}
-use Rattle.scte20.specs.declared.Pen.{Pen}
-use Rattle.scte20.specs.Value.{blank, fieldOf, one, urgent}
-use Rattle.scte20.specs.Layout.{constructsBits}
+use Rattle.scte20.specs.Value.{fieldOf, one, urgent}
 use Rattle.scte20.specs.Reading.{constructsVerdict, recordsAt}
+use Rattle.scte20.specs.Lent.{recordsBytes}
 
 -- of the records before, the latest first: the latest's field and line, and how many of that field have priority 0
 abbrev pub lastOf : List Record → Last
@@ -60,30 +57,7 @@ constructOf c =
       «cc_data_2» = reversed (c / 2 % 256);
     }
 
--- what reading n constructs answers: the verdict, and the records where it accepts
-pub record RunOf (body : List ℕ) (n : ℕ) (r : Run) : Type 0 where
-  pub verdict : r .verdict ≡ constructsVerdict [] n 21 (bitsOf body)
-  pub records : constructsVerdict [] n 21 (bitsOf body) ≡ Accepted → r .records ≡ filled (recordsAt n 21 (bitsOf body)) 31 blank
-
--- what a pen and one construct more write: the pen's bits, then the construct's
-abbrev pub pushed : Pen → ℕ → List ℕ
-pushed p c = bits (p .width) (p .bits) ++ bits 26 c
-
--- the promise of `push`: the bytes that these bits fill stand in the output from where the pen was, and what is left over waits in the pen
-pub record Pushes (p : Pen) (c : ℕ) (out : List ℕ) (r : Pen) (exit : List ℕ) : Type 0 where
-  pub at : r .at ≡ p .at + (p .width + 26) / 8
-  pub width : r .width ≡ (p .width + 26) % 8
-  pub bits : r .bits ≡ num (drop (8 * ((p .width + 26) / 8)) (pushed p c))
-  pub left : exit ≡ overAt (p .at) (bytesOf ((p .width + 26) / 8) (pushed p c)) out
-
--- cc_count and the constructs, behind the first two bytes
-abbrev pub countedBits : List Record → List ℕ
-countedBits rs = bits 5 (length rs) ++ constructsBits rs
-
--- how many bytes they take, the last not filled: 5 + 26n is odd
-abbrev pub countedSize : ℕ → ℕ
-countedSize n = (5 + 26 * n) / 8 + 1
-
--- these bytes
-abbrev pub countedBytes : List Record → List ℕ
-countedBytes rs = bytesOf (countedSize (length rs)) (countedBits rs ++ replicate 8 0)
+-- what reading n constructs answers, and what it leaves at the front of the array where it accepts
+pub record Runs (body : List ℕ) (n : ℕ) (lent : List ℕ) (r : Verdict) (exit : List ℕ) : Type 0 where
+  pub verdict : r ≡ constructsVerdict [] n 21 (bitsOf body)
+  pub left : r ≡ Accepted → exit ≡ over (recordsBytes (recordsAt n 21 (bitsOf body))) lent

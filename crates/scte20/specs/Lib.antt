@@ -3,4 +3,5 @@ pub mod Layout
 pub mod Rules
 pub mod Reading
 pub mod Writing
+pub mod Lent
 pub mod Inside

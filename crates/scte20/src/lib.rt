@@ -1,14 +1,21 @@
 // SCTE 20 caption content: what a caption unit of a picture's user data holds behind its start code.
 //
 // Normative references: document 01, "Picture area"; document 001, 5.4 to 5.8.
+mod judging;
+mod lent;
 mod reading;
 mod rules;
-mod writing;
 
+pub use judging::judge_value;
+pub use lent::bytes_of;
+pub use lent::known;
+pub use lent::numbers_of;
+pub use lent::record_in;
+pub use lent::unit_of;
 pub use reading::nothing;
 pub use reading::read;
+pub use reading::read_into;
 use refusal::Verdict;
-pub use writing::write;
 
 pub const MAX_RECORDS: usize = 31;
 
@@ -16,12 +23,17 @@ pub const MAX_RECORDS: usize = 31;
 pub const MAX_BYTES: usize = 16384;
 
 // The bit at which the constructs begin, and how many bits each has.
-const CONSTRUCTS: usize = 21;
+pub const CONSTRUCTS: usize = 21;
 
-const CONSTRUCT_BITS: usize = 26;
+pub const CONSTRUCT_BITS: usize = 26;
 
 // non_real_time_video_count
-const SAMPLED_BITS: usize = 4;
+pub const SAMPLED_BITS: usize = 4;
+
+// A record in a lent array: five bytes, one for each number of a `Record` and in its order.
+pub const LENT_RECORD: usize = 5;
+
+pub const LENT_RECORDS: usize = 155;
 
 // A display field of this picture, counted from 1. It is not the odd or the even field of a frame.
 pub struct DisplayField(pub u8);
@@ -45,13 +57,27 @@ pub struct CaptionUnit {
     pub z: usize,
 }
 
+// A unit's value without its records, which a lent array holds.
+pub struct Numbers {
+    pub reserved: u8,
+    pub vbi_data_flag: u8,
+    pub n: usize,
+    pub z: usize,
+}
+
+// What `read_into` answers: the verdict, and the numbers, all zero where it refuses.
+pub struct Head {
+    pub verdict: Verdict,
+    pub numbers: Numbers,
+}
+
 // What `read` answers: the verdict, and the value, all zero where it refuses.
 pub struct Answer {
     pub verdict: Verdict,
     pub unit: CaptionUnit,
 }
 
-// What `write` answers: the verdict, and how many bytes the body has, 0 where it refuses.
+// What writing answers: the verdict, and how many bytes the body has, 0 where it refuses.
 pub struct Laid {
     pub verdict: Verdict,
     pub len: usize,
@@ -63,18 +89,4 @@ struct Last {
     field_number: DisplayField,
     line_offset: u8,
     urgent: usize,
-}
-
-// What reading the constructs found.
-struct Run {
-    verdict: Verdict,
-    records: [Record; MAX_RECORDS],
-}
-
-// Bits on their way into an output. The whole bytes stand in it up to index `at`; `bits` holds those behind them, `width` of
-// them, which do not fill a byte.
-struct Pen {
-    at: usize,
-    width: u32,
-    bits: u64,
 }

@@ -6,18 +6,23 @@ ghost use Rattle.refusal.specs.declared.Verdict.the-variants.{Accepted};
 ghost use Rattle.refusal.specs.Checks.{andThen};
 ghost use Rattle.bits.specs.Bits.{bitsOf};
 ghost use Rattle.scte20.specs.Value.{blank as Value·blank, none, stored};
-ghost use Rattle.scte20.specs.Reading.{headVerdict, flagIn, sampledVerdict, restVerdict, readOf, Reads};
-ghost use Rattle.scte20.specs.Inside.{constructOf, RunOf};
+ghost use Rattle.scte20.specs.Reading.{headVerdict, flagIn, sampledVerdict, restVerdict, Reads};
+ghost use Rattle.scte20.specs.Lent.{numbersOf, ReadsInto};
+ghost use Rattle.scte20.specs.Inside.{constructOf, Runs};
 use crate::Answer;
 use crate::CONSTRUCT_BITS;
 use crate::CONSTRUCTS;
 use crate::CaptionUnit;
 use crate::DisplayField;
+use crate::Head;
+use crate::LENT_RECORD;
+use crate::LENT_RECORDS;
 use crate::MAX_BYTES;
 use crate::MAX_RECORDS;
+use crate::Numbers;
 use crate::Record;
-use crate::Run;
 use crate::SAMPLED_BITS;
+use crate::lent;
 use crate::rules;
 use refusal::Fixed;
 use refusal::Item;
@@ -31,14 +36,26 @@ const COUNT: usize = 16;
 pub fn read(body: &[u8]) -> Answer
     ensures { λ r. ⌜ Reads (now (body .entry)) r ⌝ }
 {
+    let mut records = [0; LENT_RECORDS];
+    let head = read_into(body, &mut records);
+    let verdict = head.verdict;
+    let numbers = head.numbers;
+    let unit = lent::unit_of(numbers, &records);
+    Answer { verdict, unit }
+}
+
+// Reads the body of a caption unit, its records into a lent array, which a refusal leaves as it is.
+pub fn read_into(body: &[u8], records: &mut [u8; LENT_RECORDS]) -> Head
+    ensures { λ r. ⌜ ReadsInto (now (body .entry)) (now (records .entry)) r (now (records .exit)) ⌝ }
+{
     let head = judge_head(body);
     if let Verdict::Refused(_, _) = head {
         return refused(head);
     }
     if body[1] % 2 == 0 {
-        return read_bare(body);
+        return read_bare(body, records);
     }
-    read_flagged(body)
+    read_flagged(body, records)
 }
 
 // What stands before the flag's decision.
@@ -62,39 +79,39 @@ fn judge_head(body: &[u8]) -> Verdict
 }
 
 // With flag 0 the content is two bytes.
-fn read_bare(body: &[u8]) -> Answer
+fn read_bare(body: &[u8], records: &mut [u8; LENT_RECORDS]) -> Head
     requires { ⌜ headVerdict (now body) ≡ Accepted ⌝ }
     requires { ⌜ flagIn (bitsOf (now body)) ≡ 0 ⌝ }
-    ensures { λ r. ⌜ r ≡ readOf (now (body .entry)) ⌝ }
+    ensures { λ r. ⌜ ReadsInto (now (body .entry)) (now (records .entry)) r (now (records .exit)) ⌝ }
 {
     let rest = judge_rest(body, COUNT);
     if let Verdict::Refused(_, _) = rest {
         return refused(rest);
     }
-    Answer {
+    *records = [0; LENT_RECORDS];
+    Head {
         verdict: rest,
-        unit: CaptionUnit {
+        numbers: Numbers {
             reserved: body[1] / 2,
             vbi_data_flag: 0,
             n: 0,
-            records: [blank(); MAX_RECORDS],
             z: body.len() - 2,
         },
     }
 }
 
 // cc_count, the constructs, the sampled video count, alignment and stuffing.
-fn read_flagged(body: &[u8]) -> Answer
+fn read_flagged(body: &[u8], records: &mut [u8; LENT_RECORDS]) -> Head
     requires { ⌜ headVerdict (now body) ≡ Accepted ⌝ }
     requires { ⌜ flagIn (bitsOf (now body)) ≡ 1 ⌝ }
-    ensures { λ r. ⌜ r ≡ readOf (now (body .entry)) ⌝ }
+    ensures { λ r. ⌜ ReadsInto (now (body .entry)) (now (records .entry)) r (now (records .exit)) ⌝ }
 {
     if body.len() < 3 {
         return refused(Verdict::Refused(Reason::Ends, Item::Bit(COUNT)));
     }
     let n = (body[2] / 8) as usize;
-    let run = read_constructs(body, n);
-    let constructs = run.verdict;
+    let mut found = [0; LENT_RECORDS];
+    let constructs = read_constructs(body, n, &mut found);
     if let Verdict::Refused(_, _) = constructs {
         return refused(constructs);
     }
@@ -103,56 +120,46 @@ fn read_flagged(body: &[u8]) -> Answer
     if let Verdict::Refused(_, _) = tail {
         return refused(tail);
     }
-    let records = run.records;
-    Answer {
+    *records = found;
+    Head {
         verdict: tail,
-        unit: CaptionUnit {
+        numbers: Numbers {
             reserved: body[1] / 2,
             vbi_data_flag: 1,
             n,
-            records,
             z: body.len() - (end + 7) / 8,
         },
     }
 }
 
 // The n constructs, each read and judged before the next. Where one is refused, what is in the records means nothing.
-fn read_constructs(body: &[u8], n: usize) -> Run
+fn read_constructs(body: &[u8], n: usize, records: &mut [u8; LENT_RECORDS]) -> Verdict
     requires { ⌜ length (now body) ≤ 16384 ⌝ }
     requires { ⌜ n ≤ 31 ⌝ }
-    ensures { λ r. ⌜ RunOf (now (body .entry)) n r ⌝ }
+    requires { ⌜ length (now records) ≡ 155 ⌝ }
+    ensures { λ r. ⌜ Runs (now (body .entry)) n (now (records .entry)) r (now (records .exit)) ⌝ }
 {
-    let mut records = [blank(); MAX_RECORDS];
     let mut last = rules::first();
     let mut i = 0;
     while i < n {
         let at = CONSTRUCTS + CONSTRUCT_BITS * i;
         if body.len() < (at + CONSTRUCT_BITS + 7) / 8 {
-            return Run {
-                verdict: Verdict::Refused(Reason::Ends, Item::Bit(at)),
-                records,
-            };
+            return Verdict::Refused(Reason::Ends, Item::Bit(at));
         }
         let construct = bits::peek(body, at, CONSTRUCT_BITS as u32);
         let record = record_of(construct);
         let verdict = rules::judge_record(last, record, at);
         if let Verdict::Refused(_, _) = verdict {
-            return Run { verdict, records };
+            return verdict;
         }
         if construct % 2 != 1 {
-            return Run {
-                verdict: Verdict::Refused(Reason::Unfixed(Fixed::Marker), Item::Bit(at + 25)),
-                records,
-            };
+            return Verdict::Refused(Reason::Unfixed(Fixed::Marker), Item::Bit(at + 25));
         }
-        records[i] = record;
+        lent::put_record(record, LENT_RECORD * i, records);
         last = rules::after(last, record);
         i += 1;
     }
-    Run {
-        verdict: Verdict::Accepted,
-        records,
-    }
+    Verdict::Accepted
 }
 
 // The record of a construct (001, 5.8). The data bytes come least significant bit first.
@@ -218,11 +225,18 @@ fn judge_rest(body: &[u8], at: usize) -> Verdict
 }
 
 // A refusal, and no value beside it.
-fn refused(verdict: Verdict) -> Answer
-    ensures { λ r. ⌜ r ≡ record { verdict = verdict; unit = stored none } ⌝ }
+fn refused(verdict: Verdict) -> Head
+    ensures { λ r. ⌜ r ≡ record { verdict = verdict; numbers = numbersOf (stored none) } ⌝ }
 {
-    let unit = nothing();
-    Answer { verdict, unit }
+    Head {
+        verdict,
+        numbers: Numbers {
+            reserved: 0,
+            vbi_data_flag: 0,
+            n: 0,
+            z: 0,
+        },
+    }
 }
 
 // No value: what an answer without one holds.
@@ -238,7 +252,7 @@ pub fn nothing() -> CaptionUnit
     }
 }
 
-fn blank() -> Record
+pub(crate) fn blank() -> Record
     ensures { λ r. ⌜ r ≡ Value·blank ⌝ }
 {
     Record {

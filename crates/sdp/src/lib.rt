@@ -25,9 +25,11 @@ pub const STRUCTURES: usize = 9;
 pub const STRUCTURE_WORDS: usize = 45;
 
 // The odd (1) or the even (0) field of a frame. It is not a display field number.
+#[repr(C)]
 pub struct OddEven(pub u8);
 
 // One slot's numbers: 1 full or 0 empty, and what its descriptor says (002, 5.4.2).
+#[repr(C)]
 pub struct Slot {
     pub full: u8,
     pub line: u8,
@@ -36,6 +38,7 @@ pub struct Slot {
 }
 
 // A packet's numbers. Beside them travel the slots' rows, an array of five 42-byte arrays.
+#[repr(C)]
 pub struct Packet {
     pub counter: u32,
     pub slots: [Slot; SLOTS],

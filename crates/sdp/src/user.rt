@@ -167,11 +167,5 @@ fn judge_structure(user: &[u16], dc: u16, i: usize) -> Verdict
 pub fn byte_sum(words: &[u16]) -> u16
     ensures { λ r. ⌜ r ≡ sum (map byteOf (now (words .entry))) % 256 ⌝ }
 {
-    let mut sum = 0;
-    let mut i = 0;
-    while i < words.len() {
-        sum = (sum + words[i] % 256) % 256;
-        i += 1;
-    }
-    sum
+    anc::sum(words) % 256
 }

@@ -2,9 +2,10 @@
 -- reader; what reading answers in Reading; what writing answers and leaves in Writing. A value, when it is legal, its user bytes and the rules over
 -- them are those of `sdp`, which has a page of theorems too.
 --
--- The contracts of `read`, `read_rows` and `write` are the promises `Reads`, `ReadsRows` and `Writes`. `Reads s r` says that r is the answer to the words
--- s, `ReadsRows s rows` that these are the rows in it, and `Writes p rows out r exit` that writing p with its rows to an output that held `out`
--- answers r and leaves `exit`. So each theorem speaks of every call. Assumes nothing.
+-- The contracts of `read`, `read_rows` and `read_into` are the promises `Reads`, `ReadsRows` and `ReadsInto`, and `Writes` is that of `write` and of
+-- `write_from`. `Reads s r` says that r is the answer to the words s, `ReadsRows s rows` that these are the rows in it, `ReadsInto s lent r exit` that
+-- r is the answer and that the lent array, which held `lent`, is left at `exit`, and `Writes p rows out r exit` that writing p with its rows to an
+-- output that held `out` answers r and leaves `exit`. So each theorem speaks of every call. Assumes nothing.
 use Prim.Native.Nat.{ℕ, _+_, _*_, _≤_, _<_}
 use native.Mathlib.Omega.{arith}
 use mathlib.Core.Path.{_≡_, _∙_, ap, ap₂, sym, subst, refl}
@@ -24,6 +25,7 @@ use Rattle.refusal.specs.declared.Reason.the-variants.{NoStart}
 use Rattle.refusal.specs.declared.Item.the-variants.{Word}
 use Rattle.refusal.specs.Checks.{refuseIf, andThen}
 use Rattle.refusal.specs.Numbers.{refusalOf}
+use Rattle.refusal.specs.Answers.{lentOf}
 use Rattle.refusal.proofs.Checks.{andThen-refused}
 use Rattle.refusal.proofs.Acceptance.{told-accepted}
 use Rattle.refusal.proofs.Outputs.{wrote-accepted, accepted-wrote, wrote-refusal, success-left, refusal-left, wrote-determined}
@@ -32,7 +34,7 @@ use Rattle.subtitling.specs.declared.Answer.{Answer}
 use Rattle.sdp.specs.Value.{Sdp, Legal, none, held, numbersOf, rowsOf}
 use Rattle.sdp.specs.Layout.{descriptorsOf, count}
 use Rattle.subtitling.specs.Layout.{layout}
-use Rattle.subtitling.specs.Reading.{formVerdict, packetVerdict, valueOf, found, Reads, ReadsRows}
+use Rattle.subtitling.specs.Reading.{formVerdict, packetVerdict, valueOf, found, readRowsOf, Reads, ReadsRows, ReadsInto}
 use Rattle.subtitling.specs.Writing.{valueVerdict, Writes}
 use Rattle.sdp.proofs.Beside.{held-apart, numbers-held, rows-held}
 use Rattle.sdp.proofs.Numbers.{slots-accepted, legal-held}
@@ -96,6 +98,20 @@ pub refused-zero : (s : List ℕ) (r : Answer) (rows : List (List ℕ)) → Read
 refused-zero s r rows p q h =
     let nothing = refused-nothing (packetVerdict s) (valueOf s) (λ e. h (ap (λ (a : Answer). a .refusal .number) p ∙ e)) in
     (ap (λ (a : Answer). a .packet) p ∙ ap numbersOf nothing, q ∙ ap rowsOf nothing)
+
+refused-lent : (verdict : Verdict) (new lent : List (List ℕ)) → (refusalOf verdict .number ≡ 0 → ⊥) → lentOf verdict new lent ≡ lent
+refused-lent Accepted new lent h = absurd (h refl)
+refused-lent (Refused reason item) new lent h = refl
+
+-- Reading into a lent array answers the same, and leaves the rows in it, or in a refusal what it held.
+pub read-into-as-read : (s : List ℕ) (lent : List (List ℕ)) (r : Answer) (exit : List (List ℕ)) → ReadsInto s lent r exit
+    → (a : Answer) (rows : List (List ℕ)) → Reads s a → ReadsRows s rows
+    → (r ≡ a) × (a .refusal .number ≡ 0 → exit ≡ rows) × ((a .refusal .number ≡ 0 → ⊥) → exit ≡ lent)
+read-into-as-read s lent r exit i a rows p q = (
+  i .answer ∙ sym p,
+  (λ e. i .left ∙ ap (λ (verdict : Verdict). lentOf verdict (readRowsOf s) lent) (accepts s a p e) ∙ sym q),
+  (λ h. i .left ∙ refused-lent (packetVerdict s) (readRowsOf s) lent (λ e. h (ap (λ (x : Answer). x .refusal .number) p ∙ e))),
+)
 
 -- SIZES
 
@@ -238,6 +254,10 @@ read-determined s a b ra rb = ra ∙ sym rb
 
 pub rows-determined : (s : List ℕ) (a b : List (List ℕ)) → ReadsRows s a → ReadsRows s b → a ≡ b
 rows-determined s a b ra rb = ra ∙ sym rb
+
+pub read-into-determined : (s : List ℕ) (lent : List (List ℕ)) (a : Answer) (exit : List (List ℕ)) (b : Answer) (end : List (List ℕ))
+    → ReadsInto s lent a exit → ReadsInto s lent b end → (a ≡ b) × (exit ≡ end)
+read-into-determined s lent a exit b end ra rb = (ra .answer ∙ sym (rb .answer), ra .left ∙ sym (rb .left))
 
 pub write-determined : (p : Packet) (rows : List (List ℕ)) (out : List ℕ) (a : Written) (exit : List ℕ) (b : Written) (end : List ℕ)
     → Writes p rows out a exit → Writes p rows out b end → (a ≡ b) × (exit ≡ end)

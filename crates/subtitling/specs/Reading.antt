@@ -15,6 +15,7 @@ use Rattle.refusal.specs.declared.Misfit.the-variants.{DataCount}
 use Rattle.refusal.specs.declared.Item.the-variants.{Word, Length}
 use Rattle.refusal.specs.Checks.{refuseIf, first}
 use Rattle.refusal.specs.Numbers.{refusalOf}
+use Rattle.refusal.specs.Answers.{lentOf}
 use Rattle.anc.specs.Words.{byteOf, wordsVerdict, sumVerdict, checksumOf}
 use Rattle.subtitling.specs.declared.Answer.{Answer}
 use Rattle.sdp.specs.Value.{Sdp, none, numbersOf, rowsOf}
@@ -87,3 +88,8 @@ Reads s r = r ≡ readOf s
 -- the promise of `read_rows`: the slots' rows
 abbrev pub ReadsRows : List ℕ → List (List ℕ) → Type 0
 ReadsRows s rows = rows ≡ readRowsOf s
+
+-- the promise of `read_into`: both, with the rows in a lent array
+pub record ReadsInto (s : List ℕ) (lent : List (List ℕ)) (r : Answer) (exit : List (List ℕ)) : Type 0 where
+  pub answer : r ≡ readOf s
+  pub left : exit ≡ lentOf (packetVerdict s) (readRowsOf s) lent

@@ -5,16 +5,19 @@ mod reading;
 mod writing;
 
 pub use reading::read;
+pub use reading::read_into;
 pub use reading::read_rows;
 use refusal::Refusal;
 use sdp::Packet;
 pub use writing::write;
+pub use writing::write_from;
 
 pub const MIN_WORDS: usize = 20;
 
 pub const MAX_WORDS: usize = 245;
 
-// What `read` answers: the numbers, or a refusal and zeros.
+// What `read` and `read_into` answer: the numbers, or a refusal and zeros.
+#[repr(C)]
 pub struct Answer {
     pub refusal: Refusal,
     pub packet: Packet,

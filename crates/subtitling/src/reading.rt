@@ -7,7 +7,7 @@ ghost use Rattle.anc.specs.Words.{byteOf};
 ghost use Rattle.sdp.specs.Value.{none, numbersOf, rowsOf};
 ghost use Rattle.sdp.specs.Layout.{userLength};
 ghost use Rattle.sdp.specs.User.{structuresIn, userValue};
-ghost use Rattle.subtitling.specs.Reading.{formVerdict, headerVerdict, checksumVerdict, packetVerdict, Reads, ReadsRows};
+ghost use Rattle.subtitling.specs.Reading.{formVerdict, headerVerdict, checksumVerdict, packetVerdict, Reads, ReadsInto, ReadsRows};
 use crate::Answer;
 use crate::MAX_WORDS;
 use crate::MIN_WORDS;
@@ -54,6 +54,26 @@ pub fn read_rows(words: &[u16]) -> [[u8; ROW_BYTES]; SLOTS]
         return rows_in(&words[USER..n - 1]);
     }
     [[0; ROW_BYTES]; SLOTS]
+}
+
+// Reads a packet's numbers, and its rows into a lent array, which a refusal leaves as it is.
+pub fn read_into(words: &[u16], rows: &mut [[u8; ROW_BYTES]; SLOTS]) -> Answer
+    ensures { λ r. ⌜ ReadsInto (now (words .entry)) (now (rows .entry)) r (now (rows .exit)) ⌝ }
+{
+    let verdict = judge(words);
+    let refusal = refusal::told(verdict);
+    match verdict {
+        Verdict::Accepted => {
+            let n = words.len();
+            let packet = packet_in(&words[USER..n - 1]);
+            *rows = rows_in(&words[USER..n - 1]);
+            Answer { refusal, packet }
+        }
+        Verdict::Refused(_, _) => {
+            let packet = nothing();
+            Answer { refusal, packet }
+        }
+    }
 }
 
 // 01, "Which refusal comes first": the whole order of reading a packet.

@@ -6,7 +6,7 @@ ghost use lib.ListN.{length, take};
 ghost use Rattle.lists.specs.Room.{over};
 ghost use Rattle.anc.specs.Words.{wordOf, byteOf};
 ghost use Rattle.refusal.specs.declared.Verdict.the-variants.{Accepted};
-ghost use Rattle.sdp.specs.Value.{descriptor as Value·descriptor, held, beside};
+ghost use Rattle.sdp.specs.Value.{descriptor as Value·descriptor, Typed, held, beside};
 ghost use Rattle.sdp.specs.Layout.{count as Layout·count, structures, footer};
 ghost use Rattle.subtitling.specs.Layout.{layout};
 ghost use Rattle.subtitling.specs.Writing.{valueVerdict, sealed, Writes};
@@ -25,6 +25,14 @@ use sdp::STRUCTURE_WORDS;
 pub fn write(p: Packet, rows: [[u8; ROW_BYTES]; SLOTS], out: &mut [u16]) -> Written
     ensures { λ r. ⌜ Writes p rows (now (out .entry)) r (now (out .exit)) ⌝ }
 {
+    write_from(p, &rows, out)
+}
+
+// The same with the rows in a lent array.
+pub fn write_from(p: Packet, rows: &[[u8; ROW_BYTES]; SLOTS], out: &mut [u16]) -> Written
+    ensures { λ r. ⌜ Writes p (now (rows .entry)) (now (out .entry)) r (now (out .exit)) ⌝ }
+{
+    by_types(p, *rows);
     let refusal = refusal::told(judge_value(p, rows, out.len()));
     if refusal.number != 0 {
         return Written { refusal, len: 0 };
@@ -36,9 +44,15 @@ pub fn write(p: Packet, rows: [[u8; ROW_BYTES]; SLOTS], out: &mut [u16]) -> Writ
     }
 }
 
+// What the types say, told of a lent array too. It does nothing.
+fn by_types(p: Packet, rows: [[u8; ROW_BYTES]; SLOTS])
+    ensures { λ _. ⌜ Typed p rows ⌝ }
+{}
+
 // 01, "Which refusal comes first": 15 of the counter; 15 and 7 of each slot in order; then 1, which five structures cannot meet, then 14.
-fn judge_value(p: Packet, rows: [[u8; ROW_BYTES]; SLOTS], room: usize) -> Verdict
-    ensures { λ r. ⌜ r ≡ valueVerdict (held p rows) room ⌝ }
+fn judge_value(p: Packet, rows: &[[u8; ROW_BYTES]; SLOTS], room: usize) -> Verdict
+    requires { ⌜ Typed p (now rows) ⌝ }
+    ensures { λ r. ⌜ r ≡ valueVerdict (held p (now (rows .entry))) room ⌝ }
 {
     if 65535 < p.counter {
         return Verdict::Refused(Reason::Unholdable(Excess::Counter), Item::Whole);
@@ -59,9 +73,10 @@ fn judge_value(p: Packet, rows: [[u8; ROW_BYTES]; SLOTS], room: usize) -> Verdic
 }
 
 // Stores the layout of a value that was judged: 10 words up to the descriptors, these 5, the structures, 3 of the footer, and the two sums.
-fn put(p: Packet, rows: [[u8; ROW_BYTES]; SLOTS], out: &mut [u16])
-    requires { ⌜ valueVerdict (held p rows) (length (now out)) ≡ Accepted ⌝ }
-    ensures { λ _. ⌜ now (out .exit) ≡ over (layout (held p rows)) (now (out .entry)) ⌝ }
+fn put(p: Packet, rows: &[[u8; ROW_BYTES]; SLOTS], out: &mut [u16])
+    requires { ⌜ Typed p (now rows) ⌝ }
+    requires { ⌜ valueVerdict (held p (now rows)) (length (now out)) ≡ Accepted ⌝ }
+    ensures { λ _. ⌜ now (out .exit) ≡ over (layout (held p (now (rows .entry)))) (now (out .entry)) ⌝ }
 {
     let k = sdp::count(p);
     put_header((13 + STRUCTURE_WORDS * k) as u8, out);
@@ -102,9 +117,10 @@ fn put_descriptors(p: Packet, out: &mut [u16])
 }
 
 // One structure for each descriptor that is not 0, one behind the other.
-fn put_structures(p: Packet, rows: [[u8; ROW_BYTES]; SLOTS], out: &mut [u16])
+fn put_structures(p: Packet, rows: &[[u8; ROW_BYTES]; SLOTS], out: &mut [u16])
+    requires { ⌜ Typed p (now rows) ⌝ }
     requires { ⌜ 45 * Layout·count (map Value·descriptor (p .slots)) ≤ length (now out) ⌝ }
-    ensures { λ _. ⌜ now (out .exit) ≡ over (map wordOf (structures (beside (p .slots) rows))) (now (out .entry)) ⌝ }
+    ensures { λ _. ⌜ now (out .exit) ≡ over (map wordOf (structures (beside (p .slots) (now (rows .entry))))) (now (out .entry)) ⌝ }
 {
     let mut at = 0;
     let mut i = 0;

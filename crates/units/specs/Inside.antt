@@ -1,11 +1,14 @@
 -- What private functions promise each other: what the search keeps on its way. No theorem for a signer speaks of it.
+use Prim.Native.Nat.{ℕ, _+_, _≤_}
 use mathlib.Core.Path.{_≡_}
+use mathlib.Core.Bool.{true}
 use mathlib.Core.List.{List, [], _∷_, _++_}
-use lib.ListN.{length}
+use lib.ListN.{length, drop}
 use Rattle.refusal.specs.declared.Verdict.the-variants.{Accepted}
 use Rattle.units.specs.declared.Found.{Found}
 use Rattle.units.specs.declared.Seen.{Seen}
-use Rattle.units.specs.Split.{Span, foundOf}
+use Rattle.units.specs.Layout.{prefixed}
+use Rattle.units.specs.Split.{Span, foundOf, nextOf}
 
 -- of the units of the kind so far: how many there are, and where the first stands
 abbrev pub seenOf : List Span → Seen
@@ -18,3 +21,9 @@ Notes seen span r = (spans : List Span) → seen ≡ seenOf spans → r ≡ seen
 
 abbrev pub Tells : Seen → Found → Type 0
 Tells seen r = (spans : List Span) → seen ≡ seenOf spans → r ≡ foundOf Accepted spans
+
+-- the promise of `passable`: none is passed where a 00 00 01 begins at i, else so many that the next one is still ahead
+pub record Passes (s : List ℕ) (i r : ℕ) : Type 0 where
+  pub here : r ≡ 0 → prefixed (drop i s) ≡ true
+  pub ahead : (r ≡ 0 → ⊥) → nextOf s i ≡ nextOf s (i + r)
+  pub within : i + r ≤ length s

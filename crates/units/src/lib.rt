@@ -2,11 +2,13 @@
 //
 // Normative references: document 01, "Picture area"; ISO/IEC 13818-2, start codes.
 ghost use mathlib.Core.Path.{_≡_};
-ghost use Prim.Native.Nat.{_<_};
+ghost use Prim.Native.Nat.{_+_, _<_};
+ghost use lib.ListN.{length};
 ghost use Rattle.kind.specs.Ours.{ours};
 ghost use Rattle.units.specs.Layout.{started};
 ghost use Rattle.units.specs.Split.{frontVerdict, nextOf, scanOf};
-ghost use Rattle.units.specs.Inside.{Notes, Tells};
+ghost use Rattle.units.specs.Inside.{Notes, Passes, Tells};
+use blocks::BLOCK;
 use kind::Kind;
 use refusal::Item;
 use refusal::Reason;
@@ -63,19 +65,12 @@ pub fn scan(s: &[u8], kind: Kind) -> Found
         let mut next = s.len();
         let mut i = body;
         while i + 2 < s.len() {
-            let third = s[i + 2];
-            if 1 < third {
-                // A byte above 1 rules out three places.
-                i += 3;
-            } else if third == 0 {
-                i += 1;
-            } else if s[i + 1] == 0 && s[i] == 0 {
+            let passed = passable(s, i);
+            if passed == 0 {
                 next = i;
                 break;
-            } else {
-                // So does a 1 without two zeros before it.
-                i += 3;
             }
+            i += passed;
         }
         let unit = at;
         at = next;
@@ -149,6 +144,33 @@ fn told(seen: Seen) -> Found
     Found::Many(seen.count)
 }
 
+// How many places from i on can be passed, since no 00 00 01 begins at any of them: none where one begins at i.
+fn passable(s: &[u8], i: usize) -> usize
+    requires { ⌜ i + 2 < length (now s) ⌝ }
+    ensures { λ r. ⌜ Passes (now (s .entry)) i r ⌝ }
+{
+    // Where 32 third bytes have no 1 among them, none of the 32 places has one. It is asked once in 32 bytes, since near a 1 it would be
+    // asked in vain.
+    if i % BLOCK < 3 {
+        if blocks::lacks(s, i + 2, 1) {
+            return BLOCK;
+        }
+    }
+    let third = s[i + 2];
+    if 1 < third {
+        // A byte above 1 rules out three places.
+        return 3;
+    }
+    if third == 0 {
+        return 1;
+    }
+    if s[i + 1] == 0 && s[i] == 0 {
+        return 0;
+    }
+    // So does a 1 without two zeros before it.
+    3
+}
+
 // The first 00 00 01 from index `from` on, or the end: where the unit ends in whose body `from` lies.
 pub fn next(s: &[u8], from: usize) -> usize
     ensures { λ r. ⌜ r ≡ nextOf (now (s .entry)) from ⌝ }
@@ -158,16 +180,11 @@ pub fn next(s: &[u8], from: usize) -> usize
         if s.len() - i < 3 {
             return s.len();
         }
-        let third = s[i + 2];
-        if 1 < third {
-            i += 3;
-        } else if third == 0 {
-            i += 1;
-        } else if s[i + 1] == 0 && s[i] == 0 {
+        let passed = passable(s, i);
+        if passed == 0 {
             return i;
-        } else {
-            i += 3;
         }
+        i += passed;
     }
     i
 }

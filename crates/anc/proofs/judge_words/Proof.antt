@@ -1,99 +1,15 @@
--- `anc::judge_words` meets its contract. The loop's invariant: the words from i on decide as all of them do.
+-- `anc::judge_words` meets its contract: a yes of the quick look vouches for the words, and after a no the search decides.
 -- Assumes nothing.
-use Prim.Native.Nat.{ℕ, _+_, _-_, _≤_, _<_}
-use native.Mathlib.Numerals.{add-one}
-use mathlib.Core.Path.{_≡_, _∙_, ap, sym, refl}
-use mathlib.Core.List.{List}
+use mathlib.Core.Path.{sym}
 use borrow.Author.Needs.{needs}
-use borrow.Author.Tests.{eq-eqb, ne-eqb, lt-ltb, le-ltb}
-use denote.Ref.{now}
-use lib.ListN.{length, take, getD, drop-of-length-le}
-use lib.Seq.{take-nil}
-use Rattle.lists.specs.Part.{part}
-use Rattle.lists.proofs.Part.{part-cons, part-none}
-use Rattle.refusal.specs.declared.Verdict.{Verdict}
-use Rattle.refusal.specs.declared.Verdict.the-variants.{Accepted}
-use Rattle.refusal.specs.Checks.{andThen}
-use Rattle.anc.specs.Words.{wordVerdict, wordsVerdict}
 use Rattle.anc.proofs.judge_words.Statement.{statement}
 use Rattle.anc.proofs.judge_words.Tie as tie
 
--- the words from index i up to index to
-abbrev judged : List ℕ → ℕ → ℕ → Verdict
-judged ws to i = wordsVerdict i (part i to ws)
+vouched : tie.Need-returns
+vouched c = sym (c .before .are-words .ensures (c .if1 .taken))
 
-module _ (ws : List ℕ) (to i : ℕ) where
-  -- the word at i decides, then those behind it
-  judged-next : i < to → i < length ws → judged ws to i ≡ andThen (wordVerdict i (getD ws i 0)) (judged ws to (i + 1))
-  judged-next more inside =
-      ap (wordsVerdict i) (part-cons ws 0 i to more inside)
-      ∙ ap (λ (k : ℕ). andThen (wordVerdict i (getD ws i 0)) (wordsVerdict k (part (i + 1) to ws))) (sym (add-one i))
-
-  -- behind the last word there is none
-  judged-past : length ws ≤ i → judged ws to i ≡ Accepted
-  judged-past past = ap (λ (l : List ℕ). wordsVerdict i (take (to - i) l)) (drop-of-length-le ws past) ∙ ap (wordsVerdict i) (take-nil (to - i))
-
-  judged-none : to ≤ i → judged ws to i ≡ Accepted
-  judged-none done = ap (wordsVerdict i) (part-none ws i to done)
-
-abbrev Inv-loop : tie.InvT-loop
-Inv-loop words from to i₀ i = judged words to from ≡ judged words to i
-
-abbrev μ-loop : tie.MeasureT-loop
-μ-loop words from to i₀ i = to - i
-
--- in a turn, the word at i decides first
-turn : (c : tie.Else1 Inv-loop μ-loop)
-    → let args = c .before .before .before .before .args in
-    let words = now (args .words) in
-    let i = c .before .before .loop .i in
-    judged words (args .to) (args .from) ≡ andThen (wordVerdict i (getD words i 0)) (judged words (args .to) (i + 1))
-turn c =
-    let args = c .before .before .before .before .args in
-    c .before .before .loop .inv
-    ∙ judged-next (now (args .words)) (args .to) (c .before .before .loop .i) (c .before .loop-test .taken) (c .if1 .left)
-
--- beyond the end of the slice
-past-end : tie.Need-returns Inv-loop μ-loop
-past-end c =
-    let args = c .before .before .before .before .args in
-    sym (c .before .before .loop .inv ∙ judged-past (now (args .words)) (args .to) (c .before .before .loop .i) (c .if1 .taken))
-
-out-of-range : tie.Need-returns-2 Inv-loop μ-loop
-unfolding wordVerdict
-out-of-range c = sym (turn (c .before .before) ∙ simp (lt-ltb _ _ (c .if2 .taken)))
-
-wrong-parity : tie.Need-returns-3 Inv-loop μ-loop
-unfolding wordVerdict
-wrong-parity c =
-    sym
-    (turn (c .before .before .before .before)
-    ∙ simp (le-ltb _ _ (c .before .before .if2 .left), ne-eqb _ _ (λ e. c .if3 .taken (e ∙ sym (c .before .word .ensures)))))
-
-loop-again : tie.Need-loop-again Inv-loop μ-loop
-unfolding wordVerdict
-loop-again c = turn (c .before .before .before .before) ∙ simp (le-ltb _ _ (c .before .before .if2 .left), eq-eqb _ _ (c .if3 .left ∙ c .before .word .ensures))
-
-all-judged : tie.Need-returns-4 Inv-loop μ-loop
-all-judged c =
-    let args = c .before .before .before .args in
-    sym (c .before .loop .inv ∙ judged-none (now (args .words)) (args .to) (c .before .loop .i) (c .loop-test .left))
+searched : tie.Need-returns-2
+searched c = c .first-wrong .ensures
 
 pub judge-words-spec : {M : Type 1} → statement M
-judge-words-spec =
-    tie.close
-    (tie.spec
-    Inv-loop
-    μ-loop
-    (λ c. refl)
-    past-end
-    (λ c. search needs)
-    (λ c. search needs)
-    out-of-range
-    (λ c. search needs)
-    (λ c κs. search needs)
-    wrong-parity
-    (λ c. search needs)
-    (λ c. search needs)
-    loop-again
-    all-judged)
+judge-words-spec = tie.close (tie.spec (λ c κs. search needs) vouched (λ c κs. search needs) searched)

@@ -1,13 +1,18 @@
 -- `bits::first_set` meets its contract. The loop's invariant: the first set byte from i on is the first from `from` on.
 -- Assumes nothing.
-use Prim.Native.Nat.{_-_, _<_}
+use Prim.Native.Nat.{ℕ, _+_, _-_, _≤_, _<_}
 use native.Mathlib.Omega.{arith}
 use mathlib.Core.Path.{_≡_, _∙_, sym, refl}
+use mathlib.Core.Bool.{true}
+use mathlib.Core.List.{List}
 use borrow.Author.Needs.{needs}
 use denote.Ref.{now}
+use lib.Dec.{eqb}
 use lib.ListN.{length, getD}
+use Rattle.blocks.specs.Blocks.{alike}
+use Rattle.blocks.proofs.Every.{block-yes}
 use Rattle.bits.specs.Peek.{firstSet}
-use Rattle.bits.proofs.Runs.{firstSet-here, firstSet-next, firstSet-end}
+use Rattle.bits.proofs.Runs.{firstSet-here, firstSet-next, firstSet-block, firstSet-end}
 use Rattle.bits.proofs.first_set.Statement.{statement}
 use Rattle.bits.proofs.first_set.Tie as tie
 
@@ -17,21 +22,38 @@ Inv-loop s from i₀ i = firstSet s from ≡ firstSet s i
 abbrev μ-loop : tie.MeasureT-loop
 μ-loop s from i₀ i = length s - i
 
-here : tie.Need-returns Inv-loop μ-loop
-here c =
-    let s = now (c .before .before .before .before .args .s) in
+-- 32 zero bytes are passed
+passed : (s : List ℕ) (i : ℕ) → alike s i 0 ≡ true → (i + 32 ≤ length s) × (firstSet s i ≡ firstSet s (i + 32))
+unfolding alike
+passed s i e =
+    let yes = block-yes (λ (x : ℕ). eqb x 0) s i e in
+    (yes .0, firstSet-block s 32 i (yes .0) (yes .1))
+
+block : (c : tie.Then1 Inv-loop μ-loop)
+    → let s = now (c .before .before .before .before .before .args .s) in
     let i = c .before .before .before .loop .i in
-    let set : 0 < getD s i 0 = omega arith in
-    sym (c .before .before .before .loop .inv ∙ firstSet-here s i (c .before .before .loop-test .taken) set)
+    (i + 32 ≤ length s) × (firstSet s i ≡ firstSet s (i + 32))
+block c =
+    let at = c .before .before .before in
+    passed (now (at .before .before .args .s)) (at .loop .i) (sym (c .before .is-all .ensures) ∙ c .if1 .taken)
 
 loop-again : tie.Need-loop-again Inv-loop μ-loop
-loop-again c =
-    let s = now (c .before .before .before .before .args .s) in
-    let i = c .before .before .before .loop .i in
-    c .before .before .before .loop .inv ∙ firstSet-next s i (c .before .before .loop-test .taken) (c .if1 .left)
+loop-again c = c .before .before .before .loop .inv ∙ block c .1
+
+here : tie.Need-returns Inv-loop μ-loop
+here c =
+    let at = c .before .before .before .before .before in
+    let s = now (at .before .before .args .s) in
+    let set : 0 < getD s (at .loop .i) 0 = omega arith in
+    sym (at .loop .inv ∙ firstSet-here s (at .loop .i) (c .before .before .before .before .loop-test .taken) set)
+
+loop-again-2 : tie.Need-loop-again-2 Inv-loop μ-loop
+loop-again-2 c =
+    let at = c .before .before .before .before .before in
+    at .loop .inv ∙ firstSet-next (now (at .before .before .args .s)) (at .loop .i) (c .before .before .before .before .loop-test .taken) (c .if2 .left)
 
 past : tie.Need-returns-2 Inv-loop μ-loop
-past c = sym (c .before .loop .inv ∙ firstSet-end (now (c .before .before .args .s)) (c .before .loop .i) (c .loop-test .left))
+past c = sym (c .before .loop .inv ∙ firstSet-end (now (c .before .before .before .args .s)) (c .before .loop .i) (c .loop-test .left))
 
 pub first-set-spec : {M : Type 1} → statement M
 first-set-spec =
@@ -40,9 +62,13 @@ first-set-spec =
     Inv-loop
     μ-loop
     (λ c. refl)
+    (λ c κs. search needs)
+    (λ c. omega (arith, block c .0))
+    (λ c. omega (arith, block c .0))
+    loop-again
     (λ c. search needs)
     here
     (λ c. search needs)
     (λ c. search needs)
-    loop-again
+    loop-again-2
     past)

@@ -12,7 +12,7 @@ use denote.Ref.{now}
 use lib.ListN.{length, List·getD-eq-default}
 use Rattle.kind.specs.Ours.{ours}
 use Rattle.units.specs.Split.{nextOf}
-use Rattle.units.proofs.Reach.{next-here, next-short, three-here, next-zero, next-third, next-second, next-first}
+use Rattle.units.proofs.Reach.{next-here, next-short}
 use Rattle.units.proofs.Steps.{next-within}
 use Rattle.units.proofs.Walk.{Going, front-refused, begins, room, refused, ended, passed-foreign, passed-ours}
 use Rattle.units.proofs.scan.Statement.{statement}
@@ -63,40 +63,11 @@ another-code c =
 loop-holds : tie.Need-loop-holds Inv-loop μ-loop Inv-units μ-units
 loop-holds c = (omega arith, refl, refl)
 
-above-one : tie.Need-loop-again Inv-loop μ-loop Inv-units μ-units
-above-one c =
-    let turn = c .before .before in
-    let at = turn .before in
-    let s = area (at .before .before .before .before .before) in
-    let third = c .if3 .taken in (
-      omega arith,
-      at .loop .inv .1,
-      at .loop .inv .2 ∙ next-third s (at .loop .i) (turn .loop-test .taken) (λ e. omega arith) (λ e. omega arith),
-    )
-
-one-further : tie.Need-loop-again-2 Inv-loop μ-loop Inv-units μ-units
-one-further c =
-    let turn = c .before .before .before in
-    let at = turn .before in
-    let s = area (at .before .before .before .before .before) in
-    (omega arith, at .loop .inv .1, at .loop .inv .2 ∙ next-zero s (at .loop .i) (turn .loop-test .taken) (c .if4 .taken))
-
-three-further : tie.Need-loop-again-3 Inv-loop μ-loop Inv-units μ-units
-three-further c =
-    let turn = c .before .before .before .before .before in
-    let at = turn .before in
-    let s = area (at .before .before .before .before .before) in
-    let i = at .loop .i in
-    let three = turn .loop-test .taken in
-    let other = c .before .before .if4 .left in (
-      omega arith,
-      at .loop .inv .1,
-      at .loop .inv .2
-          ∙ ⊎-elim
-          (λ w. next-first s i three other (eqb-false _ _ (w .2 .left)))
-          (λ w. next-second s i three other (w .left))
-          (c .if5 .came),
-    )
+loop-again : tie.Need-loop-again Inv-loop μ-loop Inv-units μ-units
+loop-again c =
+    let at = c .before .before .before in
+    let passed = c .before .passable .ensures in
+    (passed .within, at .loop .inv .1, at .loop .inv .2 ∙ passed .ahead (c .if3 .left))
 
 -- behind it
 module _ (c : tie.Left-loop Inv-loop μ-loop Inv-units μ-units) where
@@ -110,7 +81,7 @@ module _ (c : tie.Left-loop Inv-loop μ-loop Inv-units μ-units) where
       let inv = c .before .loop .inv in
       ⊎-elim
       (λ w. w .1 ∙ inv .1 ∙ sym (inv .2 ∙ next-short s i (inv .0) (w .0 .left)))
-      (λ w. w .8 ∙ sym (inv .2 ∙ next-here s i (three-here s i (w .0 .taken) (eqb-true _ _ (w .7 .taken)) (w .5 .taken) (omega (arith, w .2 .left, w .3 .left)))))
+      (λ w. w .3 ∙ sym (inv .2 ∙ next-here s i (w .1 .ensures .here (w .2 .taken))))
       (c .loop-test .came)
 
   fits : walk .units .at + 3 < length (area walk)
@@ -123,7 +94,7 @@ units-again : tie.Need-units-again Inv-loop μ-loop Inv-units μ-units
 units-again c =
     let left = c .before .before .before .before in
     passed-foreign (walk left .units .inv) (fits left) (left .before .before .if2 .left) (left .loop-test .next) (stands left)
-    (sym (c .before .ours .ensures) ∙ not-true _ (c .if7 .taken))
+    (sym (c .before .ours .ensures) ∙ not-true _ (c .if4 .taken))
 
 noted-requires : tie.Need-noted-requires Inv-loop μ-loop Inv-units μ-units
 noted-requires c κs =
@@ -135,7 +106,7 @@ units-again-2 c =
     let left = c .before .before .before .before .before in
     passed-ours (walk left .units .inv) (fits left) (left .before .before .if2 .left) (left .loop-test .next) (stands left)
     (c .noted .result)
-    (sym (c .before .before .ours .ensures) ∙ not-false _ (c .before .if7 .left))
+    (sym (c .before .before .ours .ensures) ∙ not-false _ (c .before .if4 .left))
     (c .noted .ensures)
 
 returns : tie.Need-returns-4 Inv-loop μ-loop Inv-units μ-units
@@ -164,20 +135,10 @@ scan-spec =
     (λ c. search needs)
     loop-holds
     (λ c. search needs)
-    (λ c. search needs)
-    (λ c. search needs)
-    (λ c. search needs)
-    (λ c. search needs)
-    above-one
-    (λ c. search needs)
-    (λ c. search needs)
-    one-further
-    (λ c. search needs)
-    (λ c. search needs)
-    (λ c. search needs)
-    (λ c. search needs)
-    (λ c. search needs)
-    three-further
+    (λ c κs. search needs)
+    (λ c. omega (arith, c .before .passable .ensures .within))
+    (λ c. omega (arith, c .if3 .left, c .before .passable .ensures .within))
+    loop-again
     (λ c. omega (arith, bounds (c .before)))
     (λ c. omega (arith, bounds (c .before)))
     (λ c. omega (arith, bounds (c .before)))

@@ -9,6 +9,7 @@ use borrow.Author.Needs.{needs}
 use denote.Ref.{now}
 use lib.ListN.{length, getD, drop}
 use lib.Seq.{drop-drop}
+use Rattle.lists.proofs.Flat.{getD-taken}
 use Rattle.refusal.specs.declared.Refusal.{Refusal}
 use Rattle.refusal.specs.declared.Verdict.{Verdict}
 use Rattle.refusal.specs.declared.Verdict.the-variants.{Accepted}
@@ -18,7 +19,7 @@ use Rattle.line21.specs.Value.{blank}
 use Rattle.line21.specs.Reading.{readUnit, unitCount, valueOf}
 use Rattle.line21.proofs.Answers.{oneOf, one-there, one-beyond, one-refused}
 use Rattle.line21.proofs.Length.{accepted-whole}
-use Rattle.line21.proofs.Units.{getD-readUnits, length-readUnits}
+use Rattle.line21.proofs.Units.{length-readUnits}
 use Rattle.line21.proofs.reading.read_unit.Statement.{statement}
 use Rattle.line21.proofs.reading.read_unit.Tie as tie
 
@@ -26,7 +27,7 @@ counted : (s : List ℕ) → length (valueOf s .units) ≡ unitCount (length s)
 counted s = length-readUnits (unitCount (length s)) (drop 1 s)
 
 unit-there : (s : List ℕ) (i : ℕ) → i < unitCount (length s) → getD (valueOf s .units) i blank ≡ readUnit (drop (1 + 5 * i) s)
-unit-there s i h = getD-readUnits (unitCount (length s)) i (drop 1 s) h ∙ ap readUnit (drop-drop (5 * i) 1 s)
+unit-there s i h = getD-taken readUnit 5 blank (unitCount (length s)) i (drop 1 s) h ∙ ap readUnit (drop-drop (5 * i) 1 s)
 
 no-unit : Refusal → Refusal × List AccessUnit
 no-unit refusal = (refusal, [])

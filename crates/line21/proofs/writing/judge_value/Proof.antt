@@ -1,15 +1,19 @@
 -- `line21::writing::judge_value` meets its contract. The loop's invariant: the units from i on decide as all of them do.
 -- Assumes nothing.
-use Prim.Native.Nat.{_+_, _-_, _*_, _≤_, _<_}
+use Prim.Native.Nat.{ℕ, _+_, _-_, _*_, _≤_, _<_}
 use native.Mathlib.Omega.{arith}
-use mathlib.Core.Path.{_≡_, _∙_, ap, ap₂, sym, refl}
+use mathlib.Core.Path.{_≡_, _∙_, ap, sym, refl}
 use mathlib.Core.Bool.{Bool}
 use mathlib.Core.List.{List, []}
 use borrow.Author.Needs.{needs}
 use borrow.Author.Tests.{lt-ltb, le-ltb}
+use denote.Ref.{now}
 use lib.Dec.{ltb}
-use lib.ListN.{length, drop, getD, drop-of-length-le}
+use lib.ListN.{length, drop, drop-of-length-le}
 use lib.Seq.{getD-take}
+use Rattle.lists.specs.Bytes.{Bytes}
+use Rattle.lists.proofs.Each.{each-of}
+use Rattle.lists.proofs.Flat.{length-taken}
 use Rattle.refusal.specs.declared.Verdict.{Verdict}
 use Rattle.refusal.specs.declared.Reason.the-variants.{NoRoom}
 use Rattle.refusal.specs.declared.Item.the-variants.{Whole}
@@ -17,89 +21,111 @@ use Rattle.refusal.specs.Checks.{refuseIf, andThen}
 use Rattle.line21.specs.declared.AccessUnit.{AccessUnit}
 use Rattle.line21.specs.Value.{blank, held}
 use Rattle.line21.specs.Writing.{unitVerdict, unitsVerdict, valueVerdict}
-use Rattle.line21.proofs.Types.{typed}
+use Rattle.line21.specs.Lent.{unitIn, payloadIn}
 use Rattle.line21.proofs.Numbers.{length-held, units-from, verdict-few}
+use Rattle.line21.proofs.LentUnits.{unit-there}
 use Rattle.line21.proofs.writing.judge_value.Statement.{statement}
 use Rattle.line21.proofs.writing.judge_value.Tie as tie
 
+-- the units that are judged
+abbrev judged : ℕ → List ℕ → List AccessUnit
+judged m units = held (payloadIn 0 m units) .units
+
 abbrev Inv-loop : tie.InvT-loop
-Inv-loop room p i₀ i = (i ≤ p .m) × (unitsVerdict (held p .units) ≡ unitsVerdict (drop i (held p .units)))
+Inv-loop m units room i₀ i = (i ≤ m) × (unitsVerdict (judged m units) ≡ unitsVerdict (drop i (judged m units)))
 
 abbrev μ-loop : tie.MeasureT-loop
-μ-loop room p i₀ i = p .m - i
+μ-loop m units room i₀ i = m - i
 
-room : (c : tie.Start Inv-loop μ-loop) → length (c .args .t1 .units) ≡ 291
-room c = typed (c .args .t1) _ (c .good .0) .places
+bytes : (c : tie.After-shared-slice-known Inv-loop μ-loop) → Bytes (now (c .before .args .units))
+bytes c = each-of (λ (b : ℕ). b < 256) 0 (now (c .before .args .units)) (λ i h. omega (arith, c .shared-slice-known .given i))
 
 -- the code's first test was passed
-few : (c : tie.At-loop Inv-loop μ-loop) → c .before .before .args .t1 .m ≤ 291
-few c = c .before .if1 .left
+module _ (m : ℕ) (units : List ℕ) (few : m ≤ 291) where
+  places : length (judged m units) ≡ m
+  places = length-held (payloadIn 0 m units) (length-taken unitIn 7 291 units) few
 
--- what the checks say of the value, as long as no unit was refused
-told : (c : tie.At-loop Inv-loop μ-loop) → valueVerdict (c .before .before .args .t1) (c .before .before .args .room) ≡ andThen (unitsVerdict (drop (c .loop .i) (held (c .before .before .args .t1) .units))) (refuseIf (ltb (c .before .before .args .room) (1 + 5 * c .before .before .args .t1 .m)) NoRoom Whole)
-told c =
-    let start = c .before .before in
-    verdict-few (start .args .t1) (room start) (few c) (start .args .room)
-    ∙ ap (λ (v : Verdict). andThen v (refuseIf (ltb (start .args .room) (1 + 5 * start .args .t1 .m)) NoRoom Whole)) (c .loop .inv .1)
+  -- in a turn, the unit at i decides first
+  split : (i : ℕ) → i < m → unitsVerdict (drop i (judged m units)) ≡ andThen (unitVerdict (unitIn (drop (7 * i) units))) (unitsVerdict (drop (i + 1) (judged m units)))
+  split i below =
+      let inside : i < length (judged m units) = omega (arith, places) in
+      let near : i < 291 = omega arith in
+      units-from (judged m units) i inside
+      ∙ ap (λ (u : AccessUnit). andThen (unitVerdict u) (unitsVerdict (drop (i + 1) (judged m units))))
+      (getD-take m (payloadIn 0 m units .units) i blank below ∙ unit-there units i near)
 
--- in a turn, the unit at i decides first
-split : (c : tie.In-loop Inv-loop μ-loop) → unitsVerdict (drop (c .before .loop .i) (held (c .before .before .before .args .t1) .units)) ≡ andThen (unitVerdict (getD (c .before .before .before .args .t1 .units) (c .before .loop .i) blank)) (unitsVerdict (drop (c .before .loop .i + 1) (held (c .before .before .before .args .t1) .units)))
-split c =
-    let p = c .before .before .before .args .t1 in
-    let i = c .before .loop .i in
-    let below : i < p .m = omega arith in
-    let inside : i < length (held p .units) = omega (arith, length-held p (room (c .before .before .before)) (few (c .before))) in
-    units-from (held p .units) i inside
-    ∙ ap (λ (u : AccessUnit). andThen (unitVerdict u) (unitsVerdict (drop (i + 1) (held p .units)))) (getD-take (p .m) (p .units) i blank below)
+  -- what the checks say of the value, as long as no unit was refused
+  told : (room i : ℕ) → unitsVerdict (judged m units) ≡ unitsVerdict (drop i (judged m units))
+      → valueVerdict (payloadIn 0 m units) room ≡ andThen (unitsVerdict (drop i (judged m units))) (refuseIf (ltb room (1 + 5 * m)) NoRoom Whole)
+  told room i e =
+      verdict-few (payloadIn 0 m units) (length-taken unitIn 7 291 units) few room
+      ∙ ap (λ (v : Verdict). andThen v (refuseIf (ltb room (1 + 5 * m)) NoRoom Whole)) e
 
--- after the loop no unit is left
-none-left : (c : tie.After-loop Inv-loop μ-loop) → drop (c .before .loop .i) (held (c .before .before .before .args .t1) .units) ≡ []
-none-left c =
-    let p = c .before .before .before .args .t1 in
-    let past : length (held p .units) ≤ c .before .loop .i = omega (arith, length-held p (room (c .before .before .before)) (few (c .before))) in
-    drop-of-length-le (held p .units) past
+  -- after the loop no unit is left
+  none-left : (i : ℕ) → m ≤ i → drop i (judged m units) ≡ []
+  none-left i past = let all : length (judged m units) ≤ i = omega (arith, places) in drop-of-length-le (judged m units) all
 
 returns : tie.Need-returns Inv-loop μ-loop
 unfolding valueVerdict
-returns c = simp (lt-ltb _ _ (c .if1 .taken))
+returns c = (simp (lt-ltb _ _ (c .if1 .taken)), bytes (c .before))
 
 loop-holds : tie.Need-loop-holds Inv-loop μ-loop
 loop-holds c = (omega arith, refl)
 
+unit-from-requires : tie.Need-unit-from-requires Inv-loop μ-loop
+unit-from-requires c κs = omega arith
+
 returns-2 : tie.Need-returns-2 Inv-loop μ-loop
 returns-2 c =
     let turn = c .before .before .before .before in
-    let start = turn .before .before .before in
+    let known = turn .before .before .before in
+    let m = known .before .args .m in
+    let units = now (known .before .args .units) in
     let i = turn .before .loop .i in
-    let judged = c .enum-told .given .1 in
-    let rest = unitsVerdict (drop (i + 1) (held (start .args .t1) .units)) in
-    let space = refuseIf (ltb (start .args .room) (1 + 5 * start .args .t1 .m)) NoRoom Whole in
-    judged
-    ∙ ap (λ (v : Verdict). andThen (andThen v rest) space) (sym judged ∙ c .before .before .judge-unit .ensures)
-    ∙ ap (λ (v : Verdict). andThen v space) (sym (split turn))
-    ∙ sym (told (turn .before))
+    let few = turn .before .before .if1 .left in
+    let judged-here = c .enum-told .given .1 in
+    let rest = unitsVerdict (drop (i + 1) (judged m units)) in
+    let space = refuseIf (ltb (known .before .args .room) (1 + 5 * m)) NoRoom Whole in (
+      judged-here
+          ∙ ap (λ (v : Verdict). andThen (andThen v rest) space)
+          (sym judged-here ∙ c .before .before .judge-unit .ensures ∙ ap unitVerdict (c .before .before .before .unit-from .ensures))
+          ∙ ap (λ (v : Verdict). andThen v space) (sym (split m units few i (turn .loop-test .taken)))
+          ∙ sym (told m units few (known .before .args .room) i (turn .before .loop .inv .1)),
+      bytes known,
+    )
 
 loop-again : tie.Need-loop-again Inv-loop μ-loop
 loop-again c =
     let turn = c .before .before .before .before in
-    let start = turn .before .before .before in
-    let rest = unitsVerdict (drop (turn .before .loop .i + 1) (held (start .args .t1) .units)) in (
+    let start = turn .before .before .before .before in
+    let m = start .args .m in
+    let units = now (start .args .units) in
+    let i = turn .before .loop .i in (
       omega arith,
-      turn .before .loop .inv .1 ∙ split turn
-          ∙ ap (λ (v : Verdict). andThen v rest) (sym (c .before .before .judge-unit .ensures) ∙ c .enum-told2 .given .1),
+      turn .before .loop .inv .1
+          ∙ split m units (turn .before .before .if1 .left) i (turn .loop-test .taken)
+          ∙ ap (λ (v : Verdict). andThen v (unitsVerdict (drop (i + 1) (judged m units))))
+          (sym (c .before .before .judge-unit .ensures ∙ ap unitVerdict (c .before .before .before .unit-from .ensures)) ∙ c .enum-told2 .given .1),
     )
 
+-- after the loop the room decides
+past : (c : tie.After-loop Inv-loop μ-loop)
+    → valueVerdict (payloadIn 0 (c .before .before .before .before .args .m) (now (c .before .before .before .before .args .units))) (c .before .before .before .before .args .room)
+    ≡ refuseIf (ltb (c .before .before .before .before .args .room) (1 + 5 * c .before .before .before .before .args .m)) NoRoom Whole
+past c =
+    let start = c .before .before .before .before in
+    let m = start .args .m in
+    let units = now (start .args .units) in
+    let few = c .before .before .if1 .left in
+    told m units few (start .args .room) (c .before .loop .i) (c .before .loop .inv .1)
+    ∙ ap (λ (us : List AccessUnit). andThen (unitsVerdict us) (refuseIf (ltb (start .args .room) (1 + 5 * m)) NoRoom Whole))
+    (none-left m units few (c .before .loop .i) (c .loop-test .left))
+
 returns-3 : tie.Need-returns-3 Inv-loop μ-loop
-returns-3 c =
-    sym
-    (told (c .before .before)
-    ∙ ap₂ (λ (us : List AccessUnit) (t : Bool). andThen (unitsVerdict us) (refuseIf t NoRoom Whole)) (none-left (c .before)) (lt-ltb _ _ (c .if2 .taken)))
+returns-3 c = (sym (past (c .before) ∙ ap (λ (t : Bool). refuseIf t NoRoom Whole) (lt-ltb _ _ (c .if2 .taken))), bytes (c .before .before .before .before))
 
 returns-4 : tie.Need-returns-4 Inv-loop μ-loop
-returns-4 c =
-    sym
-    (told (c .before .before)
-    ∙ ap₂ (λ (us : List AccessUnit) (t : Bool). andThen (unitsVerdict us) (refuseIf t NoRoom Whole)) (none-left (c .before)) (le-ltb _ _ (c .if2 .left)))
+returns-4 c = (sym (past (c .before) ∙ ap (λ (t : Bool). refuseIf t NoRoom Whole) (le-ltb _ _ (c .if2 .left))), bytes (c .before .before .before .before))
 
 pub judge-value-spec : {M : Type 1} → statement M
 judge-value-spec =
@@ -109,8 +135,7 @@ judge-value-spec =
     μ-loop
     returns
     loop-holds
-    (λ c. omega arith)
-    (λ c. omega arith)
+    unit-from-requires
     (λ c κs. search needs)
     (λ c. search needs)
     returns-2

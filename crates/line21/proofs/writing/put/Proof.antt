@@ -2,89 +2,109 @@
 -- Assumes nothing.
 use Prim.Native.Nat.{ℕ, _+_, _-_, _*_, _≤_, _<_}
 use native.Mathlib.Omega.{arith}
-use mathlib.Core.Path.{_≡_, _∙_, ap, sym}
+use mathlib.Core.Path.{_≡_, _∙_, ap, ap₂, sym}
 use mathlib.Core.List.{List, [], _∷_, _++_}
 use denote.Ref.{now}
 use borrow.Rule.Slice.PartMut.{putMid}
 use lib.ListN.{length, take, drop, getD, set, length-set, length-drop}
 use lib.Seq.{length-take-le, getD-take, sets-eq, drop-set-lt}
 use Rattle.lists.specs.Room.{over}
+use Rattle.lists.proofs.Flat.{length-taken}
 use Rattle.lists.proofs.Lay.{length-over, over-more, rest-whole}
+use Rattle.refusal.specs.declared.Verdict.the-variants.{Accepted}
+use Rattle.line21.specs.declared.AccessUnit.{AccessUnit}
 use Rattle.line21.specs.declared.Payload.{Payload}
 use Rattle.line21.specs.Value.{blank, held}
 use Rattle.line21.specs.Layout.{layout, layoutUnit, layoutUnits}
 use Rattle.line21.specs.Writing.{unitVerdict}
+use Rattle.line21.specs.Lent.{unitIn, unitsIn, payloadIn}
 use Rattle.line21.proofs.Layouts.{length-layoutUnits, layoutUnits-more}
-use Rattle.line21.proofs.Types.{typed}
 use Rattle.line21.proofs.Numbers.{Writable, accepted-value, length-held, length-layout-held, units-accepted-at}
+use Rattle.line21.proofs.LentUnits.{unit-there}
 use Rattle.line21.proofs.writing.put.Statement.{statement}
 use Rattle.line21.proofs.writing.put.Tie as tie
 
 -- what the first i units have laid so far
-abbrev front : Payload → ℕ → List ℕ
-front p i = p .flags ∷ layoutUnits (take i (p .units))
+abbrev front : ℕ → List ℕ → ℕ → List ℕ
+front flags units i = flags ∷ layoutUnits (take i (unitsIn units))
 
 abbrev Inv-loop : tie.InvT-loop
-Inv-loop out₀ p i₀ out i = (i ≤ p .m) × (out ≡ over (front p i) out₀)
+Inv-loop flags m units out₀ i₀ out i = (i ≤ m) × (out ≡ over (front flags units i) out₀)
 
 abbrev μ-loop : tie.MeasureT-loop
-μ-loop out₀ p i₀ out i = p .m - i
+μ-loop flags m units out₀ i₀ out i = m - i
 
-room : (c : tie.Start Inv-loop μ-loop) → length (c .args .t1 .units) ≡ 291
-room c = typed (c .args .t1) _ (c .good .0) .places
+places : (units : List ℕ) → length (unitsIn units) ≡ 291
+places units = length-taken unitIn 7 291 units
 
-writable : (c : tie.Start Inv-loop μ-loop) → Writable (c .args .t1) (length (now (c .args .out)))
-writable c = accepted-value (c .args .t1) (length (now (c .args .out))) (c .pre)
+length-front : (flags : ℕ) (units : List ℕ) (i : ℕ) → i ≤ 291 → length (front flags units i) ≡ 1 + 5 * i
+length-front flags units i h =
+    let inside : i ≤ length (unitsIn units) = omega (arith, places units) in
+    omega (arith, length-layoutUnits (take i (unitsIn units)), length-take-le i (unitsIn units) inside)
 
--- the result fits the output
-long : (c : tie.Start Inv-loop μ-loop) → 1 + 5 * c .args .t1 .m ≤ length (now (c .args .out))
-long c = omega (arith, writable c .fits, length-layout-held (c .args .t1) (room c) (writable c .few))
+module _ (c : tie.Start Inv-loop μ-loop) where
+  abbrev p : Payload
+  p = payloadIn (c .args .flags) (c .args .m) (now (c .args .units))
 
-length-front : (p : Payload) (i : ℕ) → i ≤ length (p .units) → length (front p i) ≡ 1 + 5 * i
-length-front p i h = omega (arith, length-layoutUnits (take i (p .units)), length-take-le i (p .units) h)
+  writable : Writable p (length (now (c .args .out)))
+  writable = accepted-value p (length (now (c .args .out))) (c .pre .1)
+
+  -- the result fits the output
+  long : 1 + 5 * c .args .m ≤ length (now (c .args .out))
+  long = omega (arith, writable .fits, length-layout-held p (places (now (c .args .units))) (writable .few))
+
+  -- each unit that is written was judged
+  passed : (i : ℕ) → i < c .args .m → unitVerdict (unitIn (drop (7 * i) (now (c .args .units)))) ≡ Accepted
+  passed i below =
+      let units = unitsIn (now (c .args .units)) in
+      let near : i < 291 = omega (arith, writable .few) in
+      let inside : i < length (held p .units) = omega (arith, length-held p (places (now (c .args .units))) (writable .few)) in
+      ap unitVerdict (sym (getD-take (c .args .m) units i blank below ∙ unit-there (now (c .args .units)) i near))
+      ∙ units-accepted-at (held p .units) (writable .each) i inside
 
 -- what the loop knows of its output at its head
 module _ (c : tie.At-loop Inv-loop μ-loop) where
-  sized : length (front (c .before .before .args .t1) (c .loop .i)) ≡ 1 + 5 * c .loop .i
-  sized = let h : c .loop .i ≤ length (c .before .before .args .t1 .units) = omega (arith, room (c .before .before), writable (c .before .before) .few) in length-front (c .before .before .args .t1) (c .loop .i) h
+  abbrev start : tie.Start Inv-loop μ-loop
+  start = c .before .before .before
 
-  kept : length (c .loop .out) ≡ length (now (c .before .before .args .out))
+  sized : length (front (start .args .flags) (now (start .args .units)) (c .loop .i)) ≡ 1 + 5 * c .loop .i
+  sized = length-front (start .args .flags) (now (start .args .units)) (c .loop .i) (omega (arith, writable start .few))
+
+  kept : length (c .loop .out) ≡ length (now (start .args .out))
   kept =
-      let p = c .before .before .args .t1 in
-      let out = now (c .before .before .args .out) in
-      let same = length-set out 0 (p .flags) in
-      let h : length (front p (c .loop .i)) ≤ length (set out 0 (p .flags)) = omega (arith, sized, long (c .before .before)) in
-      ap length (c .loop .inv .1) ∙ length-over (front p (c .loop .i)) (set out 0 (p .flags)) h ∙ same
+      let flags = start .args .flags in
+      let out = now (start .args .out) in
+      let laid = front flags (now (start .args .units)) (c .loop .i) in
+      let same = length-set out 0 flags in
+      let h : length laid ≤ length (set out 0 flags) = omega (arith, sized, long start) in
+      ap length (c .loop .inv .1) ∙ length-over laid (set out 0 flags) h ∙ same
 
 slice-write-out : tie.Need-slice-write-out Inv-loop μ-loop
-slice-write-out c = omega (arith, long (c .before))
+slice-write-out c = omega (arith, long (c .before .before))
 
 loop-holds : tie.Need-loop-holds Inv-loop μ-loop
 loop-holds c =
-    let out = now (c .before .args .out) in
-    let flags = c .before .args .t1 .flags in (
+    let out = now (c .before .before .args .out) in
+    let flags = c .before .before .args .flags in (
       omega arith,
-      sets-eq (flags ∷ []) out 0 (omega (arith, long (c .before)))
+      sets-eq (flags ∷ []) out 0 (omega (arith, long (c .before .before)))
           ∙ ap (λ (rest : List ℕ). flags ∷ rest) (sym (drop-set-lt 1 out 0 flags (omega arith))),
     )
 
-mul-unit : tie.Need-mul-unit Inv-loop μ-loop
-mul-unit c = omega (arith, writable (c .before .before .before) .few)
-
-element-copy-out-unit : tie.Need-element-copy-out-unit Inv-loop μ-loop
-element-copy-out-unit c = omega (arith, writable (c .before .before .before) .few)
+unit-from-requires : tie.Need-unit-from-requires Inv-loop μ-loop
+unit-from-requires c κs = omega (arith, writable (start (c .before)) .few)
 
 mul-put-unit : tie.Need-mul-put-unit Inv-loop μ-loop
-mul-put-unit c = omega (arith, writable (c .before .before .before .before) .few)
+mul-put-unit c = omega (arith, writable (start (c .before .before)) .few)
 
 add-put-unit : tie.Need-add-put-unit Inv-loop μ-loop
-add-put-unit c = omega (arith, writable (c .before .before .before .before) .few)
+add-put-unit c = omega (arith, writable (start (c .before .before)) .few)
 
 sub-put-unit : tie.Need-sub-put-unit Inv-loop μ-loop
-sub-put-unit c = omega (arith, kept (c .before .before), long (c .before .before .before .before))
+sub-put-unit c = omega (arith, kept (c .before .before), long (start (c .before .before)))
 
 part-put-unit-start : tie.Need-part-put-unit-start Inv-loop μ-loop
-part-put-unit-start c = omega (arith, kept (c .before .before), long (c .before .before .before .before))
+part-put-unit-start c = omega (arith, kept (c .before .before), long (start (c .before .before)))
 
 part-put-unit-end : tie.Need-part-put-unit-end Inv-loop μ-loop
 part-put-unit-end c = omega arith
@@ -92,18 +112,14 @@ part-put-unit-end c = omega arith
 put-unit-requires : tie.Need-put-unit-requires Inv-loop μ-loop
 put-unit-requires c κs =
     let at = c .before .before .before in
-    let start = at .before .before in
-    let p = start .args .t1 in
     let i = at .loop .i in
-    let out = at .loop .out in
-    let below : i < p .m = omega arith in
-    let inside : i < length (held p .units) = omega (arith, length-held p (room start) (writable start .few)) in (
-      ap unitVerdict (sym (getD-take (p .m) (p .units) i blank below)) ∙ units-accepted-at (held p .units) (writable start .each) i inside,
-      omega (arith, ap length (rest-whole out (1 + 5 * i)), length-drop (1 + 5 * i) out, kept at, long start),
+    let out = at .loop .out in (
+      ap unitVerdict (c .before .unit-from .ensures) ∙ passed (start at) i (c .before .before .loop-test .taken),
+      omega (arith, ap length (rest-whole out (1 + 5 * i)), length-drop (1 + 5 * i) out, kept at, long (start at)),
     )
 
 add-i : tie.Need-add-i Inv-loop μ-loop
-add-i c = omega (arith, writable (c .before .before .before .before .before .before .before .before) .few)
+add-i c = omega (arith, writable (start (c .before .before .before .before .before .before)) .few)
 
 loop-less : tie.Need-loop-less Inv-loop μ-loop
 loop-less c = omega arith
@@ -111,18 +127,23 @@ loop-less c = omega arith
 loop-again : tie.Need-loop-again Inv-loop μ-loop
 loop-again c =
     let at = c .before .before .before .before .before .before in
-    let start = at .before .before in
-    let p = start .args .t1 in
+    let flags = start at .args .flags in
+    let units = now (start at .args .units) in
     let i = at .loop .i in
-    let begun = set (now (start .args .out)) 0 (p .flags) in
+    let begun = set (now (start at .args .out)) 0 flags in
     let part = c .before .before .put-unit .last .1 .0 in
-    let unit = layoutUnit (getD (p .units) i blank) in
-    let inside : i < length (p .units) = omega (arith, room start, writable start .few) in
-    let laid = c .before .before .put-unit .ensures ∙ ap (λ (xs : List ℕ). over unit (take (length xs - (1 + 5 * i)) (drop (1 + 5 * i) xs))) (at .loop .inv .1) in (
+    let near : i < 291 = omega (arith, writable (start at) .few) in
+    let unit : c .before .before .before .before .unit-from .result ≡ getD (unitsIn units) i blank = c .before .before .before .before .unit-from .ensures ∙ sym (unit-there units i near) in
+    let piece = layoutUnit (getD (unitsIn units) i blank) in
+    let inside : i < length (unitsIn units) = omega (arith, places units) in
+    let laid =
+    c .before .before .put-unit .ensures
+    ∙ ap₂ (λ (u : AccessUnit) (xs : List ℕ). over (layoutUnit u) (take (length xs - (1 + 5 * i)) (drop (1 + 5 * i) xs))) unit (at .loop .inv .1)
+    in (
       omega arith,
       ap (λ (xs : List ℕ). putMid (1 + 5 * i) (length xs - (1 + 5 * i)) xs part) (at .loop .inv .1)
-          ∙ over-more (front p i) unit begun part (1 + 5 * i) (sized at) laid
-          ∙ ap (λ (bytes : List ℕ). over (p .flags ∷ bytes) begun) (sym (layoutUnits-more (p .units) i inside)),
+          ∙ over-more (front flags units i) piece begun part (1 + 5 * i) (sized at) laid
+          ∙ ap (λ (bytes : List ℕ). over (flags ∷ bytes) begun) (sym (layoutUnits-more (unitsIn units) i inside)),
     )
 
 same-length : tie.Need-same-length Inv-loop μ-loop
@@ -130,13 +151,14 @@ same-length c = kept (c .before)
 
 returns : tie.Need-returns Inv-loop μ-loop
 returns c =
-    let start = c .before .before .before in
-    let p = start .args .t1 in
-    let out = now (start .args .out) in
-    let all : c .before .loop .i ≡ p .m = omega arith in
-    c .before .loop .inv .1
-    ∙ ap (λ (k : ℕ). over (front p k) (set out 0 (p .flags))) all
-    ∙ ap (λ (rest : List ℕ). layout (held p) ++ rest) (drop-set-lt (length (layout (held p))) out 0 (p .flags) (omega arith))
+    let at = c .before in
+    let out = now (start at .args .out) in
+    let flags = start at .args .flags in
+    let laid = layout (held (p (start at))) in
+    let all : at .loop .i ≡ start at .args .m = omega arith in
+    at .loop .inv .1
+    ∙ ap (λ (k : ℕ). over (front flags (now (start at .args .units)) k) (set out 0 flags)) all
+    ∙ ap (λ (rest : List ℕ). laid ++ rest) (drop-set-lt (length laid) out 0 flags (omega arith))
 
 pub put-spec : {M : Type 1} → statement M
 put-spec =
@@ -146,8 +168,7 @@ put-spec =
     μ-loop
     slice-write-out
     loop-holds
-    mul-unit
-    element-copy-out-unit
+    unit-from-requires
     mul-put-unit
     add-put-unit
     sub-put-unit

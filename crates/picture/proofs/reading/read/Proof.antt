@@ -1,24 +1,27 @@
--- `picture::reading::read` meets its contract: its input is a list of bytes, and the answer is that of what was found.
+-- `picture::reading::read` meets its contract: its answer is made of the numbers and of the records that an array of zeros then holds.
 -- Assumes nothing.
-use Prim.Native.Nat.{ℕ, _<_}
-use native.Mathlib.Omega.{arith}
-use mathlib.Core.Path.{sym}
+use mathlib.Core.Path.{_∙_, ap}
 use borrow.Author.Needs.{needs}
 use denote.Ref.{now}
-use Rattle.lists.proofs.Each.{each-of}
+use Rattle.scte20.specs.declared.CaptionUnit.{CaptionUnit}
+use Rattle.picture.specs.declared.Answer.{Answer}
+use Rattle.picture.specs.declared.Head.{Head}
+use Rattle.picture.proofs.Lending.{into-read}
 use Rattle.picture.proofs.reading.read.Statement.{statement}
 use Rattle.picture.proofs.reading.read.Tie as tie
 
-answer-of-requires : tie.Need-answer-of-requires
-answer-of-requires c κs = sym (c .scan .ensures)
+made : Head → CaptionUnit → Answer
+made head unit = record { refusal = head .refusal; present = head .present; unit = unit }
 
 returns : tie.Need-returns
+unfolding made
 returns c =
-    let known = c .before .before in
+    let read = c .before .before .before .before in
+    let start = read .before .before .before in
     record {
-      bytes = each-of (λ (b : ℕ). b < 256) 0 (now (known .before .args .s)) (λ i h. omega (arith, known .shared-slice-known .given i));
-      answer = c .answer-of .ensures;
+      bytes = read .read-into .ensures .bytes;
+      answer = ap (made (read .read-into .result)) (c .unit-of .ensures) ∙ into-read (now (start .args .s)) (read .read-into .result) _ (read .read-into .ensures);
     }
 
 pub read-spec : {M : Type 1} → statement M
-read-spec = tie.close (tie.spec (λ c κs. search needs) answer-of-requires returns)
+read-spec = tie.close (tie.spec (λ c κs. search needs) (λ c κs. search needs) returns)

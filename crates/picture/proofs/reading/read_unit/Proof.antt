@@ -1,28 +1,33 @@
--- `picture::reading::read_unit` meets its contract: the body that was found lies within the area, and its answer is the area's.
+-- `picture::reading::read_unit` meets its contract: the body that was found lies within the area, and what it answers and leaves is the area's.
 -- Assumes nothing.
-use Prim.Native.Nat.{ℕ, _+_, _≤_}
+use Prim.Native.Nat.{ℕ, _+_, _≤_, _<_}
 use native.Mathlib.Omega.{arith}
-use mathlib.Core.Path.{_≡_, _∙_, ap, ap₂, sym}
+use mathlib.Core.Path.{_≡_, _∙_, ap, ap₂, sym, refl}
 use mathlib.Core.Bool.{true}
 use mathlib.Core.List.{List, []}
 use borrow.Author.Needs.{needs}
 use denote.Ref.{now}
 use lib.ListN.{length}
+use Rattle.lists.specs.Bytes.{Bytes}
 use Rattle.lists.specs.Part.{part}
+use Rattle.lists.proofs.Each.{each-of}
 use Rattle.refusal.specs.declared.Refusal.{Refusal}
 use Rattle.refusal.specs.declared.Item.{Item}
 use Rattle.refusal.specs.declared.Verdict.{Verdict}
 use Rattle.refusal.specs.declared.Verdict.the-variants.{Accepted, Refused}
 use Rattle.refusal.specs.Numbers.{refusalOf}
-use Rattle.scte20.specs.declared.CaptionUnit.{CaptionUnit}
-use Rattle.scte20.specs.Reading.{contentVerdict, valueOf}
-use Rattle.scte20.specs.declared.Answer as scte20
-use Rattle.scte20.specs.Reading as content
+use Rattle.scte20.specs.declared.Head as scte20
+use Rattle.scte20.specs.declared.Numbers.{Numbers}
 use Rattle.scte20.specs.Value.{stored}
+use Rattle.scte20.specs.Reading.{contentVerdict, valueOf}
+use Rattle.scte20.specs.Reading as content
+use Rattle.scte20.specs.Lent.{numbersOf}
 use Rattle.scte20.proofs.Theorems.{refused-in-order}
-use Rattle.picture.specs.declared.Answer.{Answer}
+use Rattle.picture.specs.declared.Head.{Head}
 use Rattle.picture.specs.Reading.{answerOf}
-use Rattle.picture.proofs.Placing.{unit-within, body-near, body-refused, body-accepted}
+use Rattle.picture.specs.Lent.{headOf}
+use Rattle.picture.proofs.Placing.{unit-within, body-near}
+use Rattle.picture.proofs.Lending.{body-into}
 use Rattle.picture.proofs.reading.read_unit.Statement.{statement}
 use Rattle.picture.proofs.reading.read_unit.Tie as tie
 
@@ -30,32 +35,37 @@ module _ (c : tie.After-shared-slice-known) where
   within : (c .before .args .unit + 4 ≤ c .before .args .end) × (c .before .args .end ≤ length (now (c .before .args .s))) × (length (now (c .before .args .s)) ≤ 16384)
   within = unit-within (now (c .before .args .s)) (c .before .args .unit) (c .before .args .end) (c .before .pre)
 
+  bytes : Bytes (now (c .before .args .s))
+  bytes = each-of (λ (b : ℕ). b < 256) 0 (now (c .before .args .s)) (λ i h. omega (arith, c .shared-slice-known .given i))
+
 add-body : tie.Need-add-body
 add-body c = omega (arith, within c .0, within c .1, within c .2)
 
-sub-read : tie.Need-sub-read
-sub-read c = within c .0
+sub-read-into : tie.Need-sub-read-into
+sub-read-into c = within c .0
 
-part-read-start : tie.Need-part-read-start
-part-read-start c = let w = within c in search needs
+part-read-into-start : tie.Need-part-read-into-start
+part-read-into-start c = let w = within c in search needs
 
-part-read-end : tie.Need-part-read-end
-part-read-end c = let w = within c in search needs
+part-read-into-end : tie.Need-part-read-into-end
+part-read-into-end c = let w = within c in search needs
 
 -- the unit's body, and the content's verdict
-bodyOf : tie.After-read → List ℕ
+bodyOf : tie.After-read-into → List ℕ
 bodyOf c =
-    let start = c .before .before .before in
+    let start = c .before .before .before .before in
     part (start .args .unit + 4) (start .args .end) (now (start .args .s))
 
-judged : (c : tie.After-read) → c .read .result .verdict ≡ contentVerdict (bodyOf c)
+judged : (c : tie.After-read-into) → c .read-into .result .verdict ≡ contentVerdict (bodyOf c)
 unfolding bodyOf
-judged c = refused-in-order (bodyOf c) (c .read .result) (c .read .ensures)
+judged c =
+    let told = c .read-into .ensures in
+    ap (λ (r : scte20.Head). r .verdict) (told .answer) ∙ refused-in-order (bodyOf c) (content.readOf (bodyOf c)) (record { bytes = told .bytes; answer = refl })
 
 -- the content is refused
 module _ (c : tie.After-known-told) where
   refused :
-      let start = c .before .before .before .before .before .before in
+      let start = c .before .before .before .before .before .before .before in
       contentVerdict (part (start .args .unit + 4) (start .args .end) (now (start .args .s)))
       ≡ Refused (c .before .verdict .given .0 .0) (c .before .verdict .given .0 .1 .0)
   unfolding bodyOf
@@ -63,8 +73,9 @@ module _ (c : tie.After-known-told) where
 
 placed-requires : tie.Need-placed-requires
 placed-requires c κs =
-    let start = c .before .before .before .before .before .before in
-    let w = within (c .before .before .before .before .before) in
+    let known = c .before .before .before .before .before .before in
+    let start = known .before in
+    let w = within known in
     let reason = c .before .verdict .given .0 .0 in
     let item = c .before .verdict .given .0 .1 .0 in (
       omega (arith, w .0, w .1, w .2),
@@ -73,38 +84,41 @@ placed-requires c κs =
 
 returns : tie.Need-returns
 returns c =
-    let known = c .before .before in
-    let start = known .before .before .before .before .before .before in
-    let reason = known .before .verdict .given .0 .0 in
-    let item = known .before .verdict .given .0 .1 .0 in
-    c .nothing .ensures
-    ∙ ap (λ (i : Item). answerOf (Refused reason i) []) (c .before .placed .ensures)
-    ∙ body-refused (now (start .args .s)) (start .args .unit) (start .args .end) (start .pre) reason item (refused known)
+    let known-told = c .before .before in
+    let read = known-told .before .before .before in
+    let known = read .before .before .before in
+    let start = known .before in
+    let reason = known-told .before .verdict .given .0 .0 in
+    let item = known-told .before .verdict .given .0 .1 .0 in
+    body-into (now (start .args .s)) (now (start .args .records)) (bytes known) (start .args .unit) (start .args .end) (start .pre)
+    (read .read-into .result) _ (read .read-into .ensures) (Refused reason item) (refused known-told)
+    _ (c .nothing .ensures ∙ ap (λ (i : Item). headOf (answerOf (Refused reason i) [])) (c .before .placed .ensures))
 
 -- the content is accepted
-made : Refusal → CaptionUnit → Answer
-made refusal unit = record { refusal = refusal; present = true; unit = unit }
+made : Refusal → Numbers → Head
+made refusal numbers = record { refusal = refusal; present = true; numbers = numbers }
 
 returns-2 : tie.Need-returns-2
 unfolding made bodyOf
 returns-2 c =
     let read = c .before .before .before .before in
-    let start = read .before .before .before in
+    let known = read .before .before .before in
+    let start = known .before in
     let told = c .before .before .enum-told .given .1 in
     let ok : contentVerdict (bodyOf read) ≡ Accepted = sym (judged read) ∙ told in
-    let unit : read .read .result .unit ≡ stored (valueOf (bodyOf read)) =
-    ap (λ (a : scte20.Answer). a .unit) (read .read .ensures .answer) ∙ ap (λ (v : Verdict). content.answerOf v (valueOf (bodyOf read)) .unit) ok in
-    ap₂ made (c .told .ensures ∙ ap refusalOf told) unit
-    ∙ body-accepted (now (start .args .s)) (start .args .unit) (start .args .end) (start .pre) ok
+    let numbers : read .read-into .result .numbers ≡ numbersOf (stored (valueOf (bodyOf read))) =
+    ap (λ (r : scte20.Head). r .numbers) (read .read-into .ensures .answer) ∙ ap (λ (v : Verdict). numbersOf (content.answerOf v (valueOf (bodyOf read)) .unit)) ok in
+    body-into (now (start .args .s)) (now (start .args .records)) (bytes known) (start .args .unit) (start .args .end) (start .pre)
+    (read .read-into .result) _ (read .read-into .ensures) Accepted ok _ (ap₂ made (c .told .ensures ∙ ap refusalOf told) numbers)
 
 pub read-unit-spec : {M : Type 1} → statement M
 read-unit-spec =
     tie.close
     (tie.spec
     add-body
-    sub-read
-    part-read-start
-    part-read-end
+    sub-read-into
+    part-read-into-start
+    part-read-into-end
     (λ c κs. search needs)
     (λ c. search needs)
     placed-requires

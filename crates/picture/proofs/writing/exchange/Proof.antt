@@ -12,20 +12,25 @@ use lib.Seq.{length-take-le}
 use Rattle.lists.specs.Room.{over, overAt}
 use Rattle.lists.proofs.Lay.{length-overAt, rest-whole, length-rest}
 use Rattle.units.specs.Layout.{layoutUnit}
+use Rattle.scte20.specs.declared.CaptionUnit.{CaptionUnit}
 use Rattle.scte20.specs.Value.{held}
 use Rattle.scte20.specs.Layout.{layout}
+use Rattle.scte20.specs.Lent.{unitIn}
 use Rattle.picture.specs.Writing.{unitBytes, exchanged}
 use Rattle.picture.proofs.Laying.{length-fronted, length-opened, opened, closed}
 use Rattle.picture.proofs.Wholes.{Judged, whole-refused, body-there, whole-fits, whole-laid}
 use Rattle.picture.proofs.writing.exchange.Statement.{statement}
 use Rattle.picture.proofs.writing.exchange.Tie as tie
 
--- the area's front, the new body, the area's rest, and the output with the body in it
+-- the new value, the area's front, the new body, the area's rest, and the output with the body in it
+abbrev unit : tie.Start → CaptionUnit
+unit c = unitIn (c .args .v) (now (c .args .records))
+
 abbrev front : tie.Start → List ℕ
 front c = take (c .args .start) (now (c .args .s))
 
 abbrev body : tie.Start → List ℕ
-body c = layout (held (c .args .unit))
+body c = layout (held (unit c))
 
 abbrev back : tie.Start → List ℕ
 back c = drop (c .args .end) (now (c .args .s))
@@ -41,23 +46,23 @@ length-back c = length-drop (c .args .end) (now (c .args .s))
 
 -- the new area is judged as the body is with what stands before and after it
 judged : (c : tie.After-told) → let write = c .before .before .before in let start = write .before .before .before .before in
-    Judged (start .args .unit) (start .args .start + 4) (length (now (start .args .s)) - start .args .end) (now (start .args .out))
-    (exchanged (now (start .args .s)) (start .args .start) (start .args .end) (unitBytes (held (start .args .unit))))
-    (write .write .result) (write .write .last .1 .1 .1 .0) (c .told .result)
+    Judged (unit start) (start .args .start + 4) (length (now (start .args .s)) - start .args .end) (now (start .args .out))
+    (exchanged (now (start .args .s)) (start .args .start) (start .args .end) (unitBytes (held (unit start))))
+    (write .write-from .result) (write .write-from .last .1 .1 .1 .1 .0) (c .told .result)
 judged c =
     let write = c .before .before .before in
     let start = write .before .before .before .before in
     let new = layoutUnit (body start) in
     record {
       size = omega (arith, length-append (front start) (new ++ back start), length-append new (back start), length-front start, length-back start);
-      wrote = write .write .ensures;
+      wrote = write .write-from .ensures;
       told = c .told .ensures;
     }
 
 refused : tie.Need-returns
 refused c =
     let write = c .before .before .before .before .before in
-    record { typed = write .write .ensures .typed; wrote = whole-refused (judged (c .before .before)) (c .if1 .taken) }
+    record { typed = write .write-from .ensures .typed; wrote = whole-refused (judged (c .before .before)) (c .if1 .taken) }
 
 -- past the test the body stands in the output, and there is room around it
 abbrev entry : tie.Else1 → tie.Start
@@ -65,7 +70,7 @@ entry c = c .before .before .before .before .before .before .before .before .bef
 
 module _ (c : tie.Else1) where
   there : let write = c .before .before .before .before .before in
-      (write .write .result .len ≡ length (body (entry c))) × (write .write .last .1 .1 .1 .0 ≡ bodied (entry c))
+      (write .write-from .result .len ≡ length (body (entry c))) × (write .write-from .last .1 .1 .1 .1 .0 ≡ bodied (entry c))
   there = body-there (judged (c .before .before)) (c .if1 .left)
 
   short : entry c .args .start + 4 + length (body (entry c)) + length (back (entry c)) ≤ 16384
@@ -117,7 +122,7 @@ unitOut c =
     putMid at (length out - at) out (c .«open» .last .0)
 
 module _ (c : tie.After-open) where
-  len : past (copied c) .before .before .before .before .before .write .result .len ≡ length (body (begun c))
+  len : past (copied c) .before .before .before .before .before .write-from .result .len ≡ length (body (begun c))
   len = there (past (copied c)) .0
 
   room : begun c .args .start + 4 + length (body (begun c)) + length (back (begun c)) ≤ length (now (begun c .args .out))
@@ -136,7 +141,7 @@ module _ (c : tie.After-open) where
 
 -- then the rest
 abbrev behind : tie.After-open → ℕ
-behind c = let write = past (copied c) .before .before .before .before .before in begun c .args .start + 4 + write .write .result .len
+behind c = let write = past (copied c) .before .before .before .before .before in begun c .args .start + 4 + write .write-from .result .len
 
 sub-copy-2 : tie.Need-sub-copy-2
 sub-copy-2 c = let unit = c .before .before .before in omega (arith, kept unit, len unit, room unit)
@@ -147,8 +152,8 @@ copy-requires-2 c κs =
     let rest = ap length (rest-whole (now (begun unit .args .s)) (begun unit .args .end)) in
     omega (arith, rest, length-rest (unitOut unit) (behind unit), kept unit, len unit, room unit)
 
-add-t11 : tie.Need-add-t11
-add-t11 c =
+add-t12 : tie.Need-add-t12
+add-t12 c =
     let unit = c .before .before .before .before .before .before .before in
     omega (arith, len unit, short (past (copied unit)), length-back (begun unit))
 
@@ -172,7 +177,7 @@ accepted c =
     let rest = length (now (start .args .s)) - start .args .end in
     let j = judged (passed .before .before) in
     let size = sym (j .size) ∙ ap (λ (n : ℕ). start .args .start + 4 + n + rest) (sym (len unit)) in
-    record { typed = write .write .ensures .typed; wrote = whole-laid j (passed .if1 .left) _ _ size (all-there (c .before .before)) }
+    record { typed = write .write-from .ensures .typed; wrote = whole-laid j (passed .if1 .left) _ _ size (all-there (c .before .before)) }
 
 pub exchange-spec : {M : Type 1} → statement M
 exchange-spec =
@@ -199,6 +204,6 @@ exchange-spec =
     sub-copy-2
     (λ c. search needs)
     copy-requires-2
-    add-t11
+    add-t12
     (λ c. search needs)
     accepted)

@@ -1,64 +1,24 @@
--- `picture::writing::write` meets its contract: before the body that was written the start code makes the unit.
+-- `picture::writing::write` meets its contract: a struct's numbers and its records' bytes tell the struct.
 -- Assumes nothing.
-use Prim.Native.Nat.{_+_, _≤_}
-use native.Mathlib.Omega.{arith}
-use mathlib.Core.Path.{_∙_, ap}
+use mathlib.Core.Path.{_∙_, ap₂, subst}
 use borrow.Author.Needs.{needs}
 use denote.Ref.{now}
-use lib.ListN.{length}
-use Rattle.units.specs.Layout.{started}
-use Rattle.scte20.specs.Value.{held}
-use Rattle.scte20.specs.Layout.{layout}
-use Rattle.picture.specs.Writing.{unitBytes}
-use Rattle.picture.proofs.Laying.{started-over}
-use Rattle.picture.proofs.Wholes.{Judged, whole-refused, body-there, whole-fits, whole-laid}
+use Rattle.scte20.specs.declared.CaptionUnit.{CaptionUnit}
+use Rattle.scte20.specs.Lent.{unitIn}
+use Rattle.scte20.proofs.Types.{typed}
+use Rattle.scte20.proofs.Lending.{lent-unit}
+use Rattle.picture.specs.Writing.{Writes}
 use Rattle.picture.proofs.writing.write.Statement.{statement}
 use Rattle.picture.proofs.writing.write.Tie as tie
 
--- the unit is judged as the body is with four bytes before it
-judged : (c : tie.After-told) → let write = c .before .before .before in let start = write .before .before .before in
-    Judged (start .args .unit) 4 0 (now (start .args .out)) (unitBytes (held (start .args .unit))) (write .write .result) (write .write .last .1 .1 .1 .0) (c .told .result)
-judged c =
-    let write = c .before .before .before in
-    record { size = omega arith; wrote = write .write .ensures; told = c .told .ensures }
-
-refused : tie.Need-returns
-refused c =
-    let write = c .before .before .before .before .before in
-    record { typed = write .write .ensures .typed; wrote = whole-refused (judged (c .before .before)) (c .if1 .taken) }
-
-add-t12 : tie.Need-add-t12
-add-t12 c =
-    let past = c .before .before .before .before .before in
-    let j = judged (past .before .before) in
-    omega (arith, whole-fits j (past .if1 .left) .0, body-there j (past .if1 .left) .0)
-
-accepted : tie.Need-returns-2
-accepted c =
-    let past = c .before .before .before .before .before in
-    let write = past .before .before .before .before .before in
-    let start = write .before .before .before in
-    let body = layout (held (start .args .unit)) in
-    let out = now (start .args .out) in
-    let j = judged (past .before .before) in
-    let there = body-there j (past .if1 .left) in
-    let fits : 4 + length body ≤ length out = omega (arith, whole-fits j (past .if1 .left) .1) in
-    record {
-      typed = write .write .ensures .typed;
-      wrote =
-          whole-laid j (past .if1 .left) _ _ (omega (arith, there .0))
-          (c .before .before .before .«open» .ensures ∙ ap started (there .1) ∙ started-over body out fits);
-    }
+returns : tie.Need-returns
+returns c =
+    let wrote = c .before .before in
+    let told = wrote .before .before .before in
+    let start = told .before .before .before in
+    let u = start .args .unit in
+    let same = ap₂ unitIn (told .before .numbers-of .ensures) (told .bytes-of .ensures) ∙ lent-unit u (typed u _ (start .good .0) .places) in
+    subst (λ (x : CaptionUnit). Writes x (now (start .args .out)) (wrote .write-from .result) (wrote .write-from .last .1 .1 .0)) same (wrote .write-from .ensures)
 
 pub write-spec : {M : Type 1} → statement M
-write-spec =
-    tie.close
-    (tie.spec
-    (λ c κs. search needs)
-    (λ c κs. search needs)
-    (λ c. search needs)
-    refused
-    (λ c κs. search needs)
-    add-t12
-    (λ c. search needs)
-    accepted)
+write-spec = tie.close (tie.spec (λ c κs. search needs) (λ c κs. search needs) (λ c κs. search needs) (λ c. search needs) returns)

@@ -1,5 +1,5 @@
 -- `scte20::reading::read_constructs` meets its contract. The loop's invariant: i constructs are read and accepted, `last` is what counts of their
--- records, and the array holds them, with blanks beyond.
+-- records, and the records' bytes are laid over the front of the array.
 -- Assumes nothing.
 use Prim.Native.Nat.{ℕ, _+_, _-_, _*_, _%_, _≤_, _<_}
 use native.Mathlib.Omega.{arith}
@@ -7,7 +7,8 @@ use mathlib.Core.Path.{_≡_, _∙_, ap, sym, subst, refl}
 use mathlib.Core.List.{List, [], _∷_}
 use borrow.Author.Needs.{needs}
 use denote.Ref.{now}
-use lib.ListN.{length, set, replicate}
+use lib.ListN.{length}
+use Rattle.lists.specs.Room.{overAt}
 use Rattle.refusal.specs.declared.Reason.{Reason}
 use Rattle.refusal.specs.declared.Item.{Item}
 use Rattle.refusal.specs.declared.Verdict.{Verdict}
@@ -21,32 +22,36 @@ use Rattle.bits.proofs.Beyond.{peek-inside}
 use Rattle.scte20.specs.declared.Record.{Record}
 use Rattle.scte20.specs.declared.Last.{Last}
 use Rattle.scte20.specs.Reading.{missing, constructAt, markerVerdict, constructsVerdict}
-use Rattle.scte20.specs.Inside.{constructOf, lastOf, lastVerdict, lastAfter, RunOf}
+use Rattle.scte20.specs.Lent.{recordBytes}
+use Rattle.scte20.specs.Inside.{constructOf, lastVerdict, lastAfter, Runs}
 use Rattle.scte20.proofs.Bytewise.{missing-some, missing-none}
-use Rattle.scte20.proofs.Stepwise.{construct-at, marker-one, marker-other, behind, Going, going-first, constructs-here, going-next, going-accepted, going-stored}
+use Rattle.scte20.proofs.Stepwise.{construct-at, marker-one, marker-other, behind, Going, going-first, going-room, constructs-here, going-next, going-accepted, going-laid}
 use Rattle.scte20.proofs.reading.read_constructs.Statement.{statement}
 use Rattle.scte20.proofs.reading.read_constructs.Tie as tie
 
 abbrev Inv-loop : tie.InvT-loop
-Inv-loop body n records₀ last₀ i₀ records last i = Going (bitsOf body) n records last i
+Inv-loop body n records₀ last₀ i₀ records last i = Going (bitsOf body) n records₀ records last i
 
 abbrev μ-loop : tie.MeasureT-loop
 μ-loop body n records₀ last₀ i₀ records last i = n - i
 
 loop-holds : tie.Need-loop-holds Inv-loop μ-loop
 loop-holds c =
-    let body = now (c .before .before .before .args .body) in
-    let n = c .before .before .before .args .n in
-    subst (λ (last : Last). Going (bitsOf body) n (replicate 31 (c .before .blank .result)) last 0) (sym (c .first .ensures))
-    (subst (λ (r : Record). Going (bitsOf body) n (replicate 31 r) (lastOf []) 0) (sym (c .before .blank .ensures)) (going-first (bitsOf body) n))
+    let start = c .before .before in
+    let body = now (start .args .body) in
+    let lent = now (start .args .records) in
+    subst (λ (last : Last). Going (bitsOf body) (start .args .n) lent lent last 0) (sym (c .first .ensures)) (going-first (bitsOf body) (start .args .n) lent)
 
 -- a turn of the loop
 module _ (c : tie.In-loop Inv-loop μ-loop) where
   abbrev bodyOf : List ℕ
-  bodyOf = now (c .before .before .before .before .before .args .body)
+  bodyOf = now (c .before .before .before .before .args .body)
 
   abbrev nOf : ℕ
-  nOf = c .before .before .before .before .before .args .n
+  nOf = c .before .before .before .before .args .n
+
+  abbrev lentOf : List ℕ
+  lentOf = now (c .before .before .before .before .args .records)
 
   abbrev iOf : ℕ
   iOf = c .before .loop .i
@@ -65,18 +70,18 @@ module _ (c : tie.In-loop Inv-loop μ-loop) where
       ≡ andThen (missing atOf 26 xs)
       (andThen (lastVerdict atOf (c .before .loop .last) r)
       (andThen (markerVerdict atOf xs) (andThen (constructsVerdict (r ∷ behind iOf xs) (nOf - (iOf + 1)) (atOf + 26) xs) Accepted)))
-  here = constructs-here (bitsOf bodyOf) nOf (c .before .loop .records) (c .before .loop .last) iOf (c .before .loop .inv) (c .loop-test .taken)
+  here = constructs-here (bitsOf bodyOf) nOf lentOf (c .before .loop .records) (c .before .loop .last) iOf (c .before .loop .inv) (c .loop-test .taken)
 
--- a refusal, and whatever is in the records
-refused-run : (body : List ℕ) (n : ℕ) (verdict : Verdict) (records : List Record) (reason : Reason) (item : Item) → verdict ≡ Refused reason item
-    → verdict ≡ constructsVerdict [] n 21 (bitsOf body) → RunOf body n (record { verdict = verdict; records = records })
-refused-run body n verdict records reason item told e = record { verdict = e; records = λ accepted. refused-not-accepted reason item (sym told ∙ e ∙ accepted) }
+-- a refusal, and whatever is in the array
+refused-run : (body : List ℕ) (n : ℕ) (lent : List ℕ) (verdict : Verdict) (exit : List ℕ) (reason : Reason) (item : Item) → verdict ≡ Refused reason item
+    → verdict ≡ constructsVerdict [] n 21 (bitsOf body) → Runs body n lent verdict exit
+refused-run body n lent verdict exit reason item told e = record { verdict = e; left = λ accepted. refused-not-accepted reason item (sym told ∙ accepted) }
 
 ends : tie.Need-returns Inv-loop μ-loop
 ends c =
     let turn = c .before in
     let short : 8 * length (bodyOf turn) < atOf turn + 26 = omega arith in
-    refused-run (bodyOf turn) (nOf turn) _ _ _ _ refl (refused-first _ (sym (missing-some (bodyOf turn) (atOf turn) 26 short)) refl ∙ sym (here turn))
+    refused-run (bodyOf turn) (nOf turn) (lentOf turn) _ _ _ _ refl (refused-first _ (sym (missing-some (bodyOf turn) (atOf turn) 26 short)) refl ∙ sym (here turn))
 
 -- the whole construct is there
 module _ (c : tie.After-peek Inv-loop μ-loop) where
@@ -119,7 +124,7 @@ illegal c =
     let past = c .before .before in
     let turn = past .before .before .before .before in
     let told = c .enum-told .given .1 in
-    refused-run (bodyOf turn) (nOf turn) _ _ _ _ told
+    refused-run (bodyOf turn) (nOf turn) (lentOf turn) _ _ _ _ told
     (refused-first _ (judged past) told ∙ sym (here turn ∙ accepted-first _ (sym (whole past)) refl))
 
 unmarked : tie.Need-returns-3 Inv-loop μ-loop
@@ -129,34 +134,50 @@ unmarked c =
     let turn = peeked .before .before in
     let body = bodyOf turn in
     let other = marker-other (bitsOf body) (atOf turn) (bitsOf-are body) (fits peeked) (λ e. c .if2 .taken (ap (λ (k : ℕ). k % 2) (seen peeked) ∙ e)) in
-    refused-run body (nOf turn) _ _ _ _ refl
+    refused-run body (nOf turn) (lentOf turn) _ _ _ _ refl
     (refused-first _ (sym other) refl
     ∙ sym (here turn ∙ accepted-first _ (sym (whole past)) refl ∙ accepted-first _ (judged past) (c .before .enum-told2 .given .1)))
 
+put-record-requires : tie.Need-put-record-requires Inv-loop μ-loop
+put-record-requires c κs =
+    let turn = c .before .before .before .before .before .before .before .before in
+    let at = turn .before .loop in
+    let few : nOf turn ≤ 31 = omega arith in (
+      omega (arith, below turn),
+      going-room (bitsOf (bodyOf turn)) (nOf turn) (lentOf turn) (at .records) (at .last) (at .i) (at .inv) (turn .loop-test .taken) few
+          (turn .before .before .before .before .pre .1 .1),
+    )
+
 loop-again : tie.Need-loop-again Inv-loop μ-loop
 loop-again c =
-    let past = c .before .before .before .before in
+    let marking = c .before .before .before in
+    let past = marking .before .before .before in
     let peeked = past .before .before in
     let turn = peeked .before .before in
     let at = turn .before .loop in
     let body = bodyOf turn in
     let xs = bitsOf body in
-    let legal = sym (judged past) ∙ c .before .before .enum-told2 .given .1 in
-    let marked = marker-one xs (atOf turn) (bitsOf-are body) (fits peeked) (ap (λ (k : ℕ). k % 2) (sym (seen peeked)) ∙ c .before .if2 .left) in
-    let room : nOf turn ≤ 31 = omega arith in
-    let after : c .after .result ≡ lastAfter (at .last) (constructAt (atOf turn) xs) = c .after .ensures ∙ ap (lastAfter (at .last)) (taken past) in
-    subst (λ (last : Last). Going xs (nOf turn) (set (at .records) (at .i) (past .before .record-of .result)) last (at .i + 1)) (sym after)
-    (subst (λ (r : Record). Going xs (nOf turn) (set (at .records) (at .i) r) (lastAfter (at .last) (constructAt (atOf turn) xs)) (at .i + 1)) (sym (taken past))
-    (going-next xs (nOf turn) (at .records) (at .last) (at .i) (at .inv) (turn .loop-test .taken) room (whole past) legal marked))
+    let n = nOf turn in
+    let r = constructAt (atOf turn) xs in
+    let legal = sym (judged past) ∙ marking .before .enum-told2 .given .1 in
+    let marked = marker-one xs (atOf turn) (bitsOf-are body) (fits peeked) (ap (λ (k : ℕ). k % 2) (sym (seen peeked)) ∙ marking .if2 .left) in
+    let after : c .after .result ≡ lastAfter (at .last) r = c .after .ensures ∙ ap (lastAfter (at .last)) (taken past) in
+    let laid : c .before .put-record .last .1 .1 .0 ≡ overAt (5 * at .i) (recordBytes r) (at .records) =
+    c .before .put-record .ensures ∙ ap (λ (s : Record). overAt (5 * at .i) (recordBytes s) (at .records)) (taken past)
+    in
+    subst (λ (last : Last). Going xs n (lentOf turn) (c .before .put-record .last .1 .1 .0) last (at .i + 1)) (sym after)
+    (subst (λ (records : List ℕ). Going xs n (lentOf turn) records (lastAfter (at .last) r) (at .i + 1)) (sym laid)
+    (going-next xs n (lentOf turn) (at .records) (at .last) (at .i) (at .inv) (turn .loop-test .taken) (whole past) legal marked))
 
 done : tie.Need-returns-4 Inv-loop μ-loop
 done c =
-    let start = c .before .before .before .before .before in
+    let start = c .before .before .before .before in
     let at = c .before .loop in
     let xs = bitsOf (now (start .args .body)) in
+    let lent = now (start .args .records) in
     record {
-      verdict = sym (going-accepted xs (start .args .n) (at .records) (at .last) (at .i) (at .inv) (c .loop-test .left));
-      records = λ e. going-stored xs (start .args .n) (at .records) (at .last) (at .i) (at .inv) (c .loop-test .left);
+      verdict = sym (going-accepted xs (start .args .n) lent (at .records) (at .last) (at .i) (at .inv) (c .loop-test .left));
+      left = λ e. going-laid xs (start .args .n) lent (at .records) (at .last) (at .i) (at .inv) (c .loop-test .left);
     }
 
 pub read-constructs-spec : {M : Type 1} → statement M
@@ -165,7 +186,6 @@ read-constructs-spec =
     (tie.spec
     Inv-loop
     μ-loop
-    (λ c κs. search needs)
     (λ c κs. search needs)
     loop-holds
     (λ c. omega arith)
@@ -183,9 +203,9 @@ read-constructs-spec =
     (λ c. omega (arith, below (c .before .before .before .before .before .before .before)))
     unmarked
     (λ c. omega (arith, below (c .before .before .before .before .before .before .before)))
-    (λ c. below (c .before .before .before .before .before .before .before))
-    (λ c κs. omega (arith, below (c .before .before .before .before .before .before .before), c .before .before .before .before .before .before .before .before .loop .inv .few))
-    (λ c. omega (arith, below (c .before .before .before .before .before .before .before .before)))
+    put-record-requires
+    (λ c κs. let turn = c .before .before .before .before .before .before .before .before .before in omega (arith, below turn, turn .before .loop .inv .few))
+    (λ c. omega (arith, below (c .before .before .before .before .before .before .before .before .before .before)))
     (λ c. omega arith)
     loop-again
     done)

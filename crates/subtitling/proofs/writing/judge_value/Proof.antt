@@ -6,6 +6,7 @@ use mathlib.Core.Path.{_≡_, _∙_, ap, ap₂, sym, refl}
 use mathlib.Core.List.{List, [], map}
 use borrow.Author.Needs.{needs}
 use borrow.Author.Tests.{lt-ltb, le-ltb}
+use denote.Ref.{now}
 use lib.Dec.{ltb}
 use lib.ListN.{length, drop, drop-of-length-le}
 use Rattle.refusal.specs.declared.Verdict.{Verdict}
@@ -16,26 +17,25 @@ use Rattle.sdp.specs.Value.{SlotRow, Typed, descriptor, held}
 use Rattle.sdp.specs.Layout.{count}
 use Rattle.sdp.specs.Holdable.{slotsVerdict}
 use Rattle.subtitling.specs.Writing.{valueVerdict}
-use Rattle.sdp.proofs.Types.{typed}
 use Rattle.sdp.proofs.Numbers.{length-held}
 use Rattle.subtitling.proofs.Held.{held-from, verdict-few, few-structures}
 use Rattle.subtitling.proofs.writing.judge_value.Statement.{statement}
 use Rattle.subtitling.proofs.writing.judge_value.Tie as tie
 
 abbrev Inv-loop : tie.InvT-loop
-Inv-loop room p rows i₀ i = (i ≤ 5) × (slotsVerdict (held p rows .slots) ≡ slotsVerdict (drop i (held p rows .slots)))
+Inv-loop rows room p i₀ i = (i ≤ 5) × (slotsVerdict (held p rows .slots) ≡ slotsVerdict (drop i (held p rows .slots)))
 
 abbrev μ-loop : tie.MeasureT-loop
-μ-loop room p rows i₀ i = 5 - i
+μ-loop rows room p i₀ i = 5 - i
 
-types : (c : tie.Start Inv-loop μ-loop) → Typed (c .args .t1) (c .args .t2)
-types c = typed (c .args .t1) _ (c .good .0) (c .args .t2) _ (c .good .1 .0)
+types : (c : tie.Start Inv-loop μ-loop) → Typed (c .args .t1) (now (c .args .rows))
+types c = c .pre
 
 abbrev slotsOf : tie.Start Inv-loop μ-loop → List SlotRow
-slotsOf c = held (c .args .t1) (c .args .t2) .slots
+slotsOf c = held (c .args .t1) (now (c .args .rows)) .slots
 
 abbrev verdictOf : tie.Start Inv-loop μ-loop → Verdict
-verdictOf c = valueVerdict (held (c .args .t1) (c .args .t2)) (c .args .room)
+verdictOf c = valueVerdict (held (c .args .t1) (now (c .args .rows))) (c .args .room)
 
 -- the last check, of the room
 abbrev roomFor : tie.Start Inv-loop μ-loop → ℕ → Verdict
@@ -48,14 +48,14 @@ space c = roomFor c (count (map descriptor (c .args .t1 .slots)))
 told : (c : tie.At-loop Inv-loop μ-loop) → verdictOf (c .before .before) ≡ andThen (slotsVerdict (drop (c .loop .i) (slotsOf (c .before .before)))) (space (c .before .before))
 told c =
     let start = c .before .before in
-    verdict-few (start .args .t1) (start .args .t2) (types start) (c .before .if1 .left) (start .args .room)
+    verdict-few (start .args .t1) (now (start .args .rows)) (types start) (c .before .if1 .left) (start .args .room)
     ∙ ap (λ (v : Verdict). andThen v (space start)) (c .loop .inv .1)
 
 -- after the loop no slot is left
 none-left : (c : tie.After-loop Inv-loop μ-loop) → drop (c .before .loop .i) (slotsOf (c .before .before .before)) ≡ []
 none-left c =
     let start = c .before .before .before in
-    let past : length (slotsOf start) ≤ c .before .loop .i = omega (arith, length-held (start .args .t1) (start .args .t2) (types start)) in
+    let past : length (slotsOf start) ≤ c .before .loop .i = omega (arith, length-held (start .args .t1) (now (start .args .rows)) (types start)) in
     drop-of-length-le (slotsOf start) past
 
 returns : tie.Need-returns Inv-loop μ-loop
@@ -74,7 +74,7 @@ returns-2 c =
     let rest = slotsVerdict (drop (i + 1) (slotsOf start)) in
     judged
     ∙ ap (λ (v : Verdict). andThen (andThen v rest) (space start)) (sym judged ∙ c .before .before .judge-slot .ensures)
-    ∙ ap (λ (v : Verdict). andThen v (space start)) (sym (held-from (start .args .t1) (start .args .t2) (types start) i (turn .loop-test .taken)))
+    ∙ ap (λ (v : Verdict). andThen v (space start)) (sym (held-from (start .args .t1) (now (start .args .rows)) (types start) i (turn .loop-test .taken)))
     ∙ sym (told (turn .before))
 
 loop-again : tie.Need-loop-again Inv-loop μ-loop
@@ -85,7 +85,7 @@ loop-again c =
     let rest = slotsVerdict (drop (i + 1) (slotsOf start)) in (
       omega arith,
       turn .before .loop .inv .1
-          ∙ held-from (start .args .t1) (start .args .t2) (types start) i (turn .loop-test .taken)
+          ∙ held-from (start .args .t1) (now (start .args .rows)) (types start) i (turn .loop-test .taken)
           ∙ ap (λ (v : Verdict). andThen v rest) (sym (c .before .before .judge-slot .ensures) ∙ c .enum-told2 .given .1),
     )
 
@@ -106,7 +106,7 @@ returns-4 c = sym (decided (c .before) ∙ simp (le-ltb _ _ (c .if2 .left)))
 few : (c : tie.After-count Inv-loop μ-loop) → c .count .result ≤ 5
 few c =
     let start = c .before .before .before .before in
-    omega (arith, c .count .ensures, few-structures (start .args .t1) (start .args .t2) (types start))
+    omega (arith, c .count .ensures, few-structures (start .args .t1) (now (start .args .rows)) (types start))
 
 pub judge-value-spec : {M : Type 1} → statement M
 judge-value-spec =

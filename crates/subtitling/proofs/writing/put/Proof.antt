@@ -15,7 +15,6 @@ use Rattle.anc.specs.Words.{wordOf, byteOf}
 use Rattle.sdp.specs.Value.{Typed, Legal, descriptor, held}
 use Rattle.sdp.specs.Layout.{structures, footer}
 use Rattle.subtitling.specs.Writing.{sealed}
-use Rattle.sdp.proofs.Types.{typed}
 use Rattle.sdp.proofs.Numbers.{legal-held}
 use Rattle.subtitling.proofs.Numbers.{Writable, accepted-value}
 use Rattle.subtitling.proofs.Held.{few-structures, length-layout-held}
@@ -29,20 +28,20 @@ abbrev outOf : tie.Start → List ℕ
 outOf c = now (c .args .out)
 
 module _ (c : tie.Start) where
-  types : Typed (c .args .p) (c .args .rows)
-  types = typed (c .args .p) _ (c .good .0) (c .args .rows) _ (c .good .1 .0)
+  types : Typed (c .args .p) (now (c .args .rows))
+  types = c .pre .0
 
-  writable : Writable (held (c .args .p) (c .args .rows)) (length (outOf c))
-  writable = accepted-value _ _ (c .pre)
+  writable : Writable (held (c .args .p) (now (c .args .rows))) (length (outOf c))
+  writable = accepted-value _ _ (c .pre .1)
 
-  legal : Legal (held (c .args .p) (c .args .rows))
-  legal = legal-held (c .args .p) (c .args .rows) types (writable .few) (writable .each)
+  legal : Legal (held (c .args .p) (now (c .args .rows)))
+  legal = legal-held (c .args .p) (now (c .args .rows)) types (writable .few) (writable .each)
 
   room : 20 + 45 * structuresOf (c .args .p) ≤ length (outOf c)
-  room = omega (arith, writable .fits, length-layout-held (c .args .p) (c .args .rows) types)
+  room = omega (arith, writable .fits, length-layout-held (c .args .p) (now (c .args .rows)) types)
 
   few : structuresOf (c .args .p) ≤ 5
-  few = few-structures (c .args .p) (c .args .rows) types
+  few = few-structures (c .args .p) (now (c .args .rows)) types
 
 abbrev start0 : tie.After-count → tie.Start
 start0 c = c .before .before
@@ -90,7 +89,7 @@ laid2 c =
 kept2 : (c : tie.After-put-descriptors) → length (out2 c) ≡ length (outOf (start2 c))
 kept2 c =
     let p = start2 c .args .p in
-    let h : length (described p) ≤ length (outOf (start2 c)) = omega (arith, room (start2 c), length-described p (start2 c .args .rows) (types (start2 c))) in
+    let h : length (described p) ≤ length (outOf (start2 c)) = omega (arith, room (start2 c), length-described p (now (start2 c .args .rows)) (types (start2 c))) in
     ap length (laid2 c) ∙ length-over (described p) (outOf (start2 c)) h
 
 abbrev last2 : tie.After-put-structures → tie.After-put-descriptors
@@ -102,10 +101,10 @@ start3 c = start2 (last2 c)
 abbrev out3 : tie.After-put-structures → List ℕ
 out3 c = putMid 15 (length (out2 (last2 c)) - 15) (out2 (last2 c)) (c .put-structures .last .1 .1 .0)
 
-laid3 : (c : tie.After-put-structures) → out3 c ≡ over (structured (start3 c .args .p) (start3 c .args .rows)) (outOf (start3 c))
+laid3 : (c : tie.After-put-structures) → out3 c ≡ over (structured (start3 c .args .p) (now (start3 c .args .rows))) (outOf (start3 c))
 laid3 c =
     let p = start3 c .args .p in
-    let rows = start3 c .args .rows in
+    let rows = now (start3 c .args .rows) in
     laid-more (described p) (map wordOf (structures (held p rows .slots))) (outOf (start3 c)) (out2 (last2 c)) (c .put-structures .last .1 .1 .0) 15 (laid2 (last2 c))
     (length-described p rows (types (start3 c)))
     (c .put-structures .ensures)
@@ -113,7 +112,7 @@ laid3 c =
 kept3 : (c : tie.After-put-structures) → length (out3 c) ≡ length (outOf (start3 c))
 kept3 c =
     let p = start3 c .args .p in
-    let rows = start3 c .args .rows in
+    let rows = now (start3 c .args .rows) in
     let h : length (structured p rows) ≤ length (outOf (start3 c)) = omega (arith, room (start3 c), length-structured p rows (types (start3 c))) in
     ap length (laid3 c) ∙ length-over (structured p rows) (outOf (start3 c)) h
 
@@ -133,10 +132,10 @@ at4 c = 15 + 45 * count4 c .count .result
 abbrev out4 : tie.After-put-footer → List ℕ
 out4 c = putMid (at4 c) (length (out3 (last3 c)) - at4 c) (out3 (last3 c)) (c .put-footer .last .1 .0)
 
-laid4 : (c : tie.After-put-footer) → out4 c ≡ over (footed (start4 c .args .p) (start4 c .args .rows)) (outOf (start4 c))
+laid4 : (c : tie.After-put-footer) → out4 c ≡ over (footed (start4 c .args .p) (now (start4 c .args .rows))) (outOf (start4 c))
 laid4 c =
     let p = start4 c .args .p in
-    let rows = start4 c .args .rows in
+    let rows = now (start4 c .args .rows) in
     let long : length (structured p rows) ≡ at4 c = omega (arith, length-structured p rows (types (start4 c)), counted (count4 c)) in
     laid-more (structured p rows) (map wordOf (footer (p .counter))) (outOf (start4 c)) (out3 (last3 c)) (c .put-footer .last .1 .0) (at4 c) (laid3 (last3 c)) long
     (c .put-footer .ensures)
@@ -144,7 +143,7 @@ laid4 c =
 kept4 : (c : tie.After-put-footer) → length (out4 c) ≡ length (outOf (start4 c))
 kept4 c =
     let p = start4 c .args .p in
-    let rows = start4 c .args .rows in
+    let rows = now (start4 c .args .rows) in
     let h : length (footed p rows) ≤ length (outOf (start4 c)) = omega (arith, room (start4 c), length-footed p rows (types (start4 c))) in
     ap length (laid4 c) ∙ length-over (footed p rows) (outOf (start4 c)) h
 
@@ -155,7 +154,7 @@ returns c =
     let last = sums .before .before .before .before in
     let start = start4 last in
     let p = start .args .p in
-    let rows = start .args .rows in
+    let rows = now (start .args .rows) in
     let out = outOf start in
     let front = footed p rows in
     let n = 18 + 45 * count4 last .count .result in
@@ -174,7 +173,7 @@ put-descriptors-requires c κs =
 put-structures-requires : tie.Need-put-structures-requires
 put-structures-requires c κs =
     let last = c .before .before .before in
-    omega (arith, length-rest (out2 last) 15, kept2 last, room (start2 last))
+    (types (start2 last), omega (arith, length-rest (out2 last) 15, kept2 last, room (start2 last)))
 
 footer-small : (c : tie.After-slice-known4) → count1 (last1 (last2 (c .before .before))) .count .result ≤ 5
 footer-small c = small (count1 (last1 (last2 (c .before .before))))

@@ -17,7 +17,6 @@ use Rattle.anc.specs.Words.{wordOf}
 use Rattle.sdp.specs.declared.Packet.{Packet}
 use Rattle.sdp.specs.Value.{SlotRow, Row, Typed, descriptor, empty, held}
 use Rattle.sdp.specs.Layout.{count, structure, structures}
-use Rattle.sdp.proofs.Types.{typed}
 use Rattle.sdp.proofs.Numbers.{length-held}
 use Rattle.subtitling.proofs.Held.{few-structures}
 use Rattle.subtitling.proofs.HeldStructures.{structure-none, structure-some, structures-more, structures-front}
@@ -52,29 +51,29 @@ module _ (p : Packet) (rows : List (List ℕ)) (t : Typed p rows) (i : ℕ) (h :
       omega (arith, length-map (getD rows i []) wordOf)
 
 abbrev Inv-loop : tie.InvT-loop
-Inv-loop out₀ p rows at₀ i₀ out at i = (i ≤ 5) × ((length (words (held p rows .slots) i) ≡ at) × (out ≡ over (words (held p rows .slots) i) out₀))
+Inv-loop rows out₀ p at₀ i₀ out at i = (i ≤ 5) × ((length (words (held p rows .slots) i) ≡ at) × (out ≡ over (words (held p rows .slots) i) out₀))
 
 abbrev μ-loop : tie.MeasureT-loop
-μ-loop out₀ p rows at₀ i₀ out at i = 5 - i
+μ-loop rows out₀ p at₀ i₀ out at i = 5 - i
 
 abbrev wordsOf : tie.Start Inv-loop μ-loop → ℕ → List ℕ
-wordsOf c i = words (held (c .args .t1) (c .args .t2) .slots) i
+wordsOf c i = words (held (c .args .t1) (now (c .args .rows)) .slots) i
 
 module _ (c : tie.Start Inv-loop μ-loop) where
-  types : Typed (c .args .t1) (c .args .t2)
-  types = typed (c .args .t1) _ (c .good .0) (c .args .t2) _ (c .good .1 .0)
+  types : Typed (c .args .t1) (now (c .args .rows))
+  types = c .pre .0
 
   -- the words of the first i slots fit the output, and are few
   front : (i : ℕ) → length (wordsOf c i) ≤ 45 * count (map descriptor (c .args .t1 .slots))
   front i =
-      let bytes = structures (take i (held (c .args .t1) (c .args .t2) .slots)) in
-      omega (arith, length-map bytes wordOf, structures-front (c .args .t1) (c .args .t2) types i)
+      let bytes = structures (take i (held (c .args .t1) (now (c .args .rows)) .slots)) in
+      omega (arith, length-map bytes wordOf, structures-front (c .args .t1) (now (c .args .rows)) types i)
 
   fits : (i : ℕ) → length (wordsOf c i) ≤ length (now (c .args .out))
-  fits i = omega (arith, front i, c .pre)
+  fits i = omega (arith, front i, c .pre .1)
 
   few : (i : ℕ) → length (wordsOf c i) ≤ 225
-  few i = omega (arith, front i, few-structures (c .args .t1) (c .args .t2) types)
+  few i = omega (arith, front i, few-structures (c .args .t1) (now (c .args .rows)) types)
 
 kept : (c : tie.At-loop Inv-loop μ-loop) → length (c .loop .out) ≡ length (now (c .before .before .args .out))
 kept c =
@@ -89,13 +88,13 @@ abbrev startOf : tie.Then1 Inv-loop μ-loop → tie.Start Inv-loop μ-loop
 startOf c = loopOf c .before .before
 
 abbrev rowOf : tie.Then1 Inv-loop μ-loop → List ℕ
-rowOf c = getD (startOf c .args .t2) (loopOf c .loop .i) []
+rowOf c = getD (now (startOf c .args .rows)) (loopOf c .loop .i) []
 
 module _ (c : tie.Then1 Inv-loop μ-loop) where
   more : wordsOf (startOf c) (loopOf c .loop .i + 1) ≡ wordsOf (startOf c) (loopOf c .loop .i) ++ piece (rowOf c)
   more =
       let start = startOf c in
-      words-some (start .args .t1) (start .args .t2) (types start) (loopOf c .loop .i) (c .before .before .before .loop-test .taken)
+      words-some (start .args .t1) (now (start .args .rows)) (types start) (loopOf c .loop .i) (c .before .before .before .loop-test .taken)
       (λ e. c .if1 .taken (c .before .descriptor .ensures ∙ e))
 
   grown : length (wordsOf (startOf c) (loopOf c .loop .i + 1)) ≡ loopOf c .loop .at + 45
@@ -106,7 +105,7 @@ module _ (c : tie.Then1 Inv-loop μ-loop) where
         arith,
         ap length more,
         length-append (wordsOf start i) (piece (rowOf c)),
-        length-piece (start .args .t1) (start .args .t2) (types start) i (c .before .before .before .loop-test .taken),
+        length-piece (start .args .t1) (now (start .args .rows)) (types start) i (c .before .before .before .loop-test .taken),
         loopOf c .loop .inv .1 .0,
       )
 
@@ -126,7 +125,7 @@ loop-again c =
     let loop = c .before .before .before .before in
     let start = loop .before .before in
     let p = start .args .t1 in
-    let rows = start .args .t2 in
+    let rows = now (start .args .rows) in
     let xs = held p rows .slots in
     let i = loop .loop .i in
     let at = loop .loop .at in
@@ -154,7 +153,7 @@ returns : tie.Need-returns Inv-loop μ-loop
 returns c =
     let start = c .before .before .before in
     let p = start .args .t1 in
-    let rows = start .args .t2 in
+    let rows = now (start .args .rows) in
     let all : length (held p rows .slots) ≤ c .before .loop .i = omega (arith, length-held p rows (types start)) in
     c .before .loop .inv .1 .1
     ∙ ap (λ (xs : List SlotRow). over (map wordOf (structures xs)) (now (start .args .out))) (take-all (c .before .loop .i) (held p rows .slots) all)

@@ -1,0 +1,280 @@
+/* agree.c: see agree.h. */
+#include "agree.h"
+
+#include <string.h>
+
+size_t agree_numbers[16];
+
+/* Lent memory, one piece for each program, with the same bytes in it before a call. The third is for a variant. */
+static union lent {
+    uint8_t bytes[CAPTIONS_AREA_BYTES + 64];
+    uint16_t words[CAPTIONS_PACKET_WORDS + 32];
+    captions_record records[CAPTIONS_RECORDS + 2];
+    captions_row rows[CAPTIONS_SLOTS + 1];
+    captions_access_unit units[CAPTIONS_ACCESS_UNITS + 2];
+} lent[3];
+
+/* How much of it one kind of call can reach, and some bytes more that none may change. */
+static void fill(size_t bytes)
+{
+    uint8_t with = (uint8_t)(1 + below(255));
+    memset(lent[0].bytes, with, bytes);
+    memset(lent[1].bytes, with, bytes);
+    memset(lent[2].bytes, with, bytes);
+}
+
+static bool same_lent(size_t bytes)
+{
+    return memcmp(lent[0].bytes, lent[1].bytes, bytes) == 0;
+}
+
+static bool same_refusal(captions_refusal a, captions_refusal b)
+{
+    agree_numbers[a.number & 15]++;
+    return a.number == b.number && a.place == b.place;
+}
+
+static bool same_written(captions_written a, captions_written b)
+{
+    return same_refusal(a.refusal, b.refusal) && a.len == b.len;
+}
+
+/* All but the refusals. */
+static bool same_unit(const captions_unit *a, const captions_unit *b)
+{
+    return a->present == b->present && a->reserved == b->reserved && a->vbi_data_flag == b->vbi_data_flag &&
+           a->n == b->n && a->z == b->z;
+}
+
+bool agree_area_read(const area_input *area)
+{
+    size_t size = sizeof lent[0].records;
+    fill(size);
+    captions_unit a = plain_calls.area_read(area->bytes, area->len, lent[0].records);
+    captions_unit b = library_calls.area_read(area->bytes, area->len, lent[1].records);
+    captions_unit c = memchr_calls.area_read(area->bytes, area->len, lent[2].records);
+    /* The variant's refusal is compared here, since an input is counted once. */
+    bool variant = c.refusal.number == b.refusal.number && c.refusal.place == b.refusal.place && same_unit(&c, &b) &&
+                   memcmp(lent[2].bytes, lent[1].bytes, size) == 0;
+    return variant && same_refusal(a.refusal, b.refusal) && same_unit(&a, &b) && same_lent(size);
+}
+
+/* How much of a byte output is compared: what an answer may have stored, and 64 bytes more. */
+static size_t reach(size_t room)
+{
+    return room + 64 < sizeof lent[0].bytes ? room + 64 : sizeof lent[0].bytes;
+}
+
+bool agree_unit_write(const unit_value *v, size_t room)
+{
+    fill(reach(room));
+    captions_written a = plain_calls.unit_write(v->reserved, v->flag, v->n, v->z, v->records, lent[0].bytes, room);
+    captions_written b = library_calls.unit_write(v->reserved, v->flag, v->n, v->z, v->records, lent[1].bytes, room);
+    return same_written(a, b) && same_lent(reach(room));
+}
+
+bool agree_area_replace(const area_input *area, const unit_value *v, size_t room)
+{
+    fill(reach(room));
+    captions_written a = plain_calls.area_replace(area->bytes, area->len, v->reserved, v->flag, v->n, v->z, v->records,
+                                                  lent[0].bytes, room);
+    captions_written b = library_calls.area_replace(area->bytes, area->len, v->reserved, v->flag, v->n, v->z,
+                                                    v->records, lent[1].bytes, room);
+    return same_written(a, b) && same_lent(reach(room));
+}
+
+bool agree_packet_read(const packet_input *packet)
+{
+    fill(sizeof lent[0].rows);
+    captions_packet a = plain_calls.packet_read(packet->words, packet->len, lent[0].rows);
+    captions_packet b = library_calls.packet_read(packet->words, packet->len, lent[1].rows);
+    return same_refusal(a.refusal, b.refusal) && a.counter == b.counter &&
+           memcmp(a.slots, b.slots, sizeof a.slots) == 0 && same_lent(sizeof lent[0].rows);
+}
+
+bool agree_packet_write(const packet_value *v, size_t room)
+{
+    fill(sizeof lent[0].words);
+    captions_written a = plain_calls.packet_write(v->counter, v->slots, v->rows, lent[0].words, room);
+    captions_written b = library_calls.packet_write(v->counter, v->slots, v->rows, lent[1].words, room);
+    return same_written(a, b) && same_lent(sizeof lent[0].words);
+}
+
+bool agree_payload_read(const payload_input *payload)
+{
+    fill(sizeof lent[0].units);
+    captions_payload a = plain_calls.payload_read(payload->bytes, payload->len, lent[0].units);
+    captions_payload b = library_calls.payload_read(payload->bytes, payload->len, lent[1].units);
+    return same_refusal(a.refusal, b.refusal) && a.flags == b.flags && a.m == b.m && same_lent(sizeof lent[0].units);
+}
+
+bool agree_payload_write(const payload_value *v, size_t room)
+{
+    fill(reach(room));
+    captions_written a = plain_calls.payload_write(v->flags, v->m, v->units, lent[0].bytes, room);
+    captions_written b = library_calls.payload_write(v->flags, v->m, v->units, lent[1].bytes, room);
+    return same_written(a, b) && same_lent(reach(room));
+}
+
+/* ---- Random inputs ---- */
+
+/* Bytes that matter to some rule come often. */
+static uint8_t odd_byte(void)
+{
+    static const uint8_t likely[] = {0, 0, 1, 2, 3, 4, 0xB2, 0xB3, 0x80, 0x81, 0x55, 0xFF, 31, 32, 63, 64};
+    return below(3) == 0 ? (uint8_t)below(256) : likely[below(sizeof likely)];
+}
+
+/* Often nothing, else a few bytes or single bits of it changed. */
+static void mutate(void *what, size_t len)
+{
+    uint8_t *s = what;
+    for (uint32_t left = below(4); left > 0 && len > 0; left--) {
+        uint8_t *at = s + below((uint32_t)len);
+        *at = (uint8_t)(below(2) == 0 ? *at ^ 1u << below(8) : odd_byte());
+    }
+}
+
+/* Mostly n itself, else up to six more or less, within `most`. */
+static size_t nearly(size_t n, size_t most)
+{
+    size_t moved = n + below(12);
+    size_t m = below(4) != 0 ? n : moved < 6 ? 0 : moved - 6;
+    return m < most ? m : most;
+}
+
+/* How many bytes a unit has without its stuffing. */
+static size_t size_of(const unit_value *v)
+{
+    return v->flag == 0 ? 6 : 4 + (25 + 26 * v->n + 7) / 8;
+}
+
+/* A number next to the longest area's length, or `usual`. */
+static size_t near_longest(size_t usual)
+{
+    return below(40) == 0 ? CAPTIONS_AREA_BYTES - 2 + below(5) : usual;
+}
+
+static void random_value(unit_value *v)
+{
+    make_unit(v, below(2) == 0 ? below(5) : below(32), near_longest(below(3) == 0 ? below(20) : 0));
+    if (below(40) == 0) {
+        v->z = CAPTIONS_AREA_BYTES - 2 + below(5) - size_of(v);
+    }
+    if (below(4) == 0) {
+        mutate(v->records, v->n * sizeof v->records[0]);
+    }
+    if (below(8) == 0) {
+        v->flag = below(3);
+        v->n = below(34);
+        v->reserved = below(300);
+    }
+    if (below(20) == 0) {
+        v->flag = 0;
+        v->n = 0;
+    }
+}
+
+static void random_area(area_input *area)
+{
+    area->len = 0;
+    for (uint32_t left = below(4); left > 0; left--) {
+        add_foreign(area, below(below(50) != 0 ? 40 : 4000), (enum body)below(3));
+    }
+    for (uint32_t left = below(8) == 0 ? 2 : below(6) != 0; left > 0; left--) {
+        unit_value v;
+        random_value(&v);
+        carry_unit(&v, area);
+    }
+    if (below(3) == 0 && area->len < CAPTIONS_AREA_BYTES - 60) {
+        add_foreign(area, below(40), (enum body)below(3));
+    }
+    mutate(area->bytes, area->len);
+    /* What is before the length stays: a new end may cut any item. */
+    size_t end = area->len;
+    area->len = near_longest(nearly(area->len, sizeof area->bytes));
+    if (end < area->len) {
+        memset(area->bytes + end, odd_byte(), area->len - end);
+    }
+}
+
+/* A changed byte gets its word or is left wrong; the sums are often made right again, so that later rules are met. */
+static void random_packet(packet_input *packet)
+{
+    packet_value v;
+    make_packet(&v, below(6));
+    carry_packet(&v, packet);
+    size_t n = packet->len;
+    for (uint32_t left = below(3); left > 0; left--) {
+        size_t at = below(3) != 0 ? below((uint32_t)n) : below(24) % n;
+        uint8_t low = below(3) == 0 ? odd_byte() : (uint8_t)(packet->words[at] ^ 1u << below(8));
+        uint16_t even = (uint16_t)(0x6996 >> ((low ^ low >> 4) & 15) & 1);
+        packet->words[at] = below(6) == 0 ? (uint16_t)below(1100) : (uint16_t)(low | even << 8 | !even << 9);
+    }
+    if (below(2) == 0) {
+        uint16_t sum = 0;
+        for (size_t i = 3; i < n - 1; i++) {
+            sum = (sum + packet->words[i]) & 511;
+        }
+        packet->words[n - 1] = (uint16_t)(sum | (~sum & 256) << 1);
+    }
+    packet->len = below(8) != 0 ? n : nearly(n, CAPTIONS_PACKET_WORDS + 16);
+}
+
+static bool random_packet_write(void)
+{
+    packet_value v;
+    make_packet(&v, below(6));
+    if (below(3) == 0) {
+        mutate(v.slots, sizeof v.slots);
+    }
+    if (below(6) == 0) {
+        mutate(v.rows, sizeof v.rows);
+    }
+    if (below(16) == 0) {
+        v.counter += below(3) * 40000;
+    }
+    return agree_packet_write(&v, below(2) == 0 ? CAPTIONS_PACKET_WORDS : below(250));
+}
+
+static bool random_payload(void)
+{
+    static payload_value v;
+    static payload_input payload;
+    make_payload(&v, below(40) != 0 ? below(12) : below(292));
+    carry_payload(&v, &payload);
+    payload.len = nearly(payload.len, sizeof payload.bytes);
+    if (below(50) == 0) {
+        payload.len = CAPTIONS_PAYLOAD_BYTES - 8 + below(16);
+    }
+    bool same = agree_payload_read(&payload);
+    if (below(4) == 0) {
+        mutate(v.units, v.m * sizeof v.units[0]);
+    }
+    if (below(20) == 0) {
+        v.flags = below(300);
+        v.m = below(4) == 0 ? 290 + below(4) : v.m;
+    }
+    return same && agree_payload_write(&v, below(2) == 0 ? CAPTIONS_PAYLOAD_BYTES : below(80));
+}
+
+bool agree_on_random(size_t inputs)
+{
+    static area_input area;
+    static packet_input packet;
+    for (size_t i = 0; i < inputs; i += 7) {
+        unit_value v;
+        random_area(&area);
+        random_value(&v);
+        random_packet(&packet);
+        if (below(20) == 0 && area.len < 16000) {
+            v.z = CAPTIONS_AREA_BYTES - 2 + below(5) - area.len - size_of(&v);
+        }
+        size_t room = below(8) == 0 || v.z > 1000 ? CAPTIONS_AREA_BYTES : below(600);
+        if (!agree_area_read(&area) || !agree_unit_write(&v, room) || !agree_area_replace(&area, &v, room) ||
+            !agree_packet_read(&packet) || !random_packet_write() || !random_payload()) {
+            return false;
+        }
+    }
+    return true;
+}

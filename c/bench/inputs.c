@@ -1,0 +1,124 @@
+/* inputs.c: see inputs.h. */
+#include "inputs.h"
+
+#include "plain.h"
+
+#include <string.h>
+
+const calls plain_calls = {
+    plain_area_read,    plain_unit_write,   plain_area_replace,  plain_packet_read,
+    plain_packet_write, plain_payload_read, plain_payload_write,
+};
+
+const calls memchr_calls = {
+    plain_area_read_memchr, plain_unit_write,   plain_area_replace,  plain_packet_read,
+    plain_packet_write,     plain_payload_read, plain_payload_write,
+};
+
+const calls library_calls = {
+    captions_area_read,    captions_unit_write,   captions_area_replace,  captions_packet_read,
+    captions_packet_write, captions_payload_read, captions_payload_write,
+};
+
+uint32_t below(uint32_t n)
+{
+    static uint64_t state = 0x9E3779B97F4A7C15;
+    state ^= state << 13;
+    state ^= state >> 7;
+    state ^= state << 17;
+    return (uint32_t)((state >> 32) * n >> 32);
+}
+
+static uint8_t byte(void)
+{
+    return (uint8_t)below(256);
+}
+
+/* Lines rise by one within each field, which leaves room for 31 records in one field. */
+void make_unit(unit_value *v, size_t n, size_t z)
+{
+    memset(v, 0, sizeof *v);
+    v->reserved = below(128);
+    v->flag = 1;
+    v->n = n;
+    v->z = z;
+    uint8_t field = 1;
+    uint8_t line = 0;
+    uint8_t urgent = 0;
+    for (size_t i = 0; i < n; i++) {
+        if (field < 3 && below(12) == 0) {
+            field++;
+            line = 0;
+            urgent = 0;
+        }
+        uint8_t priority = (uint8_t)(urgent < 4 ? below(4) : 1 + below(3));
+        urgent += priority == 0;
+        v->records[i] = (captions_record){priority, field, line++, byte(), byte()};
+    }
+}
+
+void make_packet(packet_value *v, size_t k)
+{
+    memset(v, 0, sizeof *v);
+    v->counter = below(65536);
+    for (size_t i = 0; i < CAPTIONS_SLOTS; i++) {
+        /* Which slots are full is drawn, but k of them in all. */
+        if (below((uint32_t)(CAPTIONS_SLOTS - i)) >= k) {
+            continue;
+        }
+        k--;
+        v->slots[i] = (captions_slot){1, (uint8_t)(6 + below(17)), (uint8_t)below(4), (uint8_t)below(2)};
+        for (size_t j = 0; j < CAPTIONS_ROW_BYTES; j++) {
+            v->rows[i].bytes[j] = byte();
+        }
+    }
+}
+
+void make_payload(payload_value *v, size_t m)
+{
+    memset(v, 0, sizeof *v);
+    v->flags = byte();
+    v->m = m;
+    for (size_t i = 0; i < m; i++) {
+        v->units[i] = (captions_access_unit){
+            (uint8_t)below(2), (uint8_t)below(2), (uint8_t)below(64), byte(), byte(), byte(), byte(),
+        };
+    }
+}
+
+void carry_unit(const unit_value *v, area_input *area)
+{
+    area->len += plain_unit_write(v->reserved, v->flag, v->n, v->z, v->records, area->bytes + area->len,
+                                  CAPTIONS_AREA_BYTES - area->len).len;
+}
+
+void carry_packet(const packet_value *v, packet_input *packet)
+{
+    packet->len = plain_packet_write(v->counter, v->slots, v->rows, packet->words, CAPTIONS_PACKET_WORDS).len;
+}
+
+void carry_payload(const payload_value *v, payload_input *payload)
+{
+    payload->len = plain_payload_write(v->flags, v->m, v->units, payload->bytes, CAPTIONS_PAYLOAD_BYTES).len;
+}
+
+/* Letters, spaces, and now and then a 0 or a 1, as in the counts of a caption block. */
+static uint8_t text_byte(void)
+{
+    uint32_t kind = below(32);
+    return (uint8_t)(kind == 0 ? below(2) : kind < 6 ? ' ' : 'a' + below(26));
+}
+
+void add_foreign(area_input *area, size_t body, enum body kind)
+{
+    uint8_t *s = area->bytes + area->len;
+    memcpy(s, (const uint8_t[]){0, 0, 1, 0xB2}, 4);
+    for (size_t i = 4; i < 4 + body; i++) {
+        s[i] = kind == ZERO_BODY ? 0 : kind == TEXT_BODY ? text_byte() : byte();
+        /* No start code within, and no caption unit. */
+        if ((s[i] == 1 && s[i - 1] == 0 && s[i - 2] == 0) || (i == 4 && s[i] == 3)) {
+            s[i] = 0xFF;
+        }
+    }
+    area->len += 4 + body;
+}

@@ -1,0 +1,76 @@
+/* inputs.h: values and their carriages, made from a counted random sequence, so that every run has the same ones. */
+#ifndef INPUTS_H
+#define INPUTS_H
+
+#include "../captions.h"
+
+/* A caption unit's value, and an area. */
+typedef struct unit_value {
+    uint32_t reserved;
+    uint32_t flag;
+    size_t n;
+    size_t z;
+    captions_record records[CAPTIONS_RECORDS];
+} unit_value;
+
+typedef struct area_input {
+    size_t len;
+    uint8_t bytes[CAPTIONS_AREA_BYTES + 16]; /* also one that is too long */
+} area_input;
+
+typedef struct packet_value {
+    uint32_t counter;
+    captions_slot slots[CAPTIONS_SLOTS];
+    captions_row rows[CAPTIONS_SLOTS];
+} packet_value;
+
+typedef struct packet_input {
+    size_t len;
+    uint16_t words[CAPTIONS_PACKET_WORDS + 16];
+} packet_input;
+
+typedef struct payload_value {
+    uint32_t flags;
+    size_t m;
+    captions_access_unit units[CAPTIONS_ACCESS_UNITS];
+} payload_value;
+
+typedef struct payload_input {
+    size_t len;
+    uint8_t bytes[CAPTIONS_PAYLOAD_BYTES + 16];
+} payload_input;
+
+/* The seven calls of one program. */
+typedef struct calls {
+    captions_unit (*area_read)(const uint8_t *, size_t, captions_record *);
+    captions_written (*unit_write)(uint32_t, uint32_t, size_t, size_t, const captions_record *, uint8_t *, size_t);
+    captions_written (*area_replace)(const uint8_t *, size_t, uint32_t, uint32_t, size_t, size_t,
+                                     const captions_record *, uint8_t *, size_t);
+    captions_packet (*packet_read)(const uint16_t *, size_t, captions_row *);
+    captions_written (*packet_write)(uint32_t, const captions_slot *, const captions_row *, uint16_t *, size_t);
+    captions_payload (*payload_read)(const uint8_t *, size_t, captions_access_unit *);
+    captions_written (*payload_write)(uint32_t, size_t, const captions_access_unit *, uint8_t *, size_t);
+} calls;
+
+extern const calls plain_calls;
+extern const calls memchr_calls; /* the plain ones, but for the search of area_read */
+extern const calls library_calls;
+
+/* A number below n, which is not 0. */
+uint32_t below(uint32_t n);
+
+/* Legal values of n records, k structures, m units. */
+void make_unit(unit_value *v, size_t n, size_t z);
+void make_packet(packet_value *v, size_t k);
+void make_payload(payload_value *v, size_t m);
+
+/* What carries them, from the plain writers. */
+void carry_unit(const unit_value *v, area_input *area);
+void carry_packet(const packet_value *v, packet_input *packet);
+void carry_payload(const payload_value *v, payload_input *payload);
+
+/* Puts a foreign unit with a body of that many bytes behind what stands in the area. */
+enum body { RANDOM_BODY, ZERO_BODY, TEXT_BODY };
+void add_foreign(area_input *area, size_t body, enum body kind);
+
+#endif

@@ -1,0 +1,372 @@
+/* plain.c: the picture area; see plain.h. Sections named in comments are those of docs/01-scope.md. */
+#include "plain_area.h"
+
+enum {
+    CONTENT_BYTES = 104, /* with 31 constructs */
+    CONSTRUCTS = 21,     /* the bit of the body at which they begin */
+    CONSTRUCT_BITS = 26
+};
+
+static captions_written refuse(uint8_t number, size_t place)
+{
+    return (captions_written){.refusal = {number, place}};
+}
+
+/* ---- Bits ---- */
+
+#define REVERSED2(n) (n), (n) + 2 * 64, (n) + 1 * 64, (n) + 3 * 64
+#define REVERSED4(n) REVERSED2(n), REVERSED2((n) + 2 * 16), REVERSED2((n) + 1 * 16), REVERSED2((n) + 3 * 16)
+#define REVERSED6(n) REVERSED4(n), REVERSED4((n) + 2 * 4), REVERSED4((n) + 1 * 4), REVERSED4((n) + 3 * 4)
+
+/* The data bytes travel least significant bit first ("Picture area"). */
+static const uint8_t reversed[256] = {REVERSED6(0), REVERSED6(2), REVERSED6(1), REVERSED6(3)};
+
+static uint64_t load_be64(const uint8_t *s)
+{
+    return (uint64_t)s[0] << 56 | (uint64_t)s[1] << 48 | (uint64_t)s[2] << 40 | (uint64_t)s[3] << 32 |
+           (uint64_t)s[4] << 24 | (uint64_t)s[5] << 16 | (uint64_t)s[6] << 8 | s[7];
+}
+
+static void store_be32(uint8_t *out, uint32_t x)
+{
+    out[0] = (uint8_t)(x >> 24);
+    out[1] = (uint8_t)(x >> 16);
+    out[2] = (uint8_t)(x >> 8);
+    out[3] = (uint8_t)x;
+}
+
+/* The bits before bit `end` of s, the last of them lowest. Eight bytes must stand before the byte's end. */
+static uint64_t bits_before(const uint8_t *s, size_t end)
+{
+    size_t bytes = (end + 7) / 8;
+    return load_be64(s + bytes - 8) >> (8 * bytes - end);
+}
+
+/* In the machine's order, which is nothing to a test for zeros. */
+static uint64_t load_eight(const uint8_t *s)
+{
+    uint64_t eight;
+    memcpy(&eight, s, 8);
+    return eight;
+}
+
+/* Eight bytes at a time and no early exit, so that compilers take even more. */
+static bool all_zero(const uint8_t *s, size_t len)
+{
+    uint64_t any = 0;
+    size_t i = 0;
+    for (; i + 8 <= len; i += 8) {
+        any |= load_eight(s + i);
+    }
+    for (; i < len; i++) {
+        any |= s[i];
+    }
+    return any == 0;
+}
+
+/* ---- Picture area: its units ---- */
+
+/* The first of i, i + 3, i + 6 and so on with a byte of 0 or 1, or an index that is not below len. Four to a turn. */
+static inline size_t past_others(const uint8_t *s, size_t i, size_t len)
+{
+    for (; i + 9 < len; i += 12) {
+        if (s[i] <= 1) {
+            return i;
+        }
+        if (s[i + 3] <= 1) {
+            return i + 3;
+        }
+        if (s[i + 6] <= 1) {
+            return i + 6;
+        }
+        if (s[i + 9] <= 1) {
+            return i + 9;
+        }
+    }
+    while (i < len && s[i] > 1) {
+        i += 3;
+    }
+    return i;
+}
+
+/* The first byte from i on that is not 0, or an index that is not below len. Mostly it is near; long runs go by eights. */
+static inline size_t past_zeros(const uint8_t *s, size_t i, size_t len)
+{
+    if (i + 1 < len && s[i + 1] != 0) {
+        return s[i] == 0 ? i + 1 : i;
+    }
+    while (i + 8 <= len && load_eight(s + i) == 0) {
+        i += 8;
+    }
+    while (i < len && s[i] == 0) {
+        i++;
+    }
+    return i;
+}
+
+/* Looks where the 01 may be. A byte there that is not 0 rules the next two places out too, since two zeros precede 01. */
+static inline size_t next_start(const uint8_t *s, size_t from, size_t len)
+{
+    for (size_t i = from + 2;; i += 3) {
+        i = past_zeros(s, past_others(s, i, len), len);
+        if (i >= len) {
+            return len;
+        }
+        if (s[i] == 1 && s[i - 1] == 0 && s[i - 2] == 0) {
+            return i - 2;
+        }
+    }
+}
+
+/* ---- Picture area: records ---- */
+
+/* What the rules need of the records before one. */
+typedef struct last {
+    uint8_t field;
+    uint8_t line;
+    uint8_t urgent; /* how many records of this field have priority 0 */
+} last;
+
+/* 7, 8, 9 ("Legal records"). No record has field 0, so that any first one opens a field. */
+static uint8_t judge_record(last *before, captions_record r)
+{
+    uint8_t urgent = before->urgent;
+    if (r.field_number == 0) {
+        return CAPTIONS_FIELD_OR_LINE;
+    }
+    if (r.field_number < before->field) {
+        return CAPTIONS_ORDER;
+    }
+    if (r.field_number > before->field) {
+        urgent = 0;
+    } else if (r.line_offset <= before->line) {
+        return CAPTIONS_ORDER;
+    }
+    if (r.cc_priority == 0 && ++urgent > 4) {
+        return CAPTIONS_FIFTH_PRIORITY;
+    }
+    *before = (last){r.field_number, r.line_offset, urgent};
+    return CAPTIONS_ACCEPTED;
+}
+
+static captions_record record_of(uint32_t construct)
+{
+    return (captions_record){
+        .cc_priority = construct >> 24 & 3,
+        .field_number = construct >> 22 & 3,
+        .line_offset = construct >> 17 & 31,
+        .cc_data_1 = reversed[construct >> 9 & 255],
+        .cc_data_2 = reversed[construct >> 1 & 255],
+    };
+}
+
+static uint32_t construct_of(captions_record r)
+{
+    return (uint32_t)r.cc_priority << 24 | (uint32_t)r.field_number << 22 | (uint32_t)r.line_offset << 17 |
+           (uint32_t)reversed[r.cc_data_1] << 9 | (uint32_t)reversed[r.cc_data_2] << 1 | 1;
+}
+
+/* ---- Picture area: reading ---- */
+
+/* The n constructs of the unit s, which has `bits` bits with its start code. */
+static uint8_t read_constructs(const uint8_t *s, size_t bits, size_t n, captions_record *records)
+{
+    size_t end = 8 * START_BYTES + CONSTRUCTS;
+    last before = {0};
+    for (size_t i = 0; i < n; i++) {
+        end += CONSTRUCT_BITS;
+        if (bits < end) {
+            return CAPTIONS_ENDS;
+        }
+        /* The start code stands before the body, so that eight bytes are always there. */
+        uint32_t construct = (uint32_t)bits_before(s, end);
+        records[i] = record_of(construct);
+        uint8_t number = judge_record(&before, records[i]);
+        if (number != CAPTIONS_ACCEPTED) {
+            return number;
+        }
+        if ((construct & 1) == 0) {
+            return CAPTIONS_FIXED;
+        }
+    }
+    return CAPTIONS_ACCEPTED;
+}
+
+/* Reads the caption unit s from left to right. Where it is refused, what is in `unit` and `records` means nothing. */
+static uint8_t read_unit(const uint8_t *s, size_t len, captions_unit *unit, captions_record *records)
+{
+    if (len < START_BYTES + 2) {
+        return CAPTIONS_ENDS;
+    }
+    unit->reserved = s[5] >> 1;
+    unit->vbi_data_flag = s[5] & 1;
+    unit->n = 0;
+    size_t content = START_BYTES + 2;
+    if (unit->vbi_data_flag == 1) {
+        if (len < START_BYTES + 3) {
+            return CAPTIONS_ENDS;
+        }
+        unit->n = s[6] >> 3;
+        uint8_t number = read_constructs(s, 8 * len, unit->n, records);
+        if (number != CAPTIONS_ACCEPTED) {
+            return number;
+        }
+        size_t end = 8 * START_BYTES + CONSTRUCTS + CONSTRUCT_BITS * unit->n + 4;
+        content = (end + 7) / 8;
+        if (len < content) {
+            return CAPTIONS_ENDS;
+        }
+        if ((bits_before(s, end) & 15) != 0) {
+            return CAPTIONS_SAMPLED_VIDEO;
+        }
+        if ((s[content - 1] & ((1u << (8 * content - end)) - 1)) != 0) {
+            return CAPTIONS_FIXED;
+        }
+    }
+    if (!all_zero(s + content, len - content)) {
+        return CAPTIONS_FIXED;
+    }
+    unit->z = len - content;
+    return CAPTIONS_ACCEPTED;
+}
+
+static inline captions_unit read_found(const uint8_t *area, spot at, captions_record *records)
+{
+    captions_unit unit = {0};
+    captions_record held[CAPTIONS_RECORDS]; /* so that a refusal leaves the lent ones alone */
+    if (at.number != CAPTIONS_ACCEPTED) {
+        return (captions_unit){.refusal = {at.number, 0}};
+    }
+    if (at.present) {
+        uint8_t number = read_unit(area + at.start, at.end - at.start, &unit, held);
+        if (number != CAPTIONS_ACCEPTED) {
+            return (captions_unit){.refusal = {number, at.start}};
+        }
+        unit.present = true;
+    }
+    memcpy(records, held, unit.n * sizeof held[0]);
+    memset(records + unit.n, 0, (CAPTIONS_RECORDS - unit.n) * sizeof held[0]);
+    return unit;
+}
+
+captions_unit plain_area_read(const uint8_t *area, size_t len, captions_record records[static CAPTIONS_RECORDS])
+{
+    return read_found(area, find_unit(area, len, next_start), records);
+}
+
+captions_unit plain_read_found(const uint8_t *area, spot at, captions_record records[static CAPTIONS_RECORDS])
+{
+    return read_found(area, at, records);
+}
+
+/* ---- Picture area: writing ---- */
+
+/* A unit with its start code, but not its stuffing. A word more is there for the last store. */
+typedef struct laid {
+    uint8_t number;
+    size_t len;
+    uint8_t bytes[START_BYTES + CONTENT_BYTES + 4];
+} laid;
+
+/* cc_count, the constructs, and zeros up to a whole byte. */
+static uint8_t lay_constructs(size_t n, const captions_record *records, laid *unit)
+{
+    uint64_t bits = n;
+    unsigned width = 5;
+    last before = {0};
+    for (size_t i = 0; i < n; i++) {
+        captions_record r = records[i];
+        if (r.cc_priority > 3 || r.field_number > 3 || r.line_offset > 31) {
+            return CAPTIONS_UNHOLDABLE;
+        }
+        uint8_t number = judge_record(&before, r);
+        if (number != CAPTIONS_ACCEPTED) {
+            return number;
+        }
+        bits = bits << CONSTRUCT_BITS | construct_of(r);
+        width += CONSTRUCT_BITS;
+        if (width >= 32) {
+            width -= 32;
+            store_be32(unit->bytes + unit->len, (uint32_t)(bits >> width));
+            unit->len += 4;
+        }
+    }
+    /* Up to 31 bits are left, and the four zeros of the sampled video count follow them. */
+    bits <<= 4;
+    width += 4;
+    bits <<= 40 - width;
+    unit->bytes[unit->len] = (uint8_t)(bits >> 32);
+    store_be32(unit->bytes + unit->len + 1, (uint32_t)bits);
+    unit->len += (width + 7) / 8;
+    return CAPTIONS_ACCEPTED;
+}
+
+/* 15 of the whole value, then 15, 7, 8, 9 of each record; the unit is laid out beside them. */
+static void lay_unit(uint32_t reserved, uint32_t flag, size_t n, size_t z, const captions_record *records, laid *unit)
+{
+    unit->number = CAPTIONS_UNHOLDABLE;
+    if (n > CAPTIONS_RECORDS || reserved > 127 || flag > 1 || z > CAPTIONS_AREA_BYTES || (flag == 0 && n != 0)) {
+        return;
+    }
+    store_be32(unit->bytes, 0x000001B2);
+    unit->bytes[4] = 3;
+    unit->bytes[5] = (uint8_t)(reserved << 1 | flag);
+    unit->len = START_BYTES + 2;
+    unit->number = flag == 0 ? CAPTIONS_ACCEPTED : lay_constructs(n, records, unit);
+}
+
+captions_written plain_unit_write(uint32_t reserved, uint32_t vbi_data_flag, size_t n, size_t z,
+                                  const captions_record records[static CAPTIONS_RECORDS], uint8_t *out, size_t room)
+{
+    laid unit;
+    lay_unit(reserved, vbi_data_flag, n, z, records, &unit);
+    if (unit.number != CAPTIONS_ACCEPTED) {
+        return refuse(unit.number, 0);
+    }
+    size_t len = unit.len + z;
+    if (len > CAPTIONS_AREA_BYTES) {
+        return refuse(CAPTIONS_TOO_LONG, 0);
+    }
+    if (len > room) {
+        return refuse(CAPTIONS_NO_ROOM, 0);
+    }
+    memcpy(out, unit.bytes, unit.len);
+    memset(out + unit.len, 0, z);
+    return (captions_written){.len = len};
+}
+
+captions_written plain_area_replace(const uint8_t *area, size_t len, uint32_t reserved, uint32_t vbi_data_flag,
+                                    size_t n, size_t z, const captions_record records[static CAPTIONS_RECORDS],
+                                    uint8_t *out, size_t room)
+{
+    spot old = find_unit(area, len, next_start);
+    if (old.number != CAPTIONS_ACCEPTED) {
+        return refuse(old.number, 0);
+    }
+    if (old.present) {
+        captions_unit unit;
+        captions_record held[CAPTIONS_RECORDS];
+        uint8_t number = read_unit(area + old.start, old.end - old.start, &unit, held);
+        if (number != CAPTIONS_ACCEPTED) {
+            return refuse(number, old.start);
+        }
+    }
+    laid unit;
+    lay_unit(reserved, vbi_data_flag, n, z, records, &unit);
+    if (unit.number != CAPTIONS_ACCEPTED) {
+        return refuse(unit.number, 0);
+    }
+    size_t rest = len - old.end;
+    size_t whole = old.start + unit.len + z + rest;
+    if (whole > CAPTIONS_AREA_BYTES) {
+        return refuse(CAPTIONS_TOO_LONG, 0);
+    }
+    if (whole > room) {
+        return refuse(CAPTIONS_NO_ROOM, 0);
+    }
+    memcpy(out, area, old.start);
+    memcpy(out + old.start, unit.bytes, unit.len);
+    memset(out + old.start + unit.len, 0, z);
+    memcpy(out + old.start + unit.len + z, area + old.end, rest);
+    return (captions_written){.len = whole};
+}

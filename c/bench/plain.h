@@ -1,0 +1,43 @@
+/*
+ * plain.h: the seven calls of captions.h in plain C, to measure the library against.
+ *
+ * Each does the same work as its namesake: the checks of docs/01-scope.md in its order, the same refusals and places,
+ * the same answers, and no lent memory changed in a refusal.
+ */
+#ifndef PLAIN_H
+#define PLAIN_H
+
+#include "../captions.h"
+
+captions_unit plain_area_read(const uint8_t *area, size_t len, captions_record records[static CAPTIONS_RECORDS]);
+
+/*
+ * The same with the C library's memchr as the search. In glibc that is vector assembler, chosen at run time, and so no
+ * plain C: it is measured apart.
+ */
+captions_unit plain_area_read_memchr(const uint8_t *area, size_t len, captions_record records[static CAPTIONS_RECORDS]);
+
+captions_written plain_unit_write(uint32_t reserved, uint32_t vbi_data_flag, size_t n, size_t z,
+                                  const captions_record records[static CAPTIONS_RECORDS],
+                                  uint8_t *out, size_t room);
+
+captions_written plain_area_replace(const uint8_t *area, size_t len,
+                                    uint32_t reserved, uint32_t vbi_data_flag, size_t n, size_t z,
+                                    const captions_record records[static CAPTIONS_RECORDS],
+                                    uint8_t *out, size_t room);
+
+captions_packet plain_packet_read(const uint16_t *words, size_t len,
+                                  captions_row rows[static CAPTIONS_SLOTS]);
+
+captions_written plain_packet_write(uint32_t counter, const captions_slot slots[static CAPTIONS_SLOTS],
+                                    const captions_row rows[static CAPTIONS_SLOTS],
+                                    uint16_t *out, size_t room);
+
+captions_payload plain_payload_read(const uint8_t *payload, size_t len,
+                                    captions_access_unit units[static CAPTIONS_ACCESS_UNITS]);
+
+captions_written plain_payload_write(uint32_t flags, size_t m,
+                                     const captions_access_unit units[static CAPTIONS_ACCESS_UNITS],
+                                     uint8_t *out, size_t room);
+
+#endif

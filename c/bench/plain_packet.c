@@ -1,0 +1,225 @@
+/* plain_packet.c: the subtitling packet; see plain.h. Sections named in comments are those of docs/01-scope.md. */
+#include "plain.h"
+
+#include <string.h>
+
+enum {
+    DID = 3, /* index of the first word under CS */
+    DC = 5,
+    USER = 6, /* index of the first user word */
+    DESCRIPTORS = USER + 4,
+    STRUCTURES = DESCRIPTORS + CAPTIONS_SLOTS,
+    STRUCTURE_WORDS = 3 + CAPTIONS_ROW_BYTES,
+    MIN_WORDS = 20
+};
+
+/* A byte as a word: b8 its even parity, b9 the inverse of b8. Shifts rather than a table, so that loops are vectorised. */
+static inline uint16_t word_of(uint16_t byte)
+{
+    uint16_t four = byte ^ byte >> 4;
+    uint16_t two = four ^ four >> 2;
+    uint16_t parity = (two ^ two >> 1) & 1;
+    return (uint16_t)(byte + 0x200 - 0x100 * parity);
+}
+
+/* Modulo 512 this is the sum of the low nine bits, and modulo 256 that of the bytes. */
+static uint16_t sum_of(const uint16_t *words, size_t len)
+{
+    uint16_t sum = 0;
+    for (size_t i = 0; i < len; i++) {
+        sum += words[i];
+    }
+    return sum;
+}
+
+static uint16_t cs_word(uint16_t sum)
+{
+    sum &= 0x1FF;
+    return (uint16_t)(sum | (~sum & 0x100) << 1);
+}
+
+/* 11 ("Subtitling packet"). b8 of CS is a bit of the sum and no parity. */
+static bool words_hold(const uint16_t *words, size_t len)
+{
+    uint16_t wrong = 0;
+    for (size_t i = DID; i < len - 1; i++) {
+        wrong |= words[i] ^ word_of(words[i] & 0xFF);
+    }
+    return wrong == 0 && words[len - 1] == cs_word(words[len - 1]);
+}
+
+/* 01 calls line 0, and 6 to 22, legal. */
+static bool line_holds(uint8_t line)
+{
+    return line == 0 || (line >= 6 && line <= 22);
+}
+
+/* "Which refusal comes first", from 1 to DC against k. Every word's upper bits follow from its byte once 11 is judged. */
+static uint8_t judge_head(const uint16_t *words, size_t len)
+{
+    if (len > CAPTIONS_PACKET_WORDS) {
+        return CAPTIONS_TOO_LONG;
+    }
+    if (len < MIN_WORDS) {
+        return CAPTIONS_ENDS;
+    }
+    if (words[0] != 0x000 || words[1] != 0x3FF || words[2] != 0x3FF) {
+        return CAPTIONS_NO_START;
+    }
+    if (!words_hold(words, len)) {
+        return CAPTIONS_WORD;
+    }
+    if (words[DID] != 0x143 || words[DID + 1] != 0x102) {
+        return CAPTIONS_FIXED;
+    }
+    if ((words[DC] & 0xFF) != len - 7) {
+        return CAPTIONS_LENGTH;
+    }
+    if (words[USER] != 0x151 || words[USER + 1] != 0x115) {
+        return CAPTIONS_FIXED;
+    }
+    if (words[USER + 2] != words[DC]) {
+        return CAPTIONS_LENGTH;
+    }
+    if (words[USER + 3] != 0x102) {
+        return CAPTIONS_FIXED;
+    }
+    size_t k = 0;
+    for (size_t i = 0; i < CAPTIONS_SLOTS; i++) {
+        if (!line_holds(words[DESCRIPTORS + i] & 31)) {
+            return CAPTIONS_FIELD_OR_LINE;
+        }
+        k += (words[DESCRIPTORS + i] & 0xFF) != 0;
+    }
+    return len == MIN_WORDS + STRUCTURE_WORDS * k ? CAPTIONS_ACCEPTED : CAPTIONS_LENGTH;
+}
+
+/* The rest of that order: the structures, the footer, the two sums. */
+static uint8_t judge_tail(const uint16_t *words, size_t len)
+{
+    size_t footer = len - 5;
+    for (size_t at = STRUCTURES; at < footer; at += STRUCTURE_WORDS) {
+        if (words[at] != 0x255 || words[at + 1] != 0x255 || words[at + 2] != 0x227) {
+            return CAPTIONS_FIXED;
+        }
+    }
+    if (words[footer] != 0x274) {
+        return CAPTIONS_FIXED;
+    }
+    uint16_t user = sum_of(words + USER, len - 1 - USER);
+    if ((user & 0xFF) != 0) {
+        return CAPTIONS_CHECKSUM;
+    }
+    uint16_t all = (uint16_t)(user + words[DID] + words[DID + 1] + words[DC]);
+    return words[len - 1] == cs_word(all) ? CAPTIONS_ACCEPTED : CAPTIONS_CHECKSUM;
+}
+
+captions_packet plain_packet_read(const uint16_t *words, size_t len,
+                                  captions_row rows[static CAPTIONS_SLOTS])
+{
+    uint8_t number = judge_head(words, len);
+    if (number == CAPTIONS_ACCEPTED) {
+        number = judge_tail(words, len);
+    }
+    if (number != CAPTIONS_ACCEPTED) {
+        return (captions_packet){.refusal = {number, 0}};
+    }
+    captions_packet packet = {.counter = (words[len - 4] & 0xFFu) << 8 | (words[len - 3] & 0xFFu)};
+    const uint16_t *next = words + STRUCTURES + 3;
+    for (size_t i = 0; i < CAPTIONS_SLOTS; i++) {
+        uint8_t descriptor = (uint8_t)words[DESCRIPTORS + i];
+        packet.slots[i] = (captions_slot){descriptor != 0, descriptor & 31, descriptor >> 5 & 3, descriptor >> 7};
+        if (descriptor == 0) {
+            rows[i] = (captions_row){0};
+            continue;
+        }
+        for (size_t j = 0; j < CAPTIONS_ROW_BYTES; j++) {
+            rows[i].bytes[j] = (uint8_t)next[j];
+        }
+        next += STRUCTURE_WORDS;
+    }
+    return packet;
+}
+
+static uint8_t descriptor_of(captions_slot slot)
+{
+    return (uint8_t)(slot.line | slot.reserved << 5 | slot.field << 7);
+}
+
+static bool row_is_zero(const captions_row *row)
+{
+    static const captions_row zeros;
+    return memcmp(row, &zeros, sizeof zeros) == 0;
+}
+
+/* 15, then 7. A slot is empty exactly when its descriptor is 0, and then its row is zero too. */
+static uint8_t judge_slot(captions_slot slot, const captions_row *row)
+{
+    if (slot.full > 1 || slot.line > 31 || slot.reserved > 3 || slot.field > 1) {
+        return CAPTIONS_UNHOLDABLE;
+    }
+    if ((descriptor_of(slot) != 0) != (slot.full == 1)) {
+        return CAPTIONS_UNHOLDABLE;
+    }
+    if (slot.full == 0 && !row_is_zero(row)) {
+        return CAPTIONS_UNHOLDABLE;
+    }
+    return line_holds(slot.line) ? CAPTIONS_ACCEPTED : CAPTIONS_FIELD_OR_LINE;
+}
+
+/* Three fixed words and the row's. Answers their sum. */
+static uint16_t put_structure(const captions_row *restrict row, uint16_t *restrict out)
+{
+    out[0] = 0x255;
+    out[1] = 0x255;
+    out[2] = 0x227;
+    uint16_t sum = 0x255 + 0x255 + 0x227;
+    for (size_t j = 0; j < CAPTIONS_ROW_BYTES; j++) {
+        uint16_t word = word_of(row->bytes[j]);
+        out[3 + j] = word;
+        sum += word;
+    }
+    return sum;
+}
+
+captions_written plain_packet_write(uint32_t counter, const captions_slot slots[static CAPTIONS_SLOTS],
+                                    const captions_row rows[static CAPTIONS_SLOTS],
+                                    uint16_t *out, size_t room)
+{
+    if (counter > 0xFFFF) {
+        return (captions_written){.refusal = {CAPTIONS_UNHOLDABLE, 0}};
+    }
+    size_t len = MIN_WORDS;
+    for (size_t i = 0; i < CAPTIONS_SLOTS; i++) {
+        uint8_t number = judge_slot(slots[i], &rows[i]);
+        if (number != CAPTIONS_ACCEPTED) {
+            return (captions_written){.refusal = {number, 0}};
+        }
+        len += slots[i].full ? STRUCTURE_WORDS : 0;
+    }
+    if (len > room) {
+        return (captions_written){.refusal = {CAPTIONS_NO_ROOM, 0}};
+    }
+    const uint16_t count = word_of((uint16_t)(len - 7));
+    const uint16_t head[DESCRIPTORS] = {0x000, 0x3FF, 0x3FF, 0x143, 0x102, count, 0x151, 0x115, count, 0x102};
+    memcpy(out, head, sizeof head);
+    uint16_t user = 0x151 + 0x115 + 0x102 + count; /* the sum of the user words so far */
+    uint16_t *next = out + STRUCTURES;
+    for (size_t i = 0; i < CAPTIONS_SLOTS; i++) {
+        uint16_t descriptor = word_of(descriptor_of(slots[i]));
+        out[DESCRIPTORS + i] = descriptor;
+        user += descriptor;
+        if (slots[i].full) {
+            user += put_structure(&rows[i], next);
+            next += STRUCTURE_WORDS;
+        }
+    }
+    next[0] = 0x274;
+    next[1] = word_of((uint16_t)(counter >> 8));
+    next[2] = word_of(counter & 0xFF);
+    user += next[0] + next[1] + next[2];
+    /* The user bytes add up to 0 modulo 256; CS covers what the SDP checksum completes. */
+    next[3] = word_of(-user & 0xFF);
+    next[4] = cs_word((uint16_t)(user + next[3] + 0x143 + 0x102 + count));
+    return (captions_written){.len = len};
+}

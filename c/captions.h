@@ -1,0 +1,235 @@
+/*
+ * captions.h: closed captions and teletext in three carriages, read, written and replaced.
+ *
+ * Picture area       the user data behind an MPEG-2 picture header, with an SCTE 20 caption unit
+ * Subtitling packet  RDD 8 (OP-47), as ancillary data words
+ * Line 21 payload    the ISMA RTP payload, what follows the RTP header
+ *
+ * The rules are those of docs/01-scope.md. What is not ours passes byte for byte. What is ours is read whole or
+ * refused by number. Nothing is repaired. docs/C-API.md is the manual.
+ *
+ * Every function takes every value of its arguments and returns. It keeps nothing, allocates nothing, and calls
+ * nothing outside the library but C's memcpy and memset, so that any number of threads may call it.
+ *
+ * What a caller owes, since C cannot check it:
+ *   - no pointer is null, also where its length is 0;
+ *   - behind a pointer and a length stand that many bytes or words; behind an array of fixed size, all of its places;
+ *   - memory that a call may store to (a parameter that is not const) overlaps no other argument of that call.
+ *
+ * A refused call changes no lent memory. An accepted one changes what its description says, and nothing else.
+ */
+#ifndef CAPTIONS_H
+#define CAPTIONS_H
+
+#include <stdbool.h>
+#include <stddef.h>
+#include <stdint.h>
+
+#ifdef __cplusplus
+extern "C" {
+#define CAPTIONS_AT_LEAST(n) n
+#else
+#define CAPTIONS_AT_LEAST(n) static n
+#endif
+
+/* ---- Refusals ---- */
+
+/* The numbers of a refusal, as document 01 has them. 0 is no refusal. */
+enum {
+    CAPTIONS_ACCEPTED = 0,
+    CAPTIONS_TOO_LONG = 1,        /* longer than 16,384 bytes, 245 words or 1,456 bytes */
+    CAPTIONS_NO_START = 2,        /* no start code, flag words or flags byte where the input must begin with them */
+    CAPTIONS_START_CODE = 3,      /* 00 00 01 not followed by B2 */
+    CAPTIONS_SECOND_UNIT = 4,     /* a second caption unit in one area */
+    CAPTIONS_ENDS = 5,            /* the input ends before the next item */
+    CAPTIONS_FIXED = 6,           /* a fixed bit, byte or word is another */
+    CAPTIONS_FIELD_OR_LINE = 7,   /* field_number 0, or a descriptor's line 1 to 5 or 23 to 31 */
+    CAPTIONS_ORDER = 8,           /* a field number falls, or a line does not rise within its field */
+    CAPTIONS_FIFTH_PRIORITY = 9,  /* a fifth record of priority 0 in one field */
+    CAPTIONS_SAMPLED_VIDEO = 10,  /* a sampled video count above 0 */
+    CAPTIONS_WORD = 11,           /* a word above 1023, or its parity bits wrong */
+    CAPTIONS_CHECKSUM = 12,       /* the SDP checksum or CS is wrong */
+    CAPTIONS_LENGTH = 13,         /* DC, LENGTH or the payload's length does not fit */
+    CAPTIONS_NO_ROOM = 14,        /* the output is too short */
+    CAPTIONS_UNHOLDABLE = 15      /* a number that its layout cannot hold */
+};
+
+/* Why a call was refused. Both are 0 in an accepted one. */
+typedef struct captions_refusal {
+    uint8_t number; /* see above */
+    size_t place;   /* the first byte of the area's unit inside whose body reading failed; else 0 */
+} captions_refusal;
+
+/* What a writer answers. */
+typedef struct captions_written {
+    captions_refusal refusal;
+    size_t len; /* how many bytes or words it stored at the front of its output; 0 in a refusal */
+} captions_written;
+
+/* ---- Picture area (SCTE 20) ---- */
+
+enum {
+    CAPTIONS_AREA_BYTES = 16384, /* the longest area, so that an output of this size is never too short for one */
+    CAPTIONS_RECORDS = 31        /* the most records that a caption unit has */
+};
+
+/* One construct of a caption unit. */
+typedef struct captions_record {
+    uint8_t cc_priority;  /* 0 to 3 */
+    uint8_t field_number; /* 1 to 3: the display field of this picture, not the odd or even field of a frame */
+    uint8_t line_offset;  /* 0 to 31 */
+    uint8_t cc_data_1;    /* the two bytes as line 21 has them */
+    uint8_t cc_data_2;
+} captions_record;
+
+/* What captions_area_read answers. All zero but for the refusal where the call is refused or no caption unit stands there. */
+typedef struct captions_unit {
+    captions_refusal refusal;
+    bool present;          /* whether a caption unit stands in the area */
+    uint8_t reserved;      /* the seven reserved bits as they are */
+    uint8_t vbi_data_flag; /* 0 or 1 */
+    size_t n;              /* how many records */
+    size_t z;              /* how many zero bytes of stuffing follow the content */
+} captions_unit;
+
+/*
+ * Reads the caption unit of an area.
+ *
+ * Refuses with 1, 2, 3, 4, then 5 to 10 from left to right in the caption unit, with the unit's first byte as the place.
+ * Lent: all places of `records` are stored to where the call is accepted, the n records first and zeros behind them.
+ */
+captions_unit captions_area_read(const uint8_t *area, size_t len, captions_record records[CAPTIONS_AT_LEAST(CAPTIONS_RECORDS)]);
+
+/*
+ * Writes a caption unit with its start code and its stuffing at the front of `out`.
+ *
+ * Of `records` the first n are looked at. No number is narrowed: a reserved of 256 is refused, as 128 is.
+ * Refuses with 15 (n above 31, reserved above 127, flag above 1, z above 16,384, flag 0 with records); for each record in
+ * order with 15, 7, 8, 9; then with 1, then with 14.
+ * Lent: the first `len` bytes of `out` are stored to.
+ */
+captions_written captions_unit_write(uint32_t reserved, uint32_t vbi_data_flag, size_t n, size_t z,
+                                     const captions_record records[CAPTIONS_AT_LEAST(CAPTIONS_RECORDS)],
+                                     uint8_t *out, size_t room);
+
+/*
+ * Writes an area with another caption unit at the front of `out`. The new unit stands in the place of the old one, or
+ * behind the last byte where there is none. All other units pass byte for byte.
+ *
+ * Refuses as captions_area_read does for the area, then as captions_unit_write does, with 1 and 14 judged on the whole
+ * new area.
+ * Lent: the first `len` bytes of `out` are stored to.
+ */
+captions_written captions_area_replace(const uint8_t *area, size_t len,
+                                       uint32_t reserved, uint32_t vbi_data_flag, size_t n, size_t z,
+                                       const captions_record records[CAPTIONS_AT_LEAST(CAPTIONS_RECORDS)],
+                                       uint8_t *out, size_t room);
+
+/* ---- Subtitling packet (RDD 8, OP-47) ---- */
+
+enum {
+    CAPTIONS_PACKET_WORDS = 245, /* the longest packet */
+    CAPTIONS_SLOTS = 5,
+    CAPTIONS_ROW_BYTES = 42
+};
+
+/* One slot's numbers. An empty slot has zeros throughout, and its row too. */
+typedef struct captions_slot {
+    uint8_t full;     /* 1 full, 0 empty */
+    uint8_t line;     /* 0, or 6 to 22 */
+    uint8_t reserved; /* 0 to 3 */
+    uint8_t field;    /* 1 odd, 0 even: the field of the frame, not a display field number */
+} captions_slot;
+
+/* The 42 bytes of a slot's teletext row. */
+typedef struct captions_row {
+    uint8_t bytes[CAPTIONS_ROW_BYTES];
+} captions_row;
+
+/* What captions_packet_read answers. All zero but for the refusal where the call is refused. */
+typedef struct captions_packet {
+    captions_refusal refusal;
+    uint32_t counter; /* 0 to 65,535 */
+    captions_slot slots[CAPTIONS_SLOTS];
+} captions_packet;
+
+/*
+ * Reads a packet. Each 10-bit word stands in a 16-bit number.
+ *
+ * Refuses with 1; 5; 2; 11; 6; 13; 6; 13; 6; 7; 13; 6; 12 in the order of document 01. The place is 0.
+ * Lent: all of `rows` is stored to where the call is accepted: the 42 bytes of each full slot, zeros for an empty one.
+ */
+captions_packet captions_packet_read(const uint16_t *words, size_t len,
+                                     captions_row rows[CAPTIONS_AT_LEAST(CAPTIONS_SLOTS)]);
+
+/*
+ * Writes a packet at the front of `out`.
+ *
+ * Refuses with 15 (counter above 65,535); for each slot in order with 15, also where it is full with a descriptor of 0 or
+ * empty and not all zero, and with 7; then with 14.
+ * Lent: the first `len` words of `out` are stored to.
+ */
+captions_written captions_packet_write(uint32_t counter, const captions_slot slots[CAPTIONS_AT_LEAST(CAPTIONS_SLOTS)],
+                                       const captions_row rows[CAPTIONS_AT_LEAST(CAPTIONS_SLOTS)],
+                                       uint16_t *out, size_t room);
+
+/* ---- Line 21 payload ---- */
+
+enum {
+    CAPTIONS_PAYLOAD_BYTES = 1456, /* the longest payload */
+    CAPTIONS_ACCESS_UNITS = 291    /* the most access units that it has */
+};
+
+/* One access unit. A field's data bytes are carried whatever its flag says. */
+typedef struct captions_access_unit {
+    uint8_t cc_valid_1; /* 0 or 1 */
+    uint8_t cc_valid_2; /* 0 or 1 */
+    uint8_t padding;    /* 0 to 63 */
+    uint8_t field1_data1;
+    uint8_t field1_data2;
+    uint8_t field2_data1;
+    uint8_t field2_data2;
+} captions_access_unit;
+
+/* What captions_payload_read answers. All zero but for the refusal where the call is refused. */
+typedef struct captions_payload {
+    captions_refusal refusal;
+    uint8_t flags; /* the flags byte as it is */
+    size_t m;      /* how many access units */
+} captions_payload;
+
+/*
+ * Reads a payload.
+ *
+ * Refuses with 2, 1, 13. The place is 0.
+ * Lent: all places of `units` are stored to where the call is accepted, the m units first and zeros behind them.
+ */
+captions_payload captions_payload_read(const uint8_t *payload, size_t len,
+                                       captions_access_unit units[CAPTIONS_AT_LEAST(CAPTIONS_ACCESS_UNITS)]);
+
+/*
+ * Writes a payload at the front of `out`. Of `units` the first m are looked at.
+ *
+ * Refuses with 15 (flags above 255, m above 291), with 15 for each unit in order, then with 14.
+ * Lent: the first `len` bytes of `out` are stored to.
+ */
+captions_written captions_payload_write(uint32_t flags, size_t m,
+                                        const captions_access_unit units[CAPTIONS_AT_LEAST(CAPTIONS_ACCESS_UNITS)],
+                                        uint8_t *out, size_t room);
+
+#undef CAPTIONS_AT_LEAST
+
+#ifdef __cplusplus
+}
+#endif
+
+/* The library's layouts. A compiler that lays these structs out in another way must not link it. */
+#if defined(__STDC_VERSION__) && __STDC_VERSION__ >= 201112L
+_Static_assert(sizeof(size_t) == 8, "the library is for 64-bit systems");
+_Static_assert(sizeof(captions_refusal) == 16 && sizeof(captions_written) == 24, "refusals");
+_Static_assert(sizeof(captions_record) == 5 && sizeof(captions_unit) == 40, "caption units");
+_Static_assert(sizeof(captions_slot) == 4 && sizeof(captions_row) == 42 && sizeof(captions_packet) == 40, "packets");
+_Static_assert(sizeof(captions_access_unit) == 7 && sizeof(captions_payload) == 32, "payloads");
+#endif
+
+#endif

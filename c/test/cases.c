@@ -1,0 +1,244 @@
+/* cases.c: see cases.h. A third of the cases is meant to be legal, and many of the others are too. */
+#include "cases.h"
+
+#include <string.h>
+
+#include "mutate.h"
+
+enum { MEANT_LEGAL = 35 };
+
+/* ---- Rooms ---- */
+
+/* Room for `len` elements: exactly, or more, or much more. */
+static size_t enough_room(dice *d, size_t len, size_t most)
+{
+    switch (below(d, 8)) {
+    case 0:
+        return len + 1;
+    case 1:
+        return len + below(d, 60);
+    case 2:
+        return chance(d, 10) ? most : len;
+    default:
+        return len;
+    }
+}
+
+static size_t any_room(dice *d, size_t len, size_t most)
+{
+    size_t room;
+
+    switch (below(d, 10)) {
+    case 0:
+    case 1:
+        room = len > 0 ? len - 1 : 0;
+        break;
+    case 2:
+        room = 0;
+        break;
+    case 3:
+        room = below(d, len + 1);
+        break;
+    default:
+        room = enough_room(d, len, most);
+        break;
+    }
+    return room > most ? most : room;
+}
+
+/* ---- Areas ---- */
+
+static void one_or_two(dice *d, question *q, const area_map *map)
+{
+    mutate_area(d, q, map);
+    if (chance(d, 40))
+        mutate_area(d, q, map);
+}
+
+/* Now and then an area around the limit of 16,384 bytes, or far above it. */
+static void stretch_some(dice *d, question *q, area_map *map, bool legal)
+{
+    if (chance(d, 98))
+        return;
+    if (legal)
+        stretch_area(d, q, map, CAPTIONS_AREA_BYTES - below(d, 3));
+    else
+        stretch_area(d, q, map, chance(d, 80) ? CAPTIONS_AREA_BYTES + 3 - below(d, 6) : 40000 + below(d, 20000));
+}
+
+/* Bytes of which start codes are made, in any order behind a first start code. */
+static void start_code_soup(dice *d, question *q)
+{
+    static const uint8_t bytes[] = {0x00, 0x00, 0x00, 0x01, 0x01, 0xB2, 0xB2, 0x03, 0x80, 0x81};
+    static const uint8_t start[LAYOUT_START] = {0x00, 0x00, 0x01, 0xB2};
+
+    q->len = LAYOUT_START + below(d, 60);
+    memcpy(q->bytes, start, LAYOUT_START);
+    for (size_t i = LAYOUT_START; i < q->len; i++)
+        q->bytes[i] = bytes[below(d, sizeof bytes)];
+}
+
+static void area_case(dice *d, question *q, area_map *map, bool legal)
+{
+    if (!legal && chance(d, 8)) {
+        start_code_soup(d, q);
+        return;
+    }
+    legal_area(d, q, map);
+    stretch_some(d, q, map, legal);
+    if (!legal && chance(d, 90))
+        one_or_two(d, q, map);
+}
+
+static void unit_case(dice *d, unit_value *value, bool legal)
+{
+    legal_unit(d, value);
+    if (legal)
+        return;
+    spoil_unit(d, value);
+    if (chance(d, 30))
+        spoil_unit(d, value);
+}
+
+/* What the unit would take; 100 where it is not to be written anyway. */
+static size_t unit_len(const unit_value *value)
+{
+    if (value->n > CAPTIONS_RECORDS || value->z > CAPTIONS_AREA_BYTES)
+        return 100;
+    return LAYOUT_START + layout_content_bytes(value) + value->z;
+}
+
+static void unit_write_case(dice *d, question *q, bool legal)
+{
+    unit_case(d, &q->unit, legal || chance(d, 30));
+    if (legal && chance(d, 2)) /* as long as a unit can be */
+        q->unit.z = CAPTIONS_AREA_BYTES - LAYOUT_START - layout_content_bytes(&q->unit) - below(d, 2);
+    q->room = legal ? enough_room(d, unit_len(&q->unit), OUTPUT_MAX) : any_room(d, unit_len(&q->unit), OUTPUT_MAX);
+}
+
+/* z so that the new area has 16,384 bytes, give or take some. */
+static void fit_to_limit(dice *d, question *q, size_t around, bool legal)
+{
+    size_t front = around + LAYOUT_START + layout_content_bytes(&q->unit);
+
+    if (front + 3 < CAPTIONS_AREA_BYTES)
+        q->unit.z = CAPTIONS_AREA_BYTES - front - below(d, 3) + (legal ? 0 : 1 + below(d, 2));
+}
+
+static void replace_case(dice *d, question *q, bool legal)
+{
+    area_map map;
+    size_t around;
+    bool legal_value = legal || chance(d, 40);
+
+    legal_area(d, q, &map);
+    around = q->len;
+    if (map.caption < map.count)
+        around -= map.starts[map.caption + 1] - map.starts[map.caption];
+    unit_case(d, &q->unit, legal_value);
+    if (legal_value && chance(d, 2))
+        fit_to_limit(d, q, around, legal);
+    q->room = legal ? enough_room(d, around + unit_len(&q->unit), OUTPUT_MAX)
+                    : any_room(d, around + unit_len(&q->unit), OUTPUT_MAX);
+    if (legal)
+        return;
+    if (chance(d, 2))
+        stretch_area(d, q, &map, CAPTIONS_AREA_BYTES + 2 - below(d, 5));
+    if (chance(d, 50))
+        one_or_two(d, q, &map);
+}
+
+/* ---- Packets ---- */
+
+static void packet_read_case(dice *d, question *q, bool legal)
+{
+    legal_packet(d, &q->packet);
+    q->len = layout_packet(&q->packet, q->words);
+    if (legal)
+        return;
+    mutate_packet(d, q);
+    if (chance(d, 40))
+        mutate_packet(d, q);
+}
+
+static void packet_write_case(dice *d, question *q, bool legal)
+{
+    uint16_t words[CAPTIONS_PACKET_WORDS];
+    size_t len;
+
+    legal_packet(d, &q->packet);
+    len = layout_packet(&q->packet, words);
+    q->room = legal ? enough_room(d, len, WORDS_MAX) : any_room(d, len, WORDS_MAX);
+    if (legal || chance(d, 30))
+        return;
+    spoil_packet(d, &q->packet);
+    if (chance(d, 30))
+        spoil_packet(d, &q->packet);
+}
+
+/* ---- Payloads ---- */
+
+/* Every byte of a payload is legal, so that only its length can be wrong. */
+static void payload_read_case(dice *d, question *q, bool legal)
+{
+    static const size_t lengths[] = {0, 1, 2, 5, 6, 7, 1451, 1455, 1456, 1457, 1461, 2037, 65535, 65536};
+
+    legal_payload(d, &q->payload);
+    q->len = layout_payload(&q->payload, q->bytes);
+    if (legal)
+        return;
+    if (chance(d, 10))
+        q->len = lengths[below(d, sizeof lengths / sizeof *lengths)];
+    else
+        q->len = below(d, chance(d, 90) ? 60 : 1500);
+    for (size_t i = 0; i < q->len; i++)
+        q->bytes[i] = (uint8_t)(i % 8 == 0 ? roll(d) : q->bytes[i]);
+}
+
+static void payload_write_case(dice *d, question *q, bool legal)
+{
+    legal_payload(d, &q->payload);
+    q->room = legal ? enough_room(d, 1 + 5 * q->payload.m, OUTPUT_MAX) : any_room(d, 1 + 5 * q->payload.m, OUTPUT_MAX);
+    if (legal || chance(d, 30))
+        return;
+    spoil_payload(d, &q->payload);
+    if (chance(d, 30))
+        spoil_payload(d, &q->payload);
+}
+
+/* ---- All ---- */
+
+static operation some_operation(dice *d)
+{
+    static const operation often[] = {AREA_READ,    AREA_READ,   AREA_READ,   AREA_READ,    AREA_REPLACE, AREA_REPLACE,
+                                      AREA_REPLACE, UNIT_WRITE,  UNIT_WRITE,  PACKET_READ,  PACKET_READ,  PACKET_READ,
+                                      PACKET_WRITE, PACKET_WRITE, PAYLOAD_READ, PAYLOAD_WRITE};
+
+    return often[below(d, sizeof often / sizeof *often)];
+}
+
+void make_case(dice *d, question *q)
+{
+    bool legal;
+    area_map map;
+
+    q->op = some_operation(d);
+    q->fill = (uint16_t)roll(d);
+    q->at = chance(d, 50) ? AT_END : AT_FRONT;
+    q->len = 0;
+    legal = chance(d, MEANT_LEGAL);
+    if (q->op == AREA_READ)
+        area_case(d, q, &map, legal);
+    else if (q->op == UNIT_WRITE)
+        unit_write_case(d, q, legal);
+    else if (q->op == AREA_REPLACE)
+        replace_case(d, q, legal);
+    else if (q->op == PACKET_READ)
+        packet_read_case(d, q, legal);
+    else if (q->op == PACKET_WRITE)
+        packet_write_case(d, q, legal);
+    else if (q->op == PAYLOAD_READ)
+        payload_read_case(d, q, legal);
+    else
+        payload_write_case(d, q, legal);
+}

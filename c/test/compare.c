@@ -1,0 +1,150 @@
+/* compare.c: outcomes compared whole, and the guards tried out. See harness.h. */
+#define _GNU_SOURCE /* fork, waitpid, sigaction */
+#include <signal.h>
+#include <stdio.h>
+#include <string.h>
+#include <sys/wait.h>
+#include <unistd.h>
+
+#include "harness.h"
+
+static char text[160];
+
+static const char *number_name(operation op, size_t i)
+{
+    static const char *const unit[] = {"present", "reserved", "vbi_data_flag", "n", "z"};
+    static const char *const payload[] = {"flags", "m"};
+    static const char *const slot[] = {"full", "line", "reserved", "field"};
+
+    if (i < 2)
+        return i == 0 ? "number" : "place";
+    if (is_writer(op))
+        return "len";
+    if (op == AREA_READ)
+        return unit[i - 2];
+    if (op == PAYLOAD_READ)
+        return payload[i - 2];
+    return i == 2 ? "counter" : slot[(i - 3) % 4];
+}
+
+static const char *number_difference(operation op, size_t i, uint64_t expected, uint64_t got)
+{
+    snprintf(text, sizeof text, "%s (number %zu of the answer) is %llu, not %llu", number_name(op, i), i,
+             (unsigned long long)got, (unsigned long long)expected);
+    return text;
+}
+
+static const char *memory_difference(size_t i, uint8_t expected, uint8_t got)
+{
+    snprintf(text, sizeof text, "byte %zu of the lent output is %02X, not %02X", i, got, expected);
+    return text;
+}
+
+static uint8_t pattern_byte(const question *q, size_t i)
+{
+    uint16_t word = (uint16_t)(i / 2 * 37 + q->fill);
+    uint8_t bytes[2];
+
+    if (q->op != PACKET_WRITE)
+        return (uint8_t)(i * 37 + q->fill);
+    memcpy(bytes, &word, 2);
+    return bytes[i % 2];
+}
+
+/*
+ * What 01 says of every call: in a refusal all else is zero and outputs stay untouched; in an accepted answer number and
+ * place are 0, and a success changes only what it counts as written.
+ */
+static const char *broken_rule(const question *q, const outcome *got)
+{
+    size_t untouched = 0;
+
+    if (got->numbers[0] > 15)
+        return "a number above 15";
+    for (size_t i = 2; got->numbers[0] != 0 && i < got->count; i++)
+        if (got->numbers[i] != 0)
+            return "a refusal that holds a value";
+    if (got->numbers[0] == 0 && got->numbers[1] != 0)
+        return "an accepted answer with a place";
+    if (got->numbers[0] == 0)
+        untouched = is_writer(q->op) ? (size_t)got->numbers[2] * element_bytes(q->op) : got->size;
+    if (untouched > got->size)
+        return "a length above the room";
+    for (size_t i = untouched; i < got->size; i++)
+        if (got->memory[i] != pattern_byte(q, i))
+            return memory_difference(i, pattern_byte(q, i), got->memory[i]);
+    return NULL;
+}
+
+const char *difference(const question *q, const outcome *expected, const outcome *got)
+{
+    if (got->damage != NULL)
+        return got->damage;
+    if (expected->count != got->count || expected->size != got->size)
+        return "an outcome of another kind";
+    for (size_t i = 0; i < got->count; i++)
+        if (expected->numbers[i] != got->numbers[i])
+            return number_difference(q->op, i, expected->numbers[i], got->numbers[i]);
+    if (memcmp(expected->memory, got->memory, got->size) != 0)
+        for (size_t i = 0; i < got->size; i++)
+            if (expected->memory[i] != got->memory[i])
+                return memory_difference(i, expected->memory[i], got->memory[i]);
+    return broken_rule(q, got);
+}
+
+/* ---- The guards tried out ---- */
+
+enum { TOUCHED = 77 };
+
+static void on_touch(int signal_number)
+{
+    (void)signal_number;
+    _exit(TOUCHED);
+}
+
+/* Touches one byte beside what was lent, in a process of its own, and tells whether that was noticed. */
+static bool touch_is_noticed(volatile uint8_t *beside, bool store)
+{
+    int status = 0;
+    pid_t child = fork();
+
+    if (child == 0) {
+        struct sigaction action;
+        memset(&action, 0, sizeof action);
+        action.sa_handler = on_touch;
+        sigaction(SIGSEGV, &action, NULL);
+        sigaction(SIGBUS, &action, NULL);
+        if (store)
+            *beside = 1;
+        else
+            (void)*beside;
+        _exit(0);
+    }
+    return child > 0 && waitpid(child, &status, 0) == child && WIFEXITED(status) && WEXITSTATUS(status) == TOUCHED;
+}
+
+/* One piece: the one side is untouchable, and a changed byte on the other side shows. */
+static bool guard_holds(arena *a, side at, size_t size)
+{
+    uint8_t *lent = arena_lend(a, at, size);
+    uint8_t *before = lent - 1, *behind = lent + size;
+    uint8_t *untouchable = at == AT_END ? behind : before;
+    bool good = touch_is_noticed(untouchable, false) && touch_is_noticed(untouchable, true) && arena_near_is_whole(a);
+
+    *(at == AT_END ? before : behind) ^= 1;
+    good = good && !arena_near_is_whole(a) && !arena_is_whole(a);
+    arena_take_back(a);
+    return good && arena_is_whole(a);
+}
+
+bool guards_hold(void)
+{
+    static const size_t sizes[] = {0, 1, 155, 16384};
+    arena a;
+
+    arena_open(&a, 16384);
+    for (size_t i = 0; i < sizeof sizes / sizeof *sizes; i++)
+        if (!guard_holds(&a, AT_END, sizes[i]) || !guard_holds(&a, AT_FRONT, sizes[i]))
+            return false;
+    return true;
+}

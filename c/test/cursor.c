@@ -1,0 +1,193 @@
+/* cursor.c: see cursor.h. */
+#include "cursor.h"
+
+bool take(cursor *c, char wanted)
+{
+    if (*c->at != wanted)
+        return false;
+    c->at++;
+    return true;
+}
+
+void need(cursor *c, char wanted)
+{
+    if (!take(c, wanted))
+        c->bad = true;
+}
+
+uint64_t take_number(cursor *c, uint64_t most)
+{
+    uint64_t value = 0;
+    bool wide = false;
+
+    if (*c->at < '0' || *c->at > '9')
+        c->bad = true;
+    for (; *c->at >= '0' && *c->at <= '9'; c->at++) {
+        unsigned digit = (unsigned)(*c->at - '0');
+        wide = wide || value > (UINT64_MAX - digit) / 10;
+        value = value * 10 + digit;
+    }
+    if (wide || value > most)
+        c->wide = true;
+    return value;
+}
+
+static int hex_digit(char c)
+{
+    if (c >= '0' && c <= '9')
+        return c - '0';
+    return c >= 'A' && c <= 'F' ? c - 'A' + 10 : -1;
+}
+
+static uint16_t take_hex(cursor *c, unsigned digits)
+{
+    unsigned value = 0;
+
+    for (unsigned i = 0; i < digits && !c->bad; i++) {
+        int digit = hex_digit(*c->at);
+        if (digit < 0)
+            c->bad = true;
+        else
+            c->at++;
+        value = value * 16 + (unsigned)(digit & 15);
+    }
+    return (uint16_t)value;
+}
+
+/* `*N` behind an item: how often it stands there; 1 without it. More than any input holds is bad, not wide. */
+static size_t take_times(cursor *c)
+{
+    cursor times = {c->at, c->bad, false};
+    size_t value;
+
+    if (!take(&times, '*'))
+        return 1;
+    value = (size_t)take_number(&times, INPUT_MAX);
+    c->at = times.at;
+    c->bad = times.bad || times.wide;
+    return value;
+}
+
+/* One segment: elements one behind the other, or one element `*` its times. */
+static size_t take_segment(cursor *c, unsigned digits, uint16_t *to, size_t most)
+{
+    size_t len = 0, times;
+    uint16_t element;
+
+    do {
+        element = take_hex(c, digits);
+        if (len == most || c->bad) {
+            c->bad = true;
+            return 0;
+        }
+        to[len++] = element;
+    } while (hex_digit(*c->at) >= 0);
+    times = take_times(c);
+    if (times != 1 && (len != 1 || times == 0 || times > most))
+        c->bad = true;
+    for (; len < times && !c->bad; len++)
+        to[len] = element;
+    return len;
+}
+
+size_t take_elements(cursor *c, unsigned digits, uint16_t *to, size_t most)
+{
+    size_t len = 0;
+
+    if (take(c, '-'))
+        return 0;
+    do
+        len += take_segment(c, digits, to + len, most - len);
+    while (!c->bad && take(c, '+'));
+    return len;
+}
+
+size_t take_bytes(cursor *c, uint8_t *to, size_t most)
+{
+    static uint16_t wide[INPUT_MAX];
+    size_t len = take_elements(c, 2, wide, most);
+
+    for (size_t i = 0; i < len; i++)
+        to[i] = (uint8_t)wide[i];
+    return len;
+}
+
+/* ---- Lists. Items beyond the places of an array are counted, not kept. ---- */
+
+static uint8_t take_small(cursor *c)
+{
+    uint8_t value = (uint8_t)take_number(c, 255);
+
+    need(c, '.');
+    return value;
+}
+
+static captions_record take_record(cursor *c)
+{
+    captions_record r;
+
+    r.cc_priority = take_small(c);
+    r.field_number = take_small(c);
+    r.line_offset = take_small(c);
+    r.cc_data_1 = (uint8_t)take_hex(c, 2);
+    r.cc_data_2 = (uint8_t)take_hex(c, 2);
+    return r;
+}
+
+static captions_access_unit take_unit(cursor *c)
+{
+    captions_access_unit u;
+
+    u.cc_valid_1 = take_small(c);
+    u.cc_valid_2 = take_small(c);
+    u.padding = take_small(c);
+    u.field1_data1 = (uint8_t)take_hex(c, 2);
+    u.field1_data2 = (uint8_t)take_hex(c, 2);
+    u.field2_data1 = (uint8_t)take_hex(c, 2);
+    u.field2_data2 = (uint8_t)take_hex(c, 2);
+    return u;
+}
+
+size_t take_record_list(cursor *c, captions_record *to)
+{
+    size_t len = 0;
+
+    if (take(c, '-'))
+        return 0;
+    do {
+        captions_record record = take_record(c);
+        for (size_t times = take_times(c); times > 0 && !c->bad; times--, len++)
+            if (len < CAPTIONS_RECORDS)
+                to[len] = record;
+    } while (!c->bad && take(c, ','));
+    return len;
+}
+
+size_t take_unit_list(cursor *c, captions_access_unit *to)
+{
+    size_t len = 0;
+
+    if (take(c, '-'))
+        return 0;
+    do {
+        captions_access_unit unit = take_unit(c);
+        for (size_t times = take_times(c); times > 0 && !c->bad; times--, len++)
+            if (len < CAPTIONS_ACCESS_UNITS)
+                to[len] = unit;
+    } while (!c->bad && take(c, ','));
+    return len;
+}
+
+void take_slots(cursor *c, packet_value *to)
+{
+    for (size_t i = 0; i < CAPTIONS_SLOTS && !c->bad; i++) {
+        if (i > 0)
+            need(c, ',');
+        to->slots[i].full = take_small(c);
+        to->slots[i].line = take_small(c);
+        to->slots[i].reserved = take_small(c);
+        to->slots[i].field = take_small(c);
+        if (take_bytes(c, to->rows[i].bytes, CAPTIONS_ROW_BYTES) != CAPTIONS_ROW_BYTES)
+            c->bad = true;
+    }
+}

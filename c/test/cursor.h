@@ -1,0 +1,32 @@
+/* cursor.h: the values of the text vectors, taken one behind the other from a text. */
+#ifndef CURSOR_H
+#define CURSOR_H
+
+#include "harness.h"
+
+/* A place in a text, with what went wrong on the way. */
+typedef struct cursor {
+    const char *at;
+    bool bad;  /* the text is not formed as it should be */
+    bool wide; /* a number that the C type cannot hold */
+} cursor;
+
+/* One character, where it stands there; needed, where the text is bad without it. */
+bool take(cursor *c, char wanted);
+void need(cursor *c, char wanted);
+
+/* A decimal number. Above `most` it is wide, and its value is not to be used. */
+uint64_t take_number(cursor *c, uint64_t most);
+
+/* Elements of 2 hex digits (bytes) or 4 (words): segments joined by `+`, `-` for none. More than `most` are bad. */
+size_t take_elements(cursor *c, unsigned digits, uint16_t *to, size_t most);
+size_t take_bytes(cursor *c, uint8_t *to, size_t most);
+
+/* Lists, and how many items they have. Items beyond the places of the array are counted, not kept. */
+size_t take_record_list(cursor *c, captions_record *to);
+size_t take_unit_list(cursor *c, captions_access_unit *to);
+
+/* Five slots with their rows. */
+void take_slots(cursor *c, packet_value *to);
+
+#endif

@@ -1,0 +1,98 @@
+/*
+ * harness.h: one call as data. A question is what a call is given, an outcome is its answer and the memory it was lent.
+ * The library and the model are asked in the same way, and outcomes are compared whole.
+ */
+#ifndef HARNESS_H
+#define HARNESS_H
+
+#include "captions.h"
+#include "guard.h"
+#include "layout.h"
+
+typedef enum operation {
+    AREA_READ,
+    UNIT_WRITE,
+    AREA_REPLACE,
+    PACKET_READ,
+    PACKET_WRITE,
+    PAYLOAD_READ,
+    PAYLOAD_WRITE,
+    OPERATIONS
+} operation;
+
+enum {
+    INPUT_MAX = 70000,  /* bytes of the longest input */
+    OUTPUT_MAX = 40000, /* bytes of the longest lent output */
+    WORDS_MAX = 1000,   /* words of the longest packet input or output */
+    NUMBERS_MAX = 23,
+    FILL = 11 /* the pattern of vectors/: element i is i * 37 + 11 */
+};
+
+typedef struct question {
+    operation op;
+    uint16_t fill;            /* what the pattern of the lent output begins with */
+    side at;                  /* which side of each lent piece is untouchable */
+    size_t len;               /* elements of the input: bytes, or words of a packet */
+    uint8_t bytes[INPUT_MAX]; /* an area or a payload */
+    uint16_t words[WORDS_MAX];
+    unit_value unit;
+    packet_value packet;
+    payload_value payload;
+    size_t room; /* elements of a writer's output */
+} question;
+
+typedef struct outcome {
+    size_t count;
+    uint64_t numbers[NUMBERS_MAX]; /* number, place, and all else that the answer holds, in the order of captions.h */
+    size_t size;
+    uint8_t memory[OUTPUT_MAX]; /* the lent output in bytes: records, rows, units, or what was written */
+    const char *damage;         /* what became of memory that was not to be stored to; null where nothing did */
+} outcome;
+
+/* The seven calls of the library or of the model. */
+typedef struct calls {
+    captions_unit (*area_read)(const uint8_t *, size_t, captions_record *);
+    captions_written (*unit_write)(uint32_t, uint32_t, size_t, size_t, const captions_record *, uint8_t *, size_t);
+    captions_written (*area_replace)(const uint8_t *, size_t, uint32_t, uint32_t, size_t, size_t, const captions_record *,
+                                     uint8_t *, size_t);
+    captions_packet (*packet_read)(const uint16_t *, size_t, captions_row *);
+    captions_written (*packet_write)(uint32_t, const captions_slot *, const captions_row *, uint16_t *, size_t);
+    captions_payload (*payload_read)(const uint8_t *, size_t, captions_access_unit *);
+    captions_written (*payload_write)(uint32_t, size_t, const captions_access_unit *, uint8_t *, size_t);
+} calls;
+
+extern const calls library_calls, model_calls;
+extern const char *const operation_names[OPERATIONS];
+
+/* Damage done on purpose right after a call, so that a test of the tests can see that it is noticed. */
+typedef enum spoil {
+    SPOIL_NOTHING,
+    SPOIL_BESIDE_OUTPUT, /* a byte before the output, or behind it */
+    SPOIL_BEHIND_LENGTH, /* the first element behind what a writer wrote; the first of all after a refusal */
+    SPOIL_LAST,          /* the last byte of the lent output */
+    SPOIL_FIRST_INPUT,
+    SPOIL_SECOND_INPUT,
+    SPOILS
+} spoil;
+
+void harness_open(void);
+
+/* Asks. True where `spoiling` found something to spoil, as SPOIL_NOTHING always does. */
+bool ask(const calls *who, const question *q, spoil spoiling, outcome *got);
+
+/* Numbers zero and memory as it is lent: an outcome to begin from. */
+void outcome_begin(const question *q, outcome *o);
+
+/* Null where `got` is as expected and keeps the rules that every call has; else what differs. */
+const char *difference(const question *q, const outcome *expected, const outcome *got);
+
+bool is_writer(operation op);
+size_t element_bytes(operation op);
+
+/* All guard bytes of all arenas, not only the near ones. */
+bool arenas_are_whole(void);
+
+/* Whether one byte read, and one stored, on the untouchable side of a lent piece ends a program. */
+bool guards_hold(void);
+
+#endif

@@ -1,0 +1,65 @@
+/*
+ * layout.h: bytes and words made from values, as 01's tables lay them out.
+ *
+ * Nothing is judged here and no reader is used: a number that its place cannot hold loses its upper bits. So a test can
+ * also lay out a value that no writer would take.
+ */
+#ifndef LAYOUT_H
+#define LAYOUT_H
+
+#include "captions.h"
+
+/* The values of 01: what a unit, a packet and a payload are written from. */
+typedef struct unit_value {
+    uint32_t reserved;
+    uint32_t vbi_data_flag;
+    size_t n;
+    size_t z;
+    captions_record records[CAPTIONS_RECORDS];
+} unit_value;
+
+typedef struct packet_value {
+    uint32_t counter;
+    captions_slot slots[CAPTIONS_SLOTS];
+    captions_row rows[CAPTIONS_SLOTS];
+} packet_value;
+
+typedef struct payload_value {
+    uint32_t flags;
+    size_t m;
+    captions_access_unit units[CAPTIONS_ACCESS_UNITS];
+} payload_value;
+
+enum {
+    LAYOUT_START = 4,         /* 00 00 01 B2 */
+    LAYOUT_CONSTRUCTS = 21,   /* the bit of a body at which the first construct begins: 8 + 7 + 1 + 5 */
+    LAYOUT_CONSTRUCT = 26,    /* bits of a construct */
+    LAYOUT_USER = 6,          /* the word of a packet at which the user words begin */
+    LAYOUT_DESCRIPTORS = 10,  /* the word of the first descriptor */
+    LAYOUT_STRUCTURES = 15,   /* the word at which the structures begin */
+    LAYOUT_STRUCTURE = 45     /* words of a structure */
+};
+
+/* Bytes of a caption unit's content: 2 with flag 0, else 25 + 26n bits in whole bytes. */
+size_t layout_content_bytes(const unit_value *value);
+
+/* Stores start code, content and stuffing, and gives their length. The caller has the room, and n is at most 31. */
+size_t layout_unit(const unit_value *value, uint8_t *out);
+
+/* The byte of a slot's descriptor. */
+uint8_t layout_descriptor(const captions_slot *slot);
+
+/* Stores a packet and gives its words, 20 to 245. */
+size_t layout_packet(const packet_value *value, uint16_t *out);
+
+/* The word of a byte: the byte, b8 its even parity, b9 the inverse of b8 (SMPTE 291M). */
+uint16_t layout_word(uint8_t byte);
+
+/* Stores anew the SDP checksum and CS of a packet of len words, 20 at least. */
+void layout_sdp_checksum(uint16_t *words, size_t len);
+void layout_cs(uint16_t *words, size_t len);
+
+/* Stores a payload and gives its bytes. m is at most 291. */
+size_t layout_payload(const payload_value *value, uint8_t *out);
+
+#endif

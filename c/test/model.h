@@ -1,0 +1,29 @@
+/*
+ * model.h: the seven calls of captions.h once more, written from docs/01-scope.md alone.
+ *
+ * The model shares nothing with the library but the types of captions.h. It is meant to be read beside 01: one check
+ * after the other, in 01's order, bit by bit, and slow.
+ */
+#ifndef MODEL_H
+#define MODEL_H
+
+#include "captions.h"
+
+captions_unit model_area_read(const uint8_t *area, size_t len, captions_record *records);
+
+captions_written model_unit_write(uint32_t reserved, uint32_t vbi_data_flag, size_t n, size_t z,
+                                  const captions_record *records, uint8_t *out, size_t room);
+
+captions_written model_area_replace(const uint8_t *area, size_t len, uint32_t reserved, uint32_t vbi_data_flag, size_t n,
+                                    size_t z, const captions_record *records, uint8_t *out, size_t room);
+
+captions_packet model_packet_read(const uint16_t *words, size_t len, captions_row *rows);
+
+captions_written model_packet_write(uint32_t counter, const captions_slot *slots, const captions_row *rows,
+                                    uint16_t *out, size_t room);
+
+captions_payload model_payload_read(const uint8_t *payload, size_t len, captions_access_unit *units);
+
+captions_written model_payload_write(uint32_t flags, size_t m, const captions_access_unit *units, uint8_t *out, size_t room);
+
+#endif

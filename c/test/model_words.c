@@ -1,0 +1,232 @@
+/* model_words.c: the subtitling packet and the Line 21 payload by 01. */
+#include "model.h"
+
+#include <string.h>
+
+#include "layout.h"
+
+static captions_written refused(uint8_t number)
+{
+    return (captions_written){.refusal = {number, 0}};
+}
+
+/* ---- Reading a packet (01, "Subtitling packet"; SMPTE 291M for parity and CS) ---- */
+
+static unsigned bit_of(uint16_t word, unsigned bit)
+{
+    return word >> bit & 1;
+}
+
+/* b8 is the even parity of b7 to b0, b9 the inverse of b8. */
+static bool word_is_right(uint16_t word)
+{
+    unsigned ones = 0;
+
+    for (unsigned bit = 0; bit < 8; bit++)
+        ones += bit_of(word, bit);
+    return word <= 1023 && bit_of(word, 8) == ones % 2 && bit_of(word, 9) != bit_of(word, 8);
+}
+
+/* b8 of CS belongs to the sum: it is no parity. */
+static bool cs_is_formed(uint16_t word)
+{
+    return word <= 1023 && bit_of(word, 9) != bit_of(word, 8);
+}
+
+static bool words_are_right(const uint16_t *words, size_t len)
+{
+    for (size_t i = 3; i < len - 1; i++)
+        if (!word_is_right(words[i]))
+            return false;
+    return cs_is_formed(words[len - 1]);
+}
+
+static bool line_is_legal(unsigned line)
+{
+    return line == 0 || (line >= 6 && line <= 22);
+}
+
+/* 55 55 27 before each structure's 42 bytes, and 74 behind the last structure. */
+static bool fixed_bytes_are_right(const uint8_t *bytes, size_t structures)
+{
+    size_t at = LAYOUT_STRUCTURES;
+
+    for (size_t i = 0; i < structures; i++, at += LAYOUT_STRUCTURE)
+        if (bytes[at] != 0x55 || bytes[at + 1] != 0x55 || bytes[at + 2] != 0x27)
+            return false;
+    return bytes[at] == 0x74;
+}
+
+/* The user bytes from 51 to the SDP checksum add up to 0 modulo 256. */
+static bool sdp_checksum_is_right(const uint8_t *bytes, size_t len)
+{
+    unsigned sum = 0;
+
+    for (size_t i = LAYOUT_USER; i <= len - 2; i++)
+        sum += bytes[i];
+    return sum % 256 == 0;
+}
+
+/* CS: the low nine bits from DID through the last user word, modulo 512. */
+static bool cs_is_right(const uint16_t *words, size_t len)
+{
+    unsigned sum = 0;
+
+    for (size_t i = 3; i <= len - 2; i++)
+        sum += words[i] & 0x1FF;
+    return sum % 512 == (words[len - 1] & 0x1FF);
+}
+
+/* From DID on, when every word has its right parity; bytes[i] is b7 to b0 of word i. */
+static uint8_t judge_bytes(const uint8_t *bytes, size_t len)
+{
+    size_t structures = 0;
+
+    if (bytes[3] != 0x43 || bytes[4] != 0x02) /* DID, SDID */
+        return 6;
+    if (bytes[5] != len - 7) /* DC */
+        return 13;
+    if (bytes[6] != 0x51 || bytes[7] != 0x15)
+        return 6;
+    if (bytes[8] != bytes[5]) /* LENGTH */
+        return 13;
+    if (bytes[9] != 0x02) /* format */
+        return 6;
+    for (size_t i = 0; i < CAPTIONS_SLOTS; i++)
+        if (!line_is_legal(bytes[LAYOUT_DESCRIPTORS + i] % 32))
+            return 7;
+    for (size_t i = 0; i < CAPTIONS_SLOTS; i++)
+        if (bytes[LAYOUT_DESCRIPTORS + i] != 0)
+            structures++;
+    if (bytes[5] != 13 + 45 * structures)
+        return 13;
+    if (!fixed_bytes_are_right(bytes, structures))
+        return 6;
+    return sdp_checksum_is_right(bytes, len) ? 0 : 12;
+}
+
+static uint8_t judge_packet(const uint16_t *words, size_t len, uint8_t *bytes)
+{
+    uint8_t number;
+
+    if (len > CAPTIONS_PACKET_WORDS)
+        return 1;
+    if (len < 20)
+        return 5;
+    if (words[0] != 0x000 || words[1] != 0x3FF || words[2] != 0x3FF)
+        return 2;
+    if (!words_are_right(words, len))
+        return 11;
+    for (size_t i = 0; i < len; i++)
+        bytes[i] = (uint8_t)(words[i] & 0xFF);
+    number = judge_bytes(bytes, len);
+    if (number != 0)
+        return number;
+    return cs_is_right(words, len) ? 0 : 12;
+}
+
+captions_packet model_packet_read(const uint16_t *words, size_t len, captions_row *rows)
+{
+    uint8_t bytes[CAPTIONS_PACKET_WORDS] = {0};
+    captions_packet packet = {0};
+    size_t at = LAYOUT_STRUCTURES;
+
+    packet.refusal.number = judge_packet(words, len, bytes);
+    if (packet.refusal.number != 0)
+        return packet;
+    for (size_t i = 0; i < CAPTIONS_SLOTS; i++) {
+        uint8_t descriptor = bytes[LAYOUT_DESCRIPTORS + i];
+        rows[i] = (captions_row){0};
+        if (descriptor == 0)
+            continue; /* empty exactly when its descriptor is 0 */
+        packet.slots[i] = (captions_slot){1, descriptor % 32, descriptor / 32 % 4, descriptor / 128};
+        memcpy(rows[i].bytes, bytes + at + 3, CAPTIONS_ROW_BYTES);
+        at += LAYOUT_STRUCTURE;
+    }
+    packet.counter = bytes[at + 1] * 256u + bytes[at + 2];
+    return packet;
+}
+
+/* ---- Writing a packet ---- */
+
+static bool row_is_zero(const captions_row *row)
+{
+    for (size_t i = 0; i < CAPTIONS_ROW_BYTES; i++)
+        if (row->bytes[i] != 0)
+            return false;
+    return true;
+}
+
+/* A full slot with descriptor 0, and an empty one that holds anything else, cannot be written. */
+static uint8_t judge_slot(const captions_slot *slot, const captions_row *row)
+{
+    bool zero = slot->line == 0 && slot->reserved == 0 && slot->field == 0;
+
+    if (slot->full > 1 || slot->line > 31 || slot->reserved > 3 || slot->field > 1)
+        return 15;
+    if (slot->full == 1 && zero)
+        return 15;
+    if (slot->full == 0 && !(zero && row_is_zero(row)))
+        return 15;
+    return line_is_legal(slot->line) ? 0 : 7;
+}
+
+captions_written model_packet_write(uint32_t counter, const captions_slot *slots, const captions_row *rows,
+                                    uint16_t *out, size_t room)
+{
+    uint16_t made[CAPTIONS_PACKET_WORDS];
+    packet_value value = {.counter = counter};
+    size_t len;
+
+    if (counter > 65535)
+        return refused(15);
+    for (size_t i = 0; i < CAPTIONS_SLOTS; i++) {
+        uint8_t number = judge_slot(&slots[i], &rows[i]);
+        if (number != 0)
+            return refused(number);
+    }
+    memcpy(value.slots, slots, sizeof value.slots);
+    memcpy(value.rows, rows, sizeof value.rows);
+    len = layout_packet(&value, made);
+    if (len > room)
+        return refused(14);
+    memcpy(out, made, len * sizeof *out);
+    return (captions_written){.len = len};
+}
+
+/* ---- Line 21 payload (01, "Line 21 payload") ---- */
+
+captions_payload model_payload_read(const uint8_t *payload, size_t len, captions_access_unit *units)
+{
+    captions_payload answer = {0};
+
+    if (len == 0)
+        return (captions_payload){.refusal = {2, 0}};
+    if (len > CAPTIONS_PAYLOAD_BYTES)
+        return (captions_payload){.refusal = {1, 0}};
+    if ((len - 1) % 5 != 0)
+        return (captions_payload){.refusal = {13, 0}};
+    answer.flags = payload[0];
+    answer.m = (len - 1) / 5;
+    memset(units, 0, CAPTIONS_ACCESS_UNITS * sizeof *units);
+    for (size_t i = 0; i < answer.m; i++) {
+        const uint8_t *unit = payload + 1 + 5 * i;
+        units[i] = (captions_access_unit){unit[0] / 128, unit[0] / 64 % 2, unit[0] % 64, unit[1], unit[2], unit[3], unit[4]};
+    }
+    return answer;
+}
+
+captions_written model_payload_write(uint32_t flags, size_t m, const captions_access_unit *units, uint8_t *out, size_t room)
+{
+    payload_value value = {.flags = flags, .m = m};
+
+    if (flags > 255 || m > CAPTIONS_ACCESS_UNITS)
+        return refused(15);
+    for (size_t i = 0; i < m; i++)
+        if (units[i].cc_valid_1 > 1 || units[i].cc_valid_2 > 1 || units[i].padding > 63)
+            return refused(15);
+    if (1 + 5 * m > room)
+        return refused(14);
+    memcpy(value.units, units, m * sizeof *units);
+    return (captions_written){.len = layout_payload(&value, out)};
+}

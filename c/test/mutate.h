@@ -1,0 +1,21 @@
+/* mutate.h: legal inputs and values made wrong, or made other. Some stay legal: the model decides. */
+#ifndef MUTATE_H
+#define MUTATE_H
+
+#include "generate.h"
+
+/* Changes the area in q->bytes once. `map` says where its units stood before the first change. */
+void mutate_area(dice *d, question *q, const area_map *map);
+
+/*
+ * Changes the packet in q->words once. In most cases parity, DC, LENGTH and checksums are mended, so that later checks are
+ * reached.
+ */
+void mutate_packet(dice *d, question *q);
+
+/* Puts one number out of its range, or out of order. */
+void spoil_unit(dice *d, unit_value *value);
+void spoil_packet(dice *d, packet_value *value);
+void spoil_payload(dice *d, payload_value *value);
+
+#endif

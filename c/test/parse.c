@@ -1,0 +1,267 @@
+/* parse.c: see parse.h. */
+#include "parse.h"
+
+#include <string.h>
+
+#include "cursor.h"
+
+/* ---- `key=value` in the order in which FORMAT.md lists the fields ---- */
+
+/* Goes to the value of the next field, which must be `key`. */
+static void field(cursor *c, const char *key)
+{
+    need(c, ' ');
+    for (; *key != '\0' && !c->bad; key++)
+        need(c, *key);
+    need(c, '=');
+}
+
+static uint64_t number_field(cursor *c, const char *key, uint64_t most)
+{
+    field(c, key);
+    return c->bad ? 0 : take_number(c, most);
+}
+
+/* What an answer lists is all that it counts. A value to write may list more, and fewer where no list can have so many. */
+typedef enum listing { ALL_COUNTED, MORE_ALLOWED } listing;
+
+static void need_items(cursor *c, listing how, size_t counted, size_t most, size_t listed)
+{
+    if (how == ALL_COUNTED ? listed != counted : counted <= most && listed < counted)
+        c->bad = true;
+}
+
+static void unit_fields(cursor *c, listing how, unit_value *to)
+{
+    memset(to->records, 0xFF, sizeof to->records); /* places that the line does not give are not to be looked at */
+    to->reserved = (uint32_t)number_field(c, "reserved", UINT32_MAX);
+    to->vbi_data_flag = (uint32_t)number_field(c, "flag", UINT32_MAX);
+    to->n = number_field(c, "n", SIZE_MAX);
+    field(c, "recs");
+    need_items(c, how, to->n, CAPTIONS_RECORDS, take_record_list(c, to->records));
+    to->z = number_field(c, "z", SIZE_MAX);
+}
+
+static void packet_fields(cursor *c, packet_value *to)
+{
+    to->counter = (uint32_t)number_field(c, "counter", UINT32_MAX);
+    field(c, "slots");
+    take_slots(c, to);
+}
+
+static void payload_fields(cursor *c, listing how, payload_value *to)
+{
+    memset(to->units, 0xFF, sizeof to->units);
+    to->flags = (uint32_t)number_field(c, "flags", UINT32_MAX);
+    to->m = number_field(c, "m", SIZE_MAX);
+    field(c, "units");
+    need_items(c, how, to->m, CAPTIONS_ACCESS_UNITS, take_unit_list(c, to->units));
+}
+
+static void input_field(cursor *c, question *q)
+{
+    field(c, "in");
+    if (q->op == PACKET_READ)
+        q->len = take_elements(c, 4, q->words, WORDS_MAX);
+    else
+        q->len = take_bytes(c, q->bytes, INPUT_MAX);
+}
+
+static void question_fields(cursor *c, question *q)
+{
+    if (!is_writer(q->op) || q->op == AREA_REPLACE)
+        input_field(c, q);
+    if (q->op == UNIT_WRITE || q->op == AREA_REPLACE)
+        unit_fields(c, MORE_ALLOWED, &q->unit);
+    if (q->op == PACKET_WRITE)
+        packet_fields(c, &q->packet);
+    if (q->op == PAYLOAD_WRITE)
+        payload_fields(c, MORE_ALLOWED, &q->payload);
+    if (is_writer(q->op))
+        q->room = number_field(c, "room", OUTPUT_MAX / 2);
+    if (*c->at != '\0')
+        c->bad = true;
+}
+
+/* ---- The answer behind ` => ` ---- */
+
+/* `refused N at P`. What may follow as ` or P2` is of no use here: in the rules `base`, P is what 01 says. */
+static void refused_answer(cursor *c, outcome *to)
+{
+    to->numbers[0] = take_number(c, 15);
+    for (const char *text = " at "; *text != '\0'; text++)
+        need(c, *text);
+    if (!c->bad)
+        to->numbers[1] = take_number(c, SIZE_MAX);
+    while (strncmp(c->at, " or ", 4) == 0) {
+        c->at += 4;
+        take_number(c, SIZE_MAX);
+    }
+    if (to->numbers[0] == 0)
+        c->bad = true;
+}
+
+static void written_answer(cursor *c, const question *q, outcome *to)
+{
+    static uint16_t elements[OUTPUT_MAX];
+    size_t len = number_field(c, "len", q->room), listed;
+
+    field(c, "out");
+    listed = c->bad ? 0 : take_elements(c, q->op == PACKET_WRITE ? 4 : 2, elements, q->room);
+    if (c->wide || listed != len)
+        c->bad = true;
+    for (size_t i = 0; i < listed && !c->bad; i++) {
+        if (q->op == PACKET_WRITE)
+            memcpy(to->memory + 2 * i, &elements[i], 2);
+        else
+            to->memory[i] = (uint8_t)elements[i];
+    }
+    to->numbers[2] = len;
+}
+
+/* Room beyond the n records is zero in every accepted answer. */
+static void unit_answer(cursor *c, outcome *to)
+{
+    unit_value value;
+
+    unit_fields(c, ALL_COUNTED, &value);
+    if (c->bad || c->wide || value.n > CAPTIONS_RECORDS) {
+        c->bad = true;
+        return;
+    }
+    memcpy(to->memory, value.records, value.n * sizeof *value.records);
+    to->numbers[2] = 1;
+    to->numbers[3] = value.reserved;
+    to->numbers[4] = value.vbi_data_flag;
+    to->numbers[5] = value.n;
+    to->numbers[6] = value.z;
+}
+
+static void packet_answer(cursor *c, outcome *to)
+{
+    packet_value value;
+
+    memset(&value, 0, sizeof value);
+    packet_fields(c, &value);
+    memcpy(to->memory, value.rows, sizeof value.rows);
+    to->numbers[2] = value.counter;
+    for (size_t i = 0; i < CAPTIONS_SLOTS; i++) {
+        to->numbers[3 + 4 * i] = value.slots[i].full;
+        to->numbers[4 + 4 * i] = value.slots[i].line;
+        to->numbers[5 + 4 * i] = value.slots[i].reserved;
+        to->numbers[6 + 4 * i] = value.slots[i].field;
+    }
+}
+
+static void payload_answer(cursor *c, outcome *to)
+{
+    payload_value value;
+
+    payload_fields(c, ALL_COUNTED, &value);
+    if (c->bad || c->wide || value.m > CAPTIONS_ACCESS_UNITS) {
+        c->bad = true;
+        return;
+    }
+    memcpy(to->memory, value.units, value.m * sizeof *value.units);
+    to->numbers[2] = value.flags;
+    to->numbers[3] = value.m;
+}
+
+static void accepted_answer(cursor *c, const question *q, outcome *to)
+{
+    if (is_writer(q->op)) {
+        written_answer(c, q, to);
+        return;
+    }
+    memset(to->memory, 0, to->size); /* an accepted reader stores to all that it is lent */
+    if (q->op == AREA_READ && strcmp(c->at, " none") == 0)
+        c->at += strlen(" none");
+    else if (q->op == AREA_READ)
+        unit_answer(c, to);
+    else if (q->op == PACKET_READ)
+        packet_answer(c, to);
+    else
+        payload_answer(c, to);
+}
+
+static void answer(cursor *c, const question *q, outcome *to)
+{
+    outcome_begin(q, to);
+    if (strncmp(c->at, "refused ", 8) == 0) {
+        c->at += 8;
+        refused_answer(c, to);
+    } else if (strncmp(c->at, "ok ", 3) == 0) {
+        c->at += 2;
+        accepted_answer(c, q, to);
+    } else {
+        c->bad = true;
+    }
+    if (*c->at != '\0' || c->wide)
+        c->bad = true;
+}
+
+/* ---- A line ---- */
+
+const char *kind_name(int kind)
+{
+    if (kind < OPERATIONS)
+        return operation_names[kind];
+    return kind == KIND_AREA_UNITS ? "area units" : "area cclist";
+}
+
+/* `CARRIAGE OPERATION ` at the front of a line: its kind, or -1. */
+static int kind_of(const char *line, const char **behind)
+{
+    for (int kind = 0; kind < KINDS; kind++) {
+        size_t len = strlen(kind_name(kind));
+        if (strncmp(line, kind_name(kind), len) == 0 && line[len] == ' ') {
+            *behind = line + len;
+            return kind;
+        }
+    }
+    return -1;
+}
+
+static parsed bad(vector_line *to, const char *why)
+{
+    to->why = why;
+    return PARSED_BAD;
+}
+
+static parsed skipped(vector_line *to, const char *why)
+{
+    to->why = why;
+    return PARSED_SKIPPED;
+}
+
+parsed parse_line(char *line, vector_line *to)
+{
+    static const char rules[] = " base ";
+    char *arrow = strstr(line, " => ");
+    cursor c = {NULL, false, false};
+
+    to->kind = kind_of(line, &c.at);
+    if (to->kind < 0)
+        return bad(to, "an operation that is not known here");
+    if (strncmp(c.at, rules, strlen(rules)) != 0)
+        return bad(to, "rules that are not `base`");
+    c.at = strchr(c.at + strlen(rules), ' '); /* behind TAG, which has no meaning */
+    if (c.at == NULL || arrow == NULL || c.at > arrow)
+        return bad(to, "a line without its parts");
+    if (to->kind == KIND_AREA_UNITS)
+        return skipped(to, "captions.h has no call that lists units");
+    if (to->kind == KIND_AREA_CCLIST)
+        return skipped(to, "it is the text of the program cclist");
+    *arrow = '\0';
+    to->q.op = (operation)to->kind;
+    to->q.fill = FILL;
+    to->q.at = AT_END;
+    question_fields(&c, &to->q);
+    if (c.bad)
+        return bad(to, "values that are not formed as they should be");
+    if (c.wide)
+        return skipped(to, "a number that the C type cannot hold");
+    c.at = arrow + strlen(" => ");
+    answer(&c, &to->q, &to->expected);
+    return c.bad ? bad(to, "an answer that is not formed as it should be") : PARSED_CASE;
+}

@@ -1,0 +1,90 @@
+/* show.c: see show.h. */
+#include "show.h"
+
+#include <stdio.h>
+#include <string.h>
+
+static void show_bytes(const uint8_t *bytes, size_t len)
+{
+    if (len == 0)
+        putchar('-');
+    for (size_t i = 0; i < len; i++)
+        printf("%02X", bytes[i]);
+}
+
+static void show_words(const uint8_t *memory, size_t words)
+{
+    if (words == 0)
+        putchar('-');
+    for (size_t i = 0; i < words; i++) {
+        uint16_t word;
+        memcpy(&word, memory + 2 * i, 2);
+        printf("%04X", word);
+    }
+}
+
+/* All 31 places: those beyond n have no meaning, and the line may hold them. */
+static void show_unit(const unit_value *u)
+{
+    printf(" reserved=%u flag=%u n=%zu recs=", u->reserved, u->vbi_data_flag, u->n);
+    for (size_t i = 0; i < CAPTIONS_RECORDS; i++) {
+        const captions_record *r = &u->records[i];
+        printf("%s%u.%u.%u.%02X%02X", i > 0 ? "," : "", r->cc_priority, r->field_number, r->line_offset, r->cc_data_1,
+               r->cc_data_2);
+    }
+    printf(" z=%zu", u->z);
+}
+
+static void show_packet(const packet_value *p)
+{
+    printf(" counter=%u slots=", p->counter);
+    for (size_t i = 0; i < CAPTIONS_SLOTS; i++) {
+        const captions_slot *s = &p->slots[i];
+        printf("%s%u.%u.%u.%u.", i > 0 ? "," : "", s->full, s->line, s->reserved, s->field);
+        show_bytes(p->rows[i].bytes, CAPTIONS_ROW_BYTES);
+    }
+}
+
+static void show_payload(const payload_value *p)
+{
+    printf(" flags=%u m=%zu units=", p->flags, p->m);
+    for (size_t i = 0; i < CAPTIONS_ACCESS_UNITS; i++) {
+        const captions_access_unit *u = &p->units[i];
+        printf("%s%u.%u.%u.%02X%02X%02X%02X", i > 0 ? "," : "", u->cc_valid_1, u->cc_valid_2, u->padding, u->field1_data1,
+               u->field1_data2, u->field2_data1, u->field2_data2);
+    }
+}
+
+void show_question(const question *q, const char *tag)
+{
+    printf("%s base %s", operation_names[q->op], tag);
+    if (!is_writer(q->op) || q->op == AREA_REPLACE) {
+        printf(" in=");
+        if (q->op == PACKET_READ)
+            show_words((const uint8_t *)q->words, q->len);
+        else
+            show_bytes(q->bytes, q->len);
+    }
+    if (q->op == UNIT_WRITE || q->op == AREA_REPLACE)
+        show_unit(&q->unit);
+    if (q->op == PACKET_WRITE)
+        show_packet(&q->packet);
+    if (q->op == PAYLOAD_WRITE)
+        show_payload(&q->payload);
+    if (is_writer(q->op))
+        printf(" room=%zu", q->room);
+    putchar('\n');
+}
+
+void show_outcome(const question *q, const char *who, const outcome *o)
+{
+    printf("  %s:", who);
+    for (size_t i = 0; i < o->count; i++)
+        printf(" %llu", (unsigned long long)o->numbers[i]);
+    printf("; output ");
+    if (q->op == PACKET_WRITE)
+        show_words(o->memory, o->size / 2);
+    else
+        show_bytes(o->memory, o->size);
+    putchar('\n');
+}

@@ -1,0 +1,26 @@
+// The C interface (c/captions.h): read, write and replace, over plain numbers and lent memory. Each function hands on to its carriage's own.
+//
+// Normative references: document 01.
+mod area;
+mod packet;
+mod payload;
+
+pub use area::captions_area_read;
+pub use area::captions_area_replace;
+pub use area::captions_unit_write;
+pub use packet::captions_packet_read;
+pub use packet::captions_packet_write;
+pub use payload::captions_payload_read;
+pub use payload::captions_payload_write;
+use refusal::Refusal;
+
+// What `captions_area_read` answers, in the layout of `captions_unit` in the header.
+#[repr(C)]
+pub struct UnitHead {
+    pub refusal: Refusal,
+    pub present: bool,
+    pub reserved: u8,
+    pub vbi_data_flag: u8,
+    pub n: usize,
+    pub z: usize,
+}

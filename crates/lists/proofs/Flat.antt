@@ -1,0 +1,91 @@
+-- Records as bytes, one behind the other: one set of laws for every record and width.
+-- Assumes nothing.
+use Prim.Native.Nat.{ℕ, zero, suc, _+_, _-_, _*_, _≤_, _<_}
+use native.Mathlib.Nat.{mul-zero, mul-suc, mul-add}
+use native.Mathlib.Omega.{arith}
+use mathlib.Core.Path.{_≡_, _∙_, ap, ap₂, sym, refl}
+use mathlib.Core.List.{List, [], _∷_, _++_, append-assoc, append-nil}
+use lib.ListN.{length, getD, drop, replicate, length-append, replicate-append-replicate}
+use lib.Seq.{drop-drop, drop-at}
+use Rattle.lists.specs.Room.{filled}
+use Rattle.lists.specs.Flat.{flat, taken}
+
+module _ {A : Type 0} (from : List ℕ → A) (width : ℕ) where
+  pub length-taken : (k : ℕ) (s : List ℕ) → length (taken from width k s) ≡ k
+  length-taken zero s = refl
+  length-taken (suc k) s = ap suc (length-taken k (drop width s))
+
+  -- one record on, and i more
+  further : (i : ℕ) (s : List ℕ) → drop (width * i) (drop width s) ≡ drop (width * suc i) s
+  further i s =
+      let far : width + width * i ≡ width * suc i = omega (arith, mul-suc width i) in
+      drop-drop (width * i) width s ∙ ap (λ (n : ℕ). drop n s) far
+
+  here : (s : List ℕ) → s ≡ drop (width * 0) s
+  here s = sym (ap (λ (n : ℕ). drop n s) (mul-zero width))
+
+  -- the record at an index is the one that stands there
+  pub getD-taken : (d : A) (k i : ℕ) (s : List ℕ) → i < k → getD (taken from width k s) i d ≡ from (drop (width * i) s)
+  getD-taken d zero i s h = let f : ⊥ = omega arith in absurd f
+  getD-taken d (suc k) zero s h = ap from (here s)
+  getD-taken d (suc k) (suc i) s h =
+      let near : i < k = omega arith in
+      getD-taken d k i (drop width s) near ∙ ap from (further i s)
+
+  -- one record more is the one that stands behind them
+  pub taken-more : (k : ℕ) (s : List ℕ) → taken from width (suc k) s ≡ taken from width k s ++ (from (drop (width * k) s) ∷ [])
+  taken-more zero s = ap (λ (t : List ℕ). from t ∷ []) (here s)
+  taken-more (suc k) s =
+      ap (λ (xs : List A). from s ∷ xs)
+      (taken-more k (drop width s) ∙ ap (λ (t : List ℕ). taken from width k (drop width s) ++ (from t ∷ [])) (further k s))
+
+module _ {A : Type 0} (bytes : A → List ℕ) where
+  pub flat-append : (xs ys : List A) → flat bytes (xs ++ ys) ≡ flat bytes xs ++ flat bytes ys
+  flat-append [] ys = refl
+  flat-append (x ∷ xs) ys = ap (λ (r : List ℕ). bytes x ++ r) (flat-append xs ys) ∙ sym (append-assoc (bytes x) (flat bytes xs) (flat bytes ys))
+
+  -- one record more
+  pub flat-more : (xs : List A) (x : A) → flat bytes (xs ++ (x ∷ [])) ≡ flat bytes xs ++ bytes x
+  flat-more xs x = flat-append xs (x ∷ []) ∙ ap (λ (r : List ℕ). flat bytes xs ++ r) (append-nil (bytes x))
+
+module _ {A : Type 0} (bytes : A → List ℕ) (width : ℕ) (wide : (x : A) → length (bytes x) ≡ width) where
+  pub length-flat : (xs : List A) → length (flat bytes xs) ≡ width * length xs
+  length-flat [] = sym (mul-zero width)
+  length-flat (x ∷ xs) =
+      length-append (bytes x) (flat bytes xs)
+      ∙ ap₂ (λ (a b : ℕ). a + b) (wide x) (length-flat xs)
+      ∙ (let far : width + width * length xs ≡ width * suc (length xs) = omega (arith, mul-suc width (length xs)) in far)
+
+  -- records that are laid as bytes are taken from them again
+  pub taken-flat : (from : List ℕ → A) → ((x : A) (rest : List ℕ) → from (bytes x ++ rest) ≡ x) → (xs : List A) (rest : List ℕ)
+      → taken from width (length xs) (flat bytes xs ++ rest) ≡ xs
+  taken-flat from back [] rest = refl
+  taken-flat from back (x ∷ xs) rest =
+      let whole = append-assoc (bytes x) (flat bytes xs) rest in
+      let behind : drop width ((bytes x ++ flat bytes xs) ++ rest) ≡ flat bytes xs ++ rest =
+      ap (drop width) whole ∙ drop-at (bytes x) (flat bytes xs ++ rest) width (wide x)
+      in
+      ap₂ (λ (y : A) (ys : List A). y ∷ ys)
+      (ap from whole ∙ back x (flat bytes xs ++ rest))
+      (ap (taken from width (length xs)) behind ∙ taken-flat from back xs rest)
+
+  -- blank records are zeros
+  module _ (blank : A) (zeros : bytes blank ≡ replicate width 0) where
+    blanks : (k : ℕ) → flat bytes (replicate k blank) ≡ replicate (width * k) 0
+    blanks zero = sym (ap (λ (n : ℕ). replicate {A = ℕ} n 0) (mul-zero width))
+    blanks (suc k) =
+        let far : width + width * k ≡ width * suc k = omega (arith, mul-suc width k) in
+        ap₂ (λ (a b : List ℕ). a ++ b) zeros (blanks k)
+        ∙ replicate-append-replicate {A = ℕ} width (width * k) 0
+        ∙ ap (λ (n : ℕ). replicate {A = ℕ} n 0) far
+
+    -- an array of records that is blank behind its front, and its bytes
+    pub flat-filled : (xs : List A) (n : ℕ) → length xs ≤ n → flat bytes (filled xs n blank) ≡ filled (flat bytes xs) (width * n) 0
+    flat-filled xs n h =
+        let rest = n - length xs in
+        let all : length xs + rest ≡ n = omega arith in
+        let product : width * n ≡ width * length xs + width * rest = ap (λ (k : ℕ). width * k) (sym all) ∙ mul-add width (length xs) rest in
+        let left : width * rest ≡ width * n - length (flat bytes xs) = omega (arith, product, length-flat xs) in
+        flat-append bytes xs (replicate rest blank)
+        ∙ ap (λ (r : List ℕ). flat bytes xs ++ r) (blanks rest)
+        ∙ ap (λ (k : ℕ). flat bytes xs ++ replicate {A = ℕ} k 0) left

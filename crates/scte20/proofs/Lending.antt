@@ -1,0 +1,128 @@
+-- Records as bytes in a lent array: what is laid is told again, and an array of bytes tells a struct as the code's types hold it.
+-- Assumes nothing.
+use Prim.Native.Nat.{ℕ, _+_, _-_, _*_, _≤_, _<_}
+use native.Mathlib.Nat.{add-zero}
+use native.Mathlib.Omega.{arith}
+use native.Mathlib.Numerals.{add-one}
+use mathlib.Core.Path.{_≡_, _∙_, ap, sym, subst, refl}
+use mathlib.Core.List.{List, [], _∷_, _++_, append-nil}
+use lib.ListN.{length, getD, take, drop, replicate, length-replicate, replicate-append-replicate, drop-of-length-le}
+use lib.Seq.{drop-at, getD-drop, length-take-le, take-suc}
+use Rattle.lists.specs.Bytes.{Bytes}
+use Rattle.lists.specs.Flat.{taken}
+use Rattle.lists.specs.Room.{filled, over, overAt}
+use Rattle.lists.proofs.Each.{each-of, each-at}
+use Rattle.lists.proofs.Flat.{length-taken, getD-taken, flat-more, length-flat, taken-flat, flat-filled}
+use Rattle.lists.proofs.Lay.{length-over, overAt-overAt}
+use Rattle.scte20.specs.declared.Record.{Record}
+use Rattle.scte20.specs.declared.Numbers.{Numbers}
+use Rattle.scte20.specs.declared.CaptionUnit.{CaptionUnit}
+use Rattle.scte20.specs.Value.{ByteRecord, blank, Typed}
+use Rattle.scte20.specs.Lent.{recordBytes, recordsBytes, recordIn, lentRecords, unitIn, numbersOf}
+
+-- ---- one record
+
+pub length-record : (r : Record) → length (recordBytes r) ≡ 5
+length-record r = refl
+
+pub record-back : (r : Record) (rest : List ℕ) → recordIn (recordBytes r ++ rest) ≡ r
+unfolding recordIn
+record-back r rest = refl
+
+-- ---- all places of an array
+
+pub lent-length : (s : List ℕ) → length (lentRecords s) ≡ 31
+lent-length s = length-taken recordIn 5 31 s
+
+pub lent-at : (s : List ℕ) (i : ℕ) → i < 31 → getD (lentRecords s) i blank ≡ recordIn (drop (5 * i) s)
+lent-at s i h = getD-taken recordIn 5 blank 31 i s h
+
+-- what stands at an index
+pub record-at : (s : List ℕ) (at : ℕ)
+    → recordIn (drop at s)
+    ≡ record {
+      «cc_priority» = getD s at 0;
+      «field_number» = record { 0 = getD s (at + 1) 0 };
+      «line_offset» = getD s (at + 2) 0;
+      «cc_data_1» = getD s (at + 3) 0;
+      «cc_data_2» = getD s (at + 4) 0;
+    }
+unfolding recordIn
+record-at s at = simp (getD-drop, add-zero)
+
+pub length-lent : (rs : List Record) → length (recordsBytes rs) ≡ 5 * length rs
+length-lent rs = length-flat recordBytes 5 length-record rs
+
+-- ---- records that fill the array are told again
+
+pub lent-records : (rs : List Record) → length rs ≡ 31 → lentRecords (recordsBytes rs) ≡ rs
+lent-records rs e =
+    ap lentRecords (sym (append-nil (recordsBytes rs)))
+    ∙ subst (λ (n : ℕ). taken recordIn 5 n (recordsBytes rs ++ []) ≡ rs) e (taken-flat recordBytes 5 length-record recordIn record-back rs [])
+
+pub lent-unit : (u : CaptionUnit) → length (u .records) ≡ 31 → unitIn (numbersOf u) (recordsBytes (u .records)) ≡ u
+lent-unit u e =
+    ap (λ (rs : List Record). record { reserved = u .reserved; «vbi_data_flag» = u .«vbi_data_flag»; n = u .n; records = rs; z = u .z }) (lent-records (u .records) e)
+
+-- ---- an array of bytes tells bytes
+
+byte-record : (s : List ℕ) → Bytes s → (at : ℕ) → at + 5 ≤ length s → ByteRecord (recordIn (drop at s))
+unfolding recordIn
+byte-record s h at fits =
+    record {
+      data-1 = omega (arith, getD-drop at s 3 0, each-at (λ (b : ℕ). b < 256) 0 s h (at + 3) (omega arith));
+      data-2 = omega (arith, getD-drop at s 4 0, each-at (λ (b : ℕ). b < 256) 0 s h (at + 4) (omega arith));
+    }
+
+pub lent-typed : (v : Numbers) (s : List ℕ) → Bytes s → length s ≡ 155 → Typed (unitIn v s)
+lent-typed v s h e =
+    record {
+      places = lent-length s;
+      bytes =
+          each-of ByteRecord blank (lentRecords s)
+          (λ i below.
+          let place : i < 31 = omega (arith, below, lent-length s) in
+          subst ByteRecord (sym (lent-at s i place)) (byte-record s h (5 * i) (omega arith)));
+    }
+
+-- ---- room beyond the records is zeros
+
+pub lent-filled : (rs : List Record) → length rs ≤ 31 → recordsBytes (filled rs 31 blank) ≡ filled (recordsBytes rs) 155 0
+lent-filled rs h = flat-filled recordBytes 5 length-record blank refl rs 31 h
+
+over-blank : (front : List ℕ) (n : ℕ) → length front ≤ n → over front (replicate n 0) ≡ filled front n 0
+over-blank front n h =
+    let k = length front in
+    let sum : n ≡ k + (n - k) = omega arith in
+    ap (λ (rest : List ℕ). front ++ rest)
+    (ap (λ (m : ℕ). drop k (replicate {A = ℕ} m 0)) sum
+    ∙ ap (drop k) (sym (replicate-append-replicate {A = ℕ} k (n - k) 0))
+    ∙ drop-at (replicate k 0) (replicate (n - k) 0) k (length-replicate {A = ℕ} k 0))
+
+-- records laid over an array of zeros
+pub lent-over : (rs : List Record) → length rs ≤ 31 → over (recordsBytes rs) (replicate 155 0) ≡ recordsBytes (filled rs 31 blank)
+lent-over rs h = over-blank (recordsBytes rs) 155 (omega (arith, length-lent rs)) ∙ sym (lent-filled rs h)
+
+-- ---- records laid one behind the other over an array of 155 bytes
+
+module _ (rs : List Record) (s : List ℕ) where
+  -- the next one, where it comes
+  pub lent-next : (i : ℕ) → i < length rs
+      → overAt (5 * i) (recordBytes (getD rs i blank)) (over (recordsBytes (take i rs)) s) ≡ over (recordsBytes (take (i + 1) rs)) s
+  lent-next i h =
+      let front = take i rs in
+      let r = getD rs i blank in
+      let far : 0 + length (recordsBytes front) ≡ 5 * i = omega (arith, length-lent front, length-take-le i rs (omega arith)) in
+      let more : take (i + 1) rs ≡ front ++ (r ∷ []) = ap (λ (k : ℕ). take k rs) (add-one i) ∙ take-suc rs i blank h in
+      overAt-overAt 0 (recordsBytes front) (recordBytes r) s (5 * i) (omega arith) far
+      ∙ ap (λ (bytes : List ℕ). over bytes s) (sym (flat-more recordBytes front r) ∙ ap recordsBytes (sym more))
+
+  -- it keeps its length
+  pub lent-room : length rs ≤ 31 → length s ≡ 155 → length (over (recordsBytes rs) s) ≡ 155
+  lent-room h e = length-over (recordsBytes rs) s (omega (arith, length-lent rs)) ∙ e
+
+  -- and 31 records are all of it
+  pub lent-all : length rs ≡ 31 → length s ≡ 155 → over (recordsBytes rs) s ≡ recordsBytes rs
+  lent-all h e =
+      let short : length s ≤ length (recordsBytes rs) = omega (arith, length-lent rs) in
+      ap (λ (rest : List ℕ). recordsBytes rs ++ rest) (drop-of-length-le s short) ∙ append-nil (recordsBytes rs)

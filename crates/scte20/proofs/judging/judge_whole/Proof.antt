@@ -1,0 +1,72 @@
+-- `scte20::judging::judge_whole` meets its contract: at each return the tests that led there pick that check of `wholeVerdict`.
+-- Assumes nothing.
+use mathlib.Core.Path.{_≡_, ap, ap₂}
+use mathlib.Core.Logic.{⊎-elim}
+use mathlib.Core.Bool.{Bool, false, not, _&&_}
+use borrow.Author.Tests.{eq-eqb, ne-eqb, lt-ltb, le-ltb}
+use lib.Dec.{eqb}
+use Rattle.scte20.specs.Writing.{wholeVerdict}
+use Rattle.scte20.proofs.judging.judge_whole.Statement.{statement}
+use Rattle.scte20.proofs.judging.judge_whole.Tie as tie
+
+count : tie.Need-returns
+unfolding wholeVerdict
+count c = simp (lt-ltb _ _ (c .if1 .taken))
+
+reserved : tie.Need-returns-2
+unfolding wholeVerdict
+reserved c = simp (le-ltb _ _ (c .before .before .if1 .left), lt-ltb _ _ (c .if2 .taken))
+
+flag : tie.Need-returns-3
+unfolding wholeVerdict
+flag c =
+    let past = c .before .before in
+    simp (le-ltb _ _ (past .before .before .if1 .left), le-ltb _ _ (past .if2 .left), lt-ltb _ _ (c .if3 .taken))
+
+stuffing : tie.Need-returns-4
+unfolding wholeVerdict
+stuffing c =
+    let past = c .before .before in
+    simp (
+      le-ltb _ _ (past .before .before .before .before .if1 .left),
+      le-ltb _ _ (past .before .before .if2 .left),
+      le-ltb _ _ (past .if3 .left),
+      lt-ltb _ _ (c .if4 .taken),
+    )
+
+bare : tie.Need-returns-5
+unfolding wholeVerdict
+bare c =
+    let past = c .before .before .before .before in
+    simp (
+      le-ltb _ _ (past .before .before .before .before .before .before .if1 .left),
+      le-ltb _ _ (past .before .before .before .before .if2 .left),
+      le-ltb _ _ (past .before .before .if3 .left),
+      le-ltb _ _ (past .if4 .left),
+      eq-eqb _ _ (c .before .before .if5 .taken),
+      c .if6 .taken,
+    )
+
+-- the flag is not 0, or there is no record
+unmet : (c : tie.Joined5) → let v = c .before .before .before .before .before .before .before .before .before .before .args .v in (eqb (v .«vbi_data_flag») 0 && not (eqb (v .n) 0)) ≡ false
+unmet c =
+    let v = c .before .before .before .before .before .before .before .before .before .before .args .v in
+    ⊎-elim {C = (eqb (v .«vbi_data_flag») 0 && not (eqb (v .n) 0)) ≡ false}
+    (λ none. ap₂ _&&_ (eq-eqb _ _ (none .0 .taken)) (none .2 .left))
+    (λ flagged. ap (λ (t : Bool). t && not (eqb (v .n) 0)) (ne-eqb _ _ (flagged .left)))
+    (c .if5 .came)
+
+accepted : tie.Need-returns-6
+unfolding wholeVerdict
+accepted c =
+    let past = c .before .before in
+    simp (
+      le-ltb _ _ (past .before .before .before .before .before .before .if1 .left),
+      le-ltb _ _ (past .before .before .before .before .if2 .left),
+      le-ltb _ _ (past .before .before .if3 .left),
+      le-ltb _ _ (past .if4 .left),
+      unmet c,
+    )
+
+pub judge-whole-spec : {M : Type 1} → statement M
+judge-whole-spec = tie.close (tie.spec count reserved flag stuffing bare accepted)

@@ -1,0 +1,51 @@
+-- A unit's records as bytes in a lent array, five bytes each, in the order of the struct: what the C interface lends and is lent.
+use Prim.Native.Nat.{ℕ}
+use mathlib.Core.Path.{_≡_}
+use mathlib.Core.List.{List, [], _∷_}
+use lib.ListN.{getD}
+use Rattle.lists.specs.Bytes.{Bytes}
+use Rattle.lists.specs.Flat.{flat, taken}
+use Rattle.refusal.specs.Answers.{lentOf}
+use Rattle.scte20.specs.declared.Record.{Record}
+use Rattle.scte20.specs.declared.Numbers.{Numbers}
+use Rattle.scte20.specs.declared.CaptionUnit.{CaptionUnit}
+use Rattle.scte20.specs.declared.Answer.{Answer}
+use Rattle.scte20.specs.declared.Head.{Head}
+use Rattle.scte20.specs.Value.{fieldOf}
+use Rattle.scte20.specs.Reading.{contentVerdict, readOf}
+
+abbrev pub recordBytes : Record → List ℕ
+recordBytes r = r .«cc_priority» ∷ fieldOf r ∷ r .«line_offset» ∷ r .«cc_data_1» ∷ r .«cc_data_2» ∷ []
+
+abbrev pub recordsBytes : List Record → List ℕ
+recordsBytes rs = flat recordBytes rs
+
+-- the record that the first five bytes tell
+unfoldable pub recordIn : List ℕ → Record
+recordIn s =
+    record {
+      «cc_priority» = getD s 0 0;
+      «field_number» = record { 0 = getD s 1 0 };
+      «line_offset» = getD s 2 0;
+      «cc_data_1» = getD s 3 0;
+      «cc_data_2» = getD s 4 0;
+    }
+
+abbrev pub lentRecords : List ℕ → List Record
+lentRecords s = taken recordIn 5 31 s
+
+-- the struct that numbers and a lent array tell
+abbrev pub unitIn : Numbers → List ℕ → CaptionUnit
+unitIn v s = record { reserved = v .reserved; «vbi_data_flag» = v .«vbi_data_flag»; n = v .n; records = lentRecords s; z = v .z }
+
+abbrev pub numbersOf : CaptionUnit → Numbers
+numbersOf u = record { reserved = u .reserved; «vbi_data_flag» = u .«vbi_data_flag»; n = u .n; z = u .z }
+
+abbrev pub headOf : Answer → Head
+headOf a = record { verdict = a .verdict; numbers = numbersOf (a .unit) }
+
+-- the promise of `read_into`: the numbers, and all records of `read`'s answer in the lent array, zeros beyond n
+pub record ReadsInto (body lent : List ℕ) (r : Head) (exit : List ℕ) : Type 0 where
+  pub bytes : Bytes body
+  pub answer : r ≡ headOf (readOf body)
+  pub left : exit ≡ lentOf (contentVerdict body) (recordsBytes (readOf body .unit .records)) lent

@@ -1,0 +1,85 @@
+// Whether a value can be written.
+ghost use mathlib.Core.Path.{_≡_};
+ghost use Prim.Native.Nat.{_<_};
+ghost use mathlib.Core.List.{[]};
+ghost use Rattle.scte20.specs.Lent.{unitIn};
+ghost use Rattle.scte20.specs.Writing.{wholeVerdict, rangeVerdict, valueVerdict};
+use crate::CONSTRUCT_BITS;
+use crate::CONSTRUCTS;
+use crate::LENT_RECORDS;
+use crate::MAX_BYTES;
+use crate::MAX_RECORDS;
+use crate::Numbers;
+use crate::Record;
+use crate::lent;
+use crate::rules;
+use refusal::Excess;
+use refusal::Item;
+use refusal::Reason;
+use refusal::Verdict;
+
+// The value's own checks: those of the whole value, then each record's before the next.
+pub fn judge_value(v: Numbers, records: &[u8; LENT_RECORDS]) -> Verdict
+    ensures { λ r. ⌜ r ≡ valueVerdict (unitIn v (now (records .entry))) ⌝ }
+{
+    let whole = judge_whole(v);
+    if let Verdict::Refused(_, _) = whole {
+        return whole;
+    }
+    let mut last = rules::first();
+    let mut i = 0;
+    while i < v.n {
+        let record = lent::record_in(records, i);
+        let at = CONSTRUCTS + CONSTRUCT_BITS * i;
+        let range = judge_range(record, at);
+        if let Verdict::Refused(_, _) = range {
+            return range;
+        }
+        let verdict = rules::judge_record(last, record, at);
+        if let Verdict::Refused(_, _) = verdict {
+            return verdict;
+        }
+        last = rules::after(last, record);
+        i += 1;
+    }
+    Verdict::Accepted
+}
+
+// 15 of the whole value. It does not look at the records.
+fn judge_whole(v: Numbers) -> Verdict
+    ensures { λ r. ⌜ r ≡ wholeVerdict (unitIn v []) ⌝ }
+{
+    if MAX_RECORDS < v.n {
+        return Verdict::Refused(Reason::Unholdable(Excess::Count), Item::Whole);
+    }
+    if 127 < v.reserved {
+        return Verdict::Refused(Reason::Unholdable(Excess::Reserved), Item::Whole);
+    }
+    if 1 < v.vbi_data_flag {
+        return Verdict::Refused(Reason::Unholdable(Excess::Flag), Item::Whole);
+    }
+    if MAX_BYTES < v.z {
+        return Verdict::Refused(Reason::Unholdable(Excess::Stuffing), Item::Whole);
+    }
+    if v.vbi_data_flag == 0 && v.n != 0 {
+        return Verdict::Refused(Reason::Unholdable(Excess::FlagWithRecords), Item::Whole);
+    }
+    Verdict::Accepted
+}
+
+// 15 of a record whose construct would begin at bit `at`.
+fn judge_range(r: Record, at: usize) -> Verdict
+    requires { ⌜ at < 1048576 ⌝ }
+    ensures { λ v. ⌜ v ≡ rangeVerdict at r ⌝ }
+{
+    if 3 < r.cc_priority {
+        return Verdict::Refused(Reason::Unholdable(Excess::Priority), Item::Bit(at));
+    }
+    if 3 < r.field_number.0 {
+        return Verdict::Refused(Reason::Unholdable(Excess::FieldNumber), Item::Bit(at + 2));
+    }
+    if 31 < r.line_offset {
+        return Verdict::Refused(Reason::Unholdable(Excess::LineOffset), Item::Bit(at + 4));
+    }
+    Verdict::Accepted
+}

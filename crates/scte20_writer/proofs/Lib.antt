@@ -1,0 +1,4 @@
+pub mod Packing
+pub mod Pieces
+pub mod Penned
+pub mod Theorems

@@ -1,0 +1,199 @@
+// Writing SCTE 20 caption content: the body of a caption unit.
+//
+// Normative references: document 01, "Picture area" and "Which refusal comes first"; document 001, 5.4 to 5.8.
+ghost use mathlib.Core.Path.{_≡_};
+ghost use Prim.Native.Nat.{_+_, _≤_, _<_, _^_};
+ghost use lib.ListN.{length, replicate};
+ghost use Rattle.lists.specs.Room.{overAt};
+ghost use Rattle.refusal.specs.declared.Verdict.the-variants.{Accepted};
+ghost use Rattle.refusal.specs.Checks.{fitVerdict};
+ghost use Rattle.bits.specs.Bits.{num};
+ghost use Rattle.scte20.specs.Value.{held, Ranged};
+ghost use Rattle.scte20.specs.Layout.{constructBits, layout};
+ghost use Rattle.scte20.specs.Reading.{sizeIn};
+ghost use Rattle.scte20.specs.Lent.{unitIn};
+ghost use Rattle.scte20.specs.Writing.{valueVerdict, Writes};
+ghost use Rattle.scte20_writer.specs.Inside.{countedBytes, countedSize, Pushes};
+use refusal::Item;
+use refusal::Reason;
+use refusal::Verdict;
+use scte20::CONSTRUCT_BITS;
+use scte20::CONSTRUCTS;
+use scte20::CaptionUnit;
+use scte20::LENT_RECORDS;
+use scte20::Laid;
+use scte20::MAX_BYTES;
+use scte20::Numbers;
+use scte20::Record;
+use scte20::SAMPLED_BITS;
+
+// Bits on their way into an output. The whole bytes stand in it up to index `at`; `bits` holds those behind them, `width` of
+// them, which do not fill a byte.
+struct Pen {
+    at: usize,
+    width: u32,
+    bits: u64,
+}
+
+// Writes a unit's body into out from index `before` on. Judged is the whole result, which has `before` bytes in front of the
+// body and `after` bytes behind it.
+pub fn write(unit: CaptionUnit, before: usize, after: usize, out: &mut [u8]) -> Laid
+    ensures { λ r. ⌜ Writes unit before after (now (out .entry)) r (now (out .exit)) ⌝ }
+{
+    let numbers = scte20::numbers_of(unit);
+    let records = scte20::bytes_of(unit);
+    write_from(numbers, &records, before, after, out)
+}
+
+// The same of the value that numbers and a lent array tell.
+pub fn write_from(
+    v: Numbers,
+    records: &[u8; LENT_RECORDS],
+    before: usize,
+    after: usize,
+    out: &mut [u8],
+) -> Laid
+    ensures { λ r. ⌜ Writes (unitIn v (now (records .entry))) before after (now (out .entry)) r (now (out .exit)) ⌝ }
+{
+    scte20::known(records);
+    let value = scte20::judge_value(v, records);
+    if let Verdict::Refused(_, _) = value {
+        return Laid {
+            verdict: value,
+            len: 0,
+        };
+    }
+    let len = size(v);
+    let fit = judge_fit(before, len, after, out.len());
+    if let Verdict::Refused(_, _) = fit {
+        return Laid {
+            verdict: fit,
+            len: 0,
+        };
+    }
+    put(v, records, &mut out[before..before + len]);
+    Laid { verdict: fit, len }
+}
+
+// 1 and 14 of a result that has the body's bytes, and those before and after it.
+fn judge_fit(before: usize, body: usize, after: usize, room: usize) -> Verdict
+    ensures { λ r. ⌜ r ≡ fitVerdict 16384 (before + body + after) room ⌝ }
+{
+    // Each is compared with what is left of the limit, so that no sum is too large to hold.
+    if MAX_BYTES < before {
+        return Verdict::Refused(Reason::TooLong, Item::Whole);
+    }
+    if MAX_BYTES - before < body {
+        return Verdict::Refused(Reason::TooLong, Item::Whole);
+    }
+    if MAX_BYTES - before - body < after {
+        return Verdict::Refused(Reason::TooLong, Item::Whole);
+    }
+    if room < before + body + after {
+        return Verdict::Refused(Reason::NoRoom, Item::Whole);
+    }
+    Verdict::Accepted
+}
+
+// How many bytes the body of a value has.
+fn size(v: Numbers) -> usize
+    requires { ⌜ v .n ≤ 31 ⌝ }
+    requires { ⌜ v .z ≤ 16384 ⌝ }
+    ensures { λ r. ⌜ r ≡ sizeIn (v .«vbi_data_flag») (v .n) + v .z ⌝ }
+{
+    if v.vbi_data_flag == 0 {
+        return 2 + v.z;
+    }
+    (CONSTRUCTS + CONSTRUCT_BITS * v.n + SAMPLED_BITS + 7) / 8 + v.z
+}
+
+// Stores the body of a value that was judged, in a part that it fills.
+fn put(v: Numbers, records: &[u8; LENT_RECORDS], out: &mut [u8])
+    requires { ⌜ valueVerdict (unitIn v (now records)) ≡ Accepted ⌝ }
+    requires { ⌜ length (now out) ≡ length (layout (held (unitIn v (now records)))) ⌝ }
+    ensures { λ _. ⌜ now (out .exit) ≡ layout (held (unitIn v (now (records .entry)))) ⌝ }
+{
+    out[0] = 3;
+    out[1] = v.reserved * 2 + v.vbi_data_flag;
+    // What follows is zeros: the sampled video count, the alignment bits, the stuffing.
+    if v.vbi_data_flag == 0 {
+        clear(&mut out[2..]);
+        return;
+    }
+    let end = put_constructs(v, records, out);
+    clear(&mut out[end..]);
+}
+
+// cc_count and the constructs, behind the first two bytes. Answers the first index behind them.
+fn put_constructs(v: Numbers, records: &[u8; LENT_RECORDS], out: &mut [u8]) -> usize
+    requires { ⌜ valueVerdict (unitIn v (now records)) ≡ Accepted ⌝ }
+    requires { ⌜ 2 + countedSize (v .n) ≤ length (now out) ⌝ }
+    ensures { λ r. ⌜ (r ≡ 2 + countedSize (v .n)) × (now (out .exit) ≡ overAt 2 (countedBytes (held (unitIn v (now (records .entry))) .records)) (now (out .entry))) ⌝ }
+{
+    let mut pen = Pen {
+        at: 2,
+        width: 5,
+        bits: v.n as u64,
+    };
+    let mut i = 0;
+    while i < v.n {
+        let next = scte20::record_in(records, i);
+        pen = push(pen, construct_of(next), out);
+        i += 1;
+    }
+    let at = pen.at;
+    out[at] = (pen.bits << (8 - pen.width)) as u8;
+    at + 1
+}
+
+// The construct of a record, as one number of 26 bits (001, 5.8). The data bytes go least significant bit first, and the marker
+// is 1.
+fn construct_of(r: Record) -> u32
+    requires { ⌜ Ranged r ⌝ }
+    ensures { λ c. ⌜ c ≡ num (constructBits r) ⌝ }
+{
+    let first = bits::reverse(r.cc_data_1) as u32;
+    let second = bits::reverse(r.cc_data_2) as u32;
+    let place = (r.cc_priority as u32 * 4 + r.field_number.0 as u32) * 32 + r.line_offset as u32;
+    ((place * 256 + first) * 256 + second) * 2 + 1
+}
+
+// Puts a construct behind the pen's bits. Three bytes are whole then, or four.
+fn push(pen: Pen, construct: u32, out: &mut [u8]) -> Pen
+    requires { ⌜ pen .width < 8 ⌝ }
+    requires { ⌜ pen .bits < 2 ^ (pen .width) ⌝ }
+    requires { ⌜ construct < 67108864 ⌝ }
+    requires { ⌜ pen .at + 4 ≤ length (now out) ⌝ }
+    ensures { λ r. ⌜ Pushes pen construct (now (out .entry)) r (now (out .exit)) ⌝ }
+{
+    let at = pen.at;
+    let width = pen.width + 26;
+    let bits = pen.bits * 67108864 + construct as u64;
+    out[at] = ((bits >> (width - 8)) % 256) as u8;
+    out[at + 1] = ((bits >> (width - 16)) % 256) as u8;
+    out[at + 2] = ((bits >> (width - 24)) % 256) as u8;
+    if width < 32 {
+        return Pen {
+            at: at + 3,
+            width: width - 24,
+            bits: bits % (1u64 << (width - 24)),
+        };
+    }
+    out[at + 3] = ((bits >> (width - 32)) % 256) as u8;
+    Pen {
+        at: at + 4,
+        width: width - 32,
+        bits: bits % (1u64 << (width - 32)),
+    }
+}
+
+// Fills a part with zeros.
+fn clear(out: &mut [u8])
+    ensures { λ _. ⌜ now (out .exit) ≡ replicate (length (now (out .entry))) 0 ⌝ }
+{
+    let mut i = 0;
+    while i < out.len() {
+        out[i] = 0;
+        i += 1;
+    }
+}

@@ -1,0 +1,359 @@
+#include "areas.h"
+
+#include <stdio.h>
+#include <stdlib.h>
+#include <string.h>
+
+uint32_t random_below(uint32_t limit)
+{
+    static uint64_t state = 0x2545F4914F6CDD1D;
+    state ^= state << 13;
+    state ^= state >> 7;
+    state ^= state << 17;
+    return (uint32_t)(state >> 32) % limit;
+}
+
+/* Chosen places of field and line in rising order, so that the records are legal; at most four of a field get priority 0. */
+struct value random_value(uint32_t reserved, uint32_t fields)
+{
+    struct value v = { .reserved = reserved, .flag = 1, .z = random_below(4) };
+    size_t want = random_below(CAPTIONS_RECORDS + 1);
+    uint32_t zeros[4] = { 0 };
+    for (uint32_t place = 0; place < 32 * fields && v.n < want; place++) {
+        if (random_below(32 * fields - place) >= want - v.n)
+            continue;
+        captions_record *r = &v.records[v.n++];
+        r->field_number = (uint8_t)(1 + place / 32);
+        r->line_offset = (uint8_t)(place % 32);
+        r->cc_priority = (uint8_t)random_below(4);
+        if (r->cc_priority == 0 && ++zeros[r->field_number] > 4)
+            r->cc_priority = 1;
+        r->cc_data_1 = (uint8_t)random_below(random_below(4) ? 256 : 1);
+        r->cc_data_2 = (uint8_t)random_below(random_below(4) ? 256 : 1);
+    }
+    return v;
+}
+
+static void must(captions_written w)
+{
+    if (w.refusal.number != 0) {
+        fprintf(stderr, "the library refused a legal value: %d\n", w.refusal.number);
+        exit(2);
+    }
+}
+
+void write_unit(struct area *a, const struct value *v)
+{
+    captions_written w = captions_unit_write(v->reserved, v->flag, v->n, v->z, v->records, a->data, MAX_AREA);
+    must(w);
+    a->len = w.len;
+}
+
+void replace_unit(struct area *a, const struct value *v)
+{
+    static uint8_t out[MAX_AREA];
+    captions_written w = captions_area_replace(a->data, a->len, v->reserved, v->flag, v->n, v->z, v->records, out, MAX_AREA);
+    must(w);
+    memcpy(a->data, out, w.len);
+    a->len = w.len;
+}
+
+static struct value value_of(size_t n, const captions_record *records)
+{
+    struct value v = { .reserved = 64, .flag = 1, .n = n };
+    memcpy(v.records, records, n * sizeof *records);
+    return v;
+}
+
+struct value one_record(uint8_t data_1, uint8_t data_2)
+{
+    return value_of(1, (captions_record[]){ { 0, 1, 11, data_1, data_2 } });
+}
+
+/* ---- Units that the library does not write, bit by bit ---- */
+
+struct bits {
+    struct area *a;
+    size_t at; /* in bits */
+};
+
+static void put(struct bits *b, unsigned count, uint32_t value)
+{
+    while (count-- > 0) {
+        if (b->at % 8 == 0)
+            b->a->data[b->a->len++] = 0;
+        b->a->data[b->a->len - 1] |= (uint8_t)((value >> count & 1) << (7 - b->at % 8));
+        b->at++;
+    }
+}
+
+static void put_reversed(struct bits *b, uint8_t byte)
+{
+    for (int i = 0; i < 8; i++)
+        put(b, 1, byte >> i & 1);
+}
+
+/* What may be wrong in a raw unit. */
+struct raw {
+    unsigned count;        /* cc_count, also where it is not the number of constructs */
+    unsigned marker;       /* the marker of each construct */
+    unsigned video_count;
+    unsigned alignment;    /* the bit that fills up to a whole byte */
+};
+
+static void raw_unit(struct area *a, struct raw r, size_t n, const captions_record *records)
+{
+    struct bits b = { a, 0 };
+    put(&b, 32, 0x000001B2);
+    put(&b, 16, 0x0381);
+    put(&b, 5, r.count);
+    for (size_t i = 0; i < n; i++) {
+        put(&b, 2, records[i].cc_priority);
+        put(&b, 2, records[i].field_number);
+        put(&b, 5, records[i].line_offset);
+        put_reversed(&b, records[i].cc_data_1);
+        put_reversed(&b, records[i].cc_data_2);
+        put(&b, 1, r.marker);
+    }
+    put(&b, 4, r.video_count);
+    while (b.at % 8 != 0)
+        put(&b, 1, r.alignment);
+}
+
+static void raw_records(struct area *a, size_t n, const captions_record *records)
+{
+    raw_unit(a, (struct raw){ .count = (unsigned)n, .marker = 1 }, n, records);
+}
+
+static void append(struct area *a, const void *data, size_t len)
+{
+    memcpy(a->data + a->len, data, len);
+    a->len += len;
+}
+
+#define APPEND(a, text) append(a, text, sizeof(text) - 1)
+
+static const captions_record one[] = { { 0, 1, 11, 0x94, 0x2C } };
+static const captions_record two[] = { { 0, 1, 11, 0x94, 0x2C }, { 0, 2, 11, 0x15, 0xAD } };
+static const captions_record four[] = {
+    { 0, 1, 10, 0x94, 0x2C }, { 0, 1, 11, 0x94, 0x2D }, { 0, 1, 12, 0x94, 0x2E }, { 0, 1, 13, 0x94, 0x2F },
+};
+
+static void written(struct area *a, size_t n, const captions_record *records)
+{
+    struct value v = value_of(n, records);
+    write_unit(a, &v);
+}
+
+/* ---- Legal areas ---- */
+
+static void legal_one(struct area *a) { written(a, 1, one); }
+static void legal_two(struct area *a) { written(a, 2, two); }
+static void legal_three(struct area *a)
+{
+    written(a, 3, (captions_record[]){ { 0, 1, 11, 0x94, 0x2C }, { 1, 2, 11, 0x15, 0xAD }, { 2, 3, 11, 0x94, 0x2F } });
+}
+static void legal_other_lines(struct area *a)
+{
+    written(a, 3, (captions_record[]){ { 3, 1, 0, 0x01, 0x02 }, { 0, 1, 11, 0x94, 0x2C }, { 3, 1, 31, 0xFE, 0xFF } });
+}
+static void legal_no_records(struct area *a) { written(a, 0, one); }
+static void legal_flag_0(struct area *a)
+{
+    struct value v = { .reserved = 64 };
+    write_unit(a, &v);
+}
+static void legal_reserved(struct area *a, uint32_t reserved)
+{
+    struct value v = value_of(1, one);
+    v.reserved = reserved;
+    write_unit(a, &v);
+}
+static void legal_reserved_0(struct area *a) { legal_reserved(a, 0); }
+static void legal_reserved_127(struct area *a) { legal_reserved(a, 127); }
+static void legal_stuffing(struct area *a)
+{
+    struct value v = value_of(1, one);
+    v.z = 3;
+    write_unit(a, &v);
+}
+static void legal_nothing(struct area *a) { a->len = 0; }
+static void legal_foreign(struct area *a) { APPEND(a, "\0\0\1\xB2XYZ1\2\3"); }
+static void legal_beside_afd(struct area *a)
+{
+    struct value v = value_of(1, one);
+    APPEND(a, "\0\0\1\xB2" "DTG1\x41\xF8");
+    replace_unit(a, &v);
+}
+static void legal_beside_a53(struct area *a)
+{
+    struct value v = value_of(1, one);
+    APPEND(a, "\0\0\1\xB2" "GA94\3\xC1\xFF\xFC\x95\x20\xFF");
+    replace_unit(a, &v);
+}
+
+/* ---- Defects ---- */
+
+static void too_long(struct area *a)
+{
+    legal_one(a);
+    memset(a->data + a->len, 0, MAX_AREA - a->len);
+    a->len = CAPTIONS_AREA_BYTES + 1;
+}
+static void no_start_code(struct area *a)
+{
+    struct area unit = { 0 };
+    legal_one(&unit);
+    APPEND(a, "AB");
+    append(a, unit.data, unit.len);
+}
+static void bare_body(struct area *a)
+{
+    legal_one(a);
+    memmove(a->data, a->data + 4, a->len -= 4);
+}
+static void extension_first(struct area *a)
+{
+    struct area unit = { 0 };
+    legal_one(&unit);
+    APPEND(a, "\0\0\1\xB5\x40\x00\x10\x00"); /* a copyright extension */
+    append(a, unit.data, unit.len);
+}
+static void extension_behind(struct area *a)
+{
+    legal_one(a);
+    APPEND(a, "\0\0\1\xB5\x40\x00\x10\x00");
+}
+static void reserved_code_behind(struct area *a)
+{
+    legal_one(a);
+    APPEND(a, "\0\0\1\xB0\x12");
+}
+static void bare_prefix_at_end(struct area *a)
+{
+    legal_one(a);
+    APPEND(a, "\0\0\1");
+}
+static void twice(struct area *a)
+{
+    struct area unit = { 0 };
+    legal_one(&unit);
+    append(a, unit.data, unit.len);
+    append(a, unit.data, unit.len);
+}
+static void second_differs(struct area *a)
+{
+    struct area unit = { 0 };
+    legal_one(a);
+    written(&unit, 1, (captions_record[]){ { 0, 1, 11, 0x94, 0x2F } });
+    append(a, unit.data, unit.len);
+}
+static void second_without_records(struct area *a)
+{
+    struct area unit = { 0 };
+    legal_one(a);
+    legal_no_records(&unit);
+    append(a, unit.data, unit.len);
+}
+static void only_type(struct area *a) { APPEND(a, "\0\0\1\xB2\3"); }
+static void only_flag(struct area *a) { APPEND(a, "\0\0\1\xB2\3\x81"); }
+static void last_byte_gone(struct area *a)
+{
+    legal_one(a);
+    a->len--;
+}
+static void cut_in_construct(struct area *a)
+{
+    legal_one(a);
+    a->len -= 3;
+}
+static void count_says_more(struct area *a)
+{
+    raw_unit(a, (struct raw){ .count = 3, .marker = 1 }, 1, one);
+}
+static void count_says_31(struct area *a)
+{
+    raw_unit(a, (struct raw){ .count = 31, .marker = 1 }, 1, one);
+}
+static void marker_0(struct area *a)
+{
+    raw_unit(a, (struct raw){ .count = 1 }, 1, one);
+}
+static void alignment_1(struct area *a)
+{
+    raw_unit(a, (struct raw){ .count = 1, .marker = 1, .alignment = 1 }, 1, one);
+}
+static void stuffing_ff(struct area *a)
+{
+    legal_one(a);
+    APPEND(a, "\0\xFF");
+}
+static void field_0(struct area *a)
+{
+    raw_records(a, 2, (captions_record[]){ { 0, 0, 11, 0x94, 0x2C }, { 0, 1, 11, 0x94, 0x2F } });
+}
+static void field_falls(struct area *a)
+{
+    raw_records(a, 2, (captions_record[]){ { 0, 2, 11, 0x15, 0xAD }, { 0, 1, 11, 0x94, 0x2C } });
+}
+static void line_equal(struct area *a)
+{
+    raw_records(a, 2, (captions_record[]){ { 0, 1, 11, 0x94, 0x2C }, { 0, 1, 11, 0x94, 0x2F } });
+}
+static void line_falls(struct area *a)
+{
+    raw_records(a, 2, (captions_record[]){ { 0, 1, 11, 0x94, 0x2C }, { 0, 1, 10, 0x94, 0x2F } });
+}
+static void fifth_priority(struct area *a)
+{
+    captions_record five[5] = { { 0 } };
+    memcpy(five, four, sizeof four);
+    five[4] = (captions_record){ 0, 1, 14, 0x94, 0x20 };
+    raw_records(a, 5, five);
+}
+static void sampled_video(struct area *a)
+{
+    raw_unit(a, (struct raw){ .count = 1, .marker = 1, .video_count = 1 }, 1, one);
+}
+
+const struct area_case area_cases[] = {
+    { 0, "one record, field 1, line 11, 94 2C (case A)", legal_one },
+    { 0, "two records, fields 1 and 2: 94 2C, 15 AD", legal_two },
+    { 0, "three records, fields 1, 2, 3: 94 2C, 15 AD, 94 2F", legal_three },
+    { 0, "field 1, lines 0, 11, 31: 01 02, 94 2C, FE FF; priorities 3, 0, 3", legal_other_lines },
+    { 0, "no records (case C)", legal_no_records },
+    { 0, "flag 0 (case D)", legal_flag_0 },
+    { 0, "reserved 0: second byte 01", legal_reserved_0 },
+    { 0, "reserved 127: second byte FF", legal_reserved_127 },
+    { 0, "three bytes of stuffing", legal_stuffing },
+    { 0, "empty area", legal_nothing },
+    { 0, "a foreign unit alone", legal_foreign },
+    { 0, "put behind a foreign DTG1 unit with AFD 8", legal_beside_afd },
+    { 0, "put behind a foreign GA94 unit with FC 95 20", legal_beside_a53 },
+    { 1, "16,385 bytes: case A and stuffing", too_long },
+    { 2, "41 42 before the first start code", no_start_code },
+    { 2, "the body of case A without 00 00 01 B2", bare_body },
+    { 2, "an extension 00 00 01 B5 before case A", extension_first },
+    { 3, "an extension 00 00 01 B5 behind case A", extension_behind },
+    { 3, "a reserved code 00 00 01 B0 behind case A", reserved_code_behind },
+    { 3, "00 00 01 at the very end", bare_prefix_at_end },
+    { 4, "case A twice", twice },
+    { 4, "case A, then a unit with 94 2F", second_differs },
+    { 4, "case A, then a unit without records", second_without_records },
+    { 5, "03 alone (case E)", only_type },
+    { 5, "03 81 alone", only_flag },
+    { 5, "case A without its last byte (case F)", last_byte_gone },
+    { 5, "case A cut inside its construct", cut_in_construct },
+    { 5, "cc_count 3 with one construct", count_says_more },
+    { 5, "cc_count 31 with one construct", count_says_31 },
+    { 6, "marker 0 (case J)", marker_0 },
+    { 6, "alignment bits 1", alignment_1 },
+    { 6, "stuffing 00 FF", stuffing_ff },
+    { 7, "field 0: 94 2C, then field 1: 94 2F", field_0 },
+    { 8, "field falls: field 2 15 AD, field 1 94 2C", field_falls },
+    { 8, "line equal: 94 2C, 94 2F both at 11", line_equal },
+    { 8, "line falls: 94 2C at 11, 94 2F at 10", line_falls },
+    { 9, "five of priority 0: 94 2C to 2F, 94 20", fifth_priority },
+    { 10, "sampled video count 1, nothing behind it", sampled_video },
+};
+const size_t area_case_count = sizeof area_cases / sizeof area_cases[0];
