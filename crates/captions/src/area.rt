@@ -55,7 +55,12 @@ pub extern "C" fn captions_area_replace(
 ) -> Written
     ensures { λ r. ⌜ Replaces (now (area .entry)) (unitIn (numbersIn reserved «vbi_data_flag» n z) (now (records .entry))) (now (out .entry)) r (now (out .exit)) ⌝ }
 {
-    picture::replace_from(area, numbers_of(reserved, vbi_data_flag, n, z), records, out)
+    picture::replace_from(
+        area,
+        numbers_of(reserved, vbi_data_flag, n, z),
+        records,
+        out,
+    )
 }
 
 fn numbers_of(reserved: u32, vbi_data_flag: u32, n: usize, z: usize) -> Numbers

@@ -43,8 +43,8 @@ fn packet_of(counter: u32, bytes: &[u8]) -> Packet
     requires { ⌜ length (now bytes) ≡ 20 ⌝ }
     ensures { λ r. ⌜ r ≡ packetIn counter (now (bytes .entry)) ⌝ }
 {
-    let mut slots = [slot_from(bytes, 0); SLOTS];
-    let mut i = 1;
+    let mut slots = [sdp::slot_of(0); SLOTS];
+    let mut i = 0;
     while i < SLOTS {
         slots[i] = slot_from(bytes, i);
         i += 1;

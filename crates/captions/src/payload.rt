@@ -19,7 +19,12 @@ pub extern "C" fn captions_payload_read(payload: &[u8], units: &mut [u8; LENT_UN
 
 // Writes a payload at the front of out. A number that the flags byte cannot hold is refused, not cut.
 #[no_mangle]
-pub extern "C" fn captions_payload_write(flags: u32, m: usize, units: &[u8; LENT_UNITS], out: &mut [u8]) -> Written
+pub extern "C" fn captions_payload_write(
+    flags: u32,
+    m: usize,
+    units: &[u8; LENT_UNITS],
+    out: &mut [u8],
+) -> Written
     ensures { λ r. ⌜ PayloadWrites flags m (now (units .entry)) (now (out .entry)) r (now (out .exit)) ⌝ }
 {
     if 255 < flags {
