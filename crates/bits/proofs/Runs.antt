@@ -5,16 +5,11 @@ use native.Mathlib.Nat.{mod-lt, mul-mod-left, zero-div}
 use native.Mathlib.Numerals.{add-one, one-add}
 use native.Mathlib.Omega.{arith}
 use mathlib.Core.Path.{_≡_, _∙_, ap, ap₂, sym, subst, refl}
-use mathlib.Core.Bool.{Bool, true}
 use mathlib.Core.List.{List, [], _∷_, _++_}
-use borrow.Author.Tests.{eqb-true}
-use lib.Dec.{eqb}
-use lib.ListN.{length, getD, take, drop, replicate, drop-of-length-le}
+use lib.ListN.{length, getD, drop, replicate, drop-of-length-le}
 use lib.Pow.{pow-pos, shl-shr, shr-lt, split}
 use lib.Seq.{drop-cons}
 use Rattle.lists.specs.Bytes.{Bytes}
-use Rattle.lists.proofs.Tests.{and-both}
-use Rattle.blocks.specs.Blocks.{every}
 use Rattle.bits.specs.Bits.{bits, bitsOf, zeros}
 use Rattle.bits.specs.Peek.{zeroBytes, firstSet, leadingOf}
 use Rattle.bits.proofs.Numbers.{bits-mod, bits-add}
@@ -89,19 +84,6 @@ module _ (s : List ℕ) (from : ℕ) where
   firstSet-next inside e =
       let step : drop from s ≡ 0 ∷ drop (from + 1) s = drop-cons s from 0 inside ∙ ap₂ (λ (b n : ℕ). b ∷ drop n s) e (sym (add-one from)) in
       omega (arith, ap zeroBytes step)
-
--- the same over so many bytes that are all 0
-pub firstSet-block : (s : List ℕ) (k from : ℕ) → from + k ≤ length s → every (λ (x : ℕ). eqb x 0) (take k (drop from s)) ≡ true → firstSet s from ≡ firstSet s (from + k)
-firstSet-block s zero from h e = let same : from ≡ from + 0 = omega arith in ap (firstSet s) same
-firstSet-block s (suc k) from h e =
-    let inside : from < length s = omega arith in
-    let more : from + 1 + k ≤ length s = omega arith in
-    let b = getD s from 0 in
-    let zero-byte : ℕ → Bool = λ (x : ℕ). eqb x 0 in
-    let cons : drop from s ≡ b ∷ drop (from + 1) s = drop-cons s from 0 inside ∙ ap (λ (n : ℕ). b ∷ drop n s) (sym (add-one from)) in
-    let both = and-both (eqb b 0) (every zero-byte (take k (drop (from + 1) s))) (ap (λ (l : List ℕ). every zero-byte (take (suc k) l)) (sym cons) ∙ e) in
-    let same : from + 1 + k ≡ from + suc k = omega arith in
-    firstSet-next s from inside (eqb-true b 0 (both .0)) ∙ firstSet-block s k (from + 1) more (both .1) ∙ ap (firstSet s) same
 
 -- the bits of bytes begin with those of the zero bytes, then with those that lead the first other byte
 pub zeros-bytes : (s : List ℕ) → Bytes s → zeroBytes s < length s → zeros (bitsOf s) ≡ 8 * zeroBytes s + leadingOf (getD s (zeroBytes s) 0)

@@ -5,7 +5,10 @@ ghost use mathlib.Core.List.{[], _∷_};
 ghost use lib.ListN.{getD};
 ghost use Rattle.bits.specs.Bits.{num, bitsOf, reversed};
 ghost use Rattle.bits.specs.Peek.{peekOf, firstSet, leadingOf};
-use blocks::BLOCK;
+ghost use Rattle.bits.specs.Inside.{Clear};
+
+// How many bytes the search for a set one looks at in one step, where it can.
+const BLOCK: usize = 64;
 
 // The number that w bits, at most 32, from bit `at` on write. Bits beyond the last byte are zero.
 pub fn peek(s: &[u8], at: usize, w: u32) -> u32
@@ -62,7 +65,7 @@ pub fn first_set(s: &[u8], from: usize) -> usize
 {
     let mut i = from;
     while i < s.len() {
-        if blocks::is_all(s, i, 0) {
+        if is_clear(s, i) {
             i += BLOCK;
         } else {
             if s[i] != 0 {
@@ -72,6 +75,27 @@ pub fn first_set(s: &[u8], from: usize) -> usize
         }
     }
     i
+}
+
+// Whether the 64 bytes from index i on are all 0. It looks at all of them: a loop that does not leave early is done by wide registers.
+fn is_clear(s: &[u8], i: usize) -> bool
+    ensures { λ r. ⌜ Clear (now (s .entry)) i r ⌝ }
+{
+    if s.len() < BLOCK {
+        return false;
+    }
+    if s.len() - BLOCK < i {
+        return false;
+    }
+    let mut clean = true;
+    let mut j = 0;
+    while j < BLOCK {
+        if s[i + j] != 0 {
+            clean = false;
+        }
+        j += 1;
+    }
+    clean
 }
 
 // How many zero bits a byte begins with.

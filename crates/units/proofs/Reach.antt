@@ -1,16 +1,14 @@
 -- How far it is to the next 00 00 01 from a place of a list, and what stands there.
 -- Assumes nothing.
-use Prim.Native.Nat.{ℕ, zero, suc, _+_, _≤_, _<_}
+use Prim.Native.Nat.{ℕ, suc, _+_, _≤_, _<_}
 use native.Mathlib.Omega.{arith}
 use mathlib.Core.Path.{_≡_, _∙_, ap, sym, refl}
-use mathlib.Core.Bool.{Bool, true, false, not, _&&_, and-false}
+use mathlib.Core.Bool.{Bool, true, false, _&&_, and-false}
 use mathlib.Core.List.{List, [], _∷_}
-use borrow.Author.Tests.{ne-eqb, eqb-false, not-true}
+use borrow.Author.Tests.{ne-eqb, eqb-true, eqb-false}
 use lib.Dec.{eqb}
-use lib.ListN.{length, getD, take, drop, length-drop, drop-of-length-le}
+use lib.ListN.{length, getD, drop, length-drop, drop-of-length-le}
 use lib.Seq.{drop-cons}
-use Rattle.lists.proofs.Tests.{and-both}
-use Rattle.blocks.specs.Blocks.{every}
 use Rattle.units.specs.Layout.{prefixed}
 use Rattle.units.specs.Split.{cutAt, cutOf, reach, nextOf}
 
@@ -94,15 +92,17 @@ module _ (s : List ℕ) (i : ℕ) where
           reach-three (getD s i 0) (getD s (i + 1) 0) (getD s (i + 2) 0) (drop (i + 3) s) (ap prefixed (sym (drop-three s i h)) ∙ e) other,
         )
 
-    -- a third byte that is not 1 rules out one place
-    pub next-one : (getD s (i + 2) 0 ≡ 1 → ⊥) → nextOf s i ≡ nextOf s (i + 1)
-    next-one other =
+    -- where none begins here, one place is passed
+    pub next-by : prefixed (getD s i 0 ∷ getD s (i + 1) 0 ∷ getD s (i + 2) 0 ∷ drop (i + 3) s) ≡ false → nextOf s i ≡ nextOf s (i + 1)
+    next-by none =
         let one : suc i ≡ i + 1 = omega arith in
         let inside : i < length s = omega arith in
         let cons : drop i s ≡ getD s i 0 ∷ drop (i + 1) s = drop-cons s i 0 inside ∙ ap (λ (k : ℕ). getD s i 0 ∷ drop k s) one in
-        let none : prefixed (getD s i 0 ∷ drop (i + 1) s) ≡ false =
-        ap prefixed (sym cons ∙ drop-three s i h) ∙ third-other (getD s i 0) (getD s (i + 1) 0) (getD s (i + 2) 0) (drop (i + 3) s) other in
-        omega (arith, ap reach cons, reach-more (getD s i 0) (drop (i + 1) s) none)
+        omega (arith, ap reach cons, reach-more (getD s i 0) (drop (i + 1) s) (ap prefixed (sym cons ∙ drop-three s i h) ∙ none))
+
+    -- a third byte that is not 1 rules out one place
+    pub next-one : (getD s (i + 2) 0 ≡ 1 → ⊥) → nextOf s i ≡ nextOf s (i + 1)
+    next-one other = next-by (third-other (getD s i 0) (getD s (i + 1) 0) (getD s (i + 2) 0) (drop (i + 3) s) other)
 
     -- a third byte that is neither 0 nor, behind two bytes 0, 1 leaves none of the three
     module _ (other : getD s (i + 2) 0 ≡ 0 → ⊥) where
@@ -118,15 +118,12 @@ module _ (s : List ℕ) (i : ℕ) where
       next-first differs =
           next-three (ap prefixed (drop-three s i h) ∙ first-other (getD s i 0) (getD s (i + 1) 0 ∷ getD s (i + 2) 0 ∷ drop (i + 3) s) differs) other
 
--- as many places as there are third bytes that are not 1
-pub next-block : (s : List ℕ) (k i : ℕ) → i + 2 + k ≤ length s → every (λ (x : ℕ). not (eqb x 1)) (take k (drop (i + 2) s)) ≡ true → nextOf s i ≡ nextOf s (i + k)
-next-block s zero i h e = ap (nextOf s) (let same : i ≡ i + 0 = omega arith in same)
-next-block s (suc k) i h e =
-    let inside : i + 2 < length s = omega arith in
-    let more : i + 1 + 2 + k ≤ length s = omega arith in
-    let third = getD s (i + 2) 0 in
-    let cons : drop (i + 2) s ≡ third ∷ drop (i + 1 + 2) s = drop-cons s (i + 2) 0 inside ∙ ap (λ (n : ℕ). third ∷ drop n s) (let same : suc (i + 2) ≡ i + 1 + 2 = omega arith in same) in
-    let both = and-both (not (eqb third 1)) (every (λ (x : ℕ). not (eqb x 1)) (take k (drop (i + 1 + 2) s))) (ap (λ (l : List ℕ). every (λ (x : ℕ). not (eqb x 1)) (take (suc k) l)) (sym cons) ∙ e) in
-    next-one s i inside (eqb-false third 1 (not-true (eqb third 1) (both .0)))
-    ∙ next-block s k (i + 1) more (both .1)
-    ∙ ap (nextOf s) (let same : i + 1 + k ≡ i + suc k = omega arith in same)
+-- a place where 00 01 does not follow is passed
+pub next-pass : (s : List ℕ) (i : ℕ) → i + 2 < length s → (getD s (i + 1) 0 ≡ 0 → getD s (i + 2) 0 ≡ 1 → ⊥) → nextOf s i ≡ nextOf s (i + 1)
+next-pass s i h other = go (eqb (getD s (i + 2) 0) 1) refl
+  where
+    go : (t : Bool) → eqb (getD s (i + 2) 0) 1 ≡ t → nextOf s i ≡ nextOf s (i + 1)
+    go true e =
+        let second : getD s (i + 1) 0 ≡ 0 → ⊥ = λ z. other z (eqb-true (getD s (i + 2) 0) 1 e) in
+        next-by s i h (second-other (getD s i 0) (getD s (i + 1) 0) (getD s (i + 2) 0 ∷ drop (i + 3) s) second)
+    go false e = next-by s i h (third-other (getD s i 0) (getD s (i + 1) 0) (getD s (i + 2) 0) (drop (i + 3) s) (eqb-false (getD s (i + 2) 0) 1 e))

@@ -1,7 +1,7 @@
 -- What private functions promise each other: what the search keeps on its way. No theorem for a signer speaks of it.
 use Prim.Native.Nat.{ℕ, _+_, _≤_}
 use mathlib.Core.Path.{_≡_}
-use mathlib.Core.Bool.{true}
+use mathlib.Core.Bool.{Bool, true}
 use mathlib.Core.List.{List, [], _∷_, _++_}
 use lib.ListN.{length, drop}
 use Rattle.refusal.specs.declared.Verdict.the-variants.{Accepted}
@@ -27,3 +27,7 @@ pub record Passes (s : List ℕ) (i r : ℕ) : Type 0 where
   pub here : r ≡ 0 → prefixed (drop i s) ≡ true
   pub ahead : (r ≡ 0 → ⊥) → nextOf s i ≡ nextOf s (i + r)
   pub within : i + r ≤ length s
+
+-- the promise of `is_quiet`: where it answers yes, 64 places can be passed; a no says nothing
+abbrev pub Quiet : List ℕ → ℕ → Bool → Type 0
+Quiet s i r = r ≡ true → (i + 66 ≤ length s) × (nextOf s i ≡ nextOf s (i + 64))

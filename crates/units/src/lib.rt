@@ -7,8 +7,7 @@ ghost use lib.ListN.{length};
 ghost use Rattle.kind.specs.Ours.{ours};
 ghost use Rattle.units.specs.Layout.{started};
 ghost use Rattle.units.specs.Split.{frontVerdict, nextOf, scanOf};
-ghost use Rattle.units.specs.Inside.{Notes, Passes, Tells};
-use blocks::BLOCK;
+ghost use Rattle.units.specs.Inside.{Notes, Passes, Quiet, Tells};
 use kind::Kind;
 use refusal::Item;
 use refusal::Reason;
@@ -20,6 +19,9 @@ pub const START_BYTES: usize = 4;
 
 // user_data_start_code, what follows 00 00 01
 pub const USER_DATA: u8 = 0xB2;
+
+// How many places the search looks at in one step, where it can.
+const BLOCK: usize = 64;
 
 // What the search for the units of one kind found.
 pub enum Found {
@@ -149,10 +151,9 @@ fn passable(s: &[u8], i: usize) -> usize
     requires { ⌜ i + 2 < length (now s) ⌝ }
     ensures { λ r. ⌜ Passes (now (s .entry)) i r ⌝ }
 {
-    // Where 32 third bytes have no 1 among them, none of the 32 places has one. It is asked once in 32 bytes, since near a 1 it would be
-    // asked in vain.
+    // Asked once in 64 bytes: near a start it would be asked in vain.
     if i % BLOCK < 3 {
-        if blocks::lacks(s, i + 2, 1) {
+        if is_quiet(s, i) {
             return BLOCK;
         }
     }
@@ -169,6 +170,28 @@ fn passable(s: &[u8], i: usize) -> usize
     }
     // So does a 1 without two zeros before it.
     3
+}
+
+// Whether, at the 64 places from i on, no 00 00 01 begins, since at none 00 01 follows. It looks at all of them: a loop that does not leave
+// early is done by wide registers.
+fn is_quiet(s: &[u8], i: usize) -> bool
+    requires { ⌜ i + 2 < length (now s) ⌝ }
+    ensures { λ r. ⌜ Quiet (now (s .entry)) i r ⌝ }
+{
+    if s.len() - i < BLOCK + 2 {
+        return false;
+    }
+    let mut clean = true;
+    let mut j = 0;
+    while j < BLOCK {
+        let second = s[i + j + 1];
+        let third = s[i + j + 2];
+        if second | third ^ 1 == 0 {
+            clean = false;
+        }
+        j += 1;
+    }
+    clean
 }
 
 // The first 00 00 01 from index `from` on, or the end: where the unit ends in whose body `from` lies.

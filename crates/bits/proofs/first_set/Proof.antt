@@ -1,18 +1,13 @@
 -- `bits::first_set` meets its contract. The loop's invariant: the first set byte from i on is the first from `from` on.
 -- Assumes nothing.
-use Prim.Native.Nat.{ℕ, _+_, _-_, _≤_, _<_}
+use Prim.Native.Nat.{_+_, _-_, _≤_, _<_}
 use native.Mathlib.Omega.{arith}
 use mathlib.Core.Path.{_≡_, _∙_, sym, refl}
-use mathlib.Core.Bool.{true}
-use mathlib.Core.List.{List}
 use borrow.Author.Needs.{needs}
 use denote.Ref.{now}
-use lib.Dec.{eqb}
 use lib.ListN.{length, getD}
-use Rattle.blocks.specs.Blocks.{alike}
-use Rattle.blocks.proofs.Every.{block-yes}
 use Rattle.bits.specs.Peek.{firstSet}
-use Rattle.bits.proofs.Runs.{firstSet-here, firstSet-next, firstSet-block, firstSet-end}
+use Rattle.bits.proofs.Runs.{firstSet-here, firstSet-next, firstSet-end}
 use Rattle.bits.proofs.first_set.Statement.{statement}
 use Rattle.bits.proofs.first_set.Tie as tie
 
@@ -22,20 +17,12 @@ Inv-loop s from i₀ i = firstSet s from ≡ firstSet s i
 abbrev μ-loop : tie.MeasureT-loop
 μ-loop s from i₀ i = length s - i
 
--- 32 zero bytes are passed
-passed : (s : List ℕ) (i : ℕ) → alike s i 0 ≡ true → (i + 32 ≤ length s) × (firstSet s i ≡ firstSet s (i + 32))
-unfolding alike
-passed s i e =
-    let yes = block-yes (λ (x : ℕ). eqb x 0) s i e in
-    (yes .0, firstSet-block s 32 i (yes .0) (yes .1))
-
+-- 64 zero bytes are passed
 block : (c : tie.Then1 Inv-loop μ-loop)
     → let s = now (c .before .before .before .before .before .args .s) in
     let i = c .before .before .before .loop .i in
-    (i + 32 ≤ length s) × (firstSet s i ≡ firstSet s (i + 32))
-block c =
-    let at = c .before .before .before in
-    passed (now (at .before .before .args .s)) (at .loop .i) (sym (c .before .is-all .ensures) ∙ c .if1 .taken)
+    (i + 64 ≤ length s) × (firstSet s i ≡ firstSet s (i + 64))
+block c = c .before .is-clear .ensures (c .if1 .taken)
 
 loop-again : tie.Need-loop-again Inv-loop μ-loop
 loop-again c = c .before .before .before .loop .inv ∙ block c .1

@@ -1,22 +1,19 @@
--- `units::passable` meets its contract: a block without a 1, then the third byte, then the two before it rule out places.
+-- `units::passable` meets its contract: 64 quiet places, then the third byte, then the two before it rule out places.
 -- Assumes nothing.
 use Prim.Native.Nat.{ℕ, _+_, _≤_, _<_}
 use native.Mathlib.Omega.{arith}
-use mathlib.Core.Path.{_≡_, _∙_, ap, sym}
-use mathlib.Core.Bool.{Bool, true, not}
+use mathlib.Core.Path.{_≡_}
+use mathlib.Core.Bool.{true}
 use mathlib.Core.Logic.{⊎-elim}
 use mathlib.Core.List.{List}
 use borrow.Author.Needs.{needs}
 use borrow.Author.Tests.{eqb-true, eqb-false}
 use denote.Ref.{now}
-use lib.Dec.{eqb}
 use lib.ListN.{length, getD, drop}
-use Rattle.blocks.specs.Blocks.{lacking, block}
-use Rattle.blocks.proofs.Every.{block-yes}
 use Rattle.units.specs.Layout.{prefixed}
 use Rattle.units.specs.Split.{nextOf}
 use Rattle.units.specs.Inside.{Passes}
-use Rattle.units.proofs.Reach.{three-here, next-one, next-third, next-second, next-first, next-block}
+use Rattle.units.proofs.Reach.{three-here, next-one, next-third, next-second, next-first}
 use Rattle.units.proofs.passable.Statement.{statement}
 use Rattle.units.proofs.passable.Tie as tie
 
@@ -26,17 +23,11 @@ passes s i r some e h = record { here = λ z. let f : ⊥ = omega arith in absur
 stays : (s : List ℕ) (i : ℕ) → prefixed (drop i s) ≡ true → i ≤ length s → Passes s i 0
 stays s i e h = record { here = λ z. e; ahead = λ n. let f : ⊥ = omega arith in absurd f; within = omega arith }
 
--- a block
-a-block : (s : List ℕ) (i : ℕ) → lacking s (i + 2) 1 ≡ true → Passes s i 32
-unfolding lacking
-a-block s i e =
-    let yes = block-yes (λ (x : ℕ). not (eqb x 1)) s (i + 2) e in
-    passes s i 32 (omega arith) (next-block s 32 i (yes .0) (yes .1)) (omega (arith, yes .0))
-
 by-block : tie.Need-returns
 by-block c =
     let start = c .before .before .before .before in
-    a-block (now (start .args .s)) (start .args .i) (sym (c .before .lacks .ensures) ∙ c .if2 .taken)
+    let yes = c .before .is-quiet .ensures (c .if2 .taken) in
+    passes (now (start .args .s)) (start .args .i) 64 (omega arith) (yes .1) (omega (arith, yes .0))
 
 above-one : tie.Need-returns-2
 above-one c =
@@ -81,7 +72,6 @@ pub passable-spec : {M : Type 1} → statement M
 passable-spec =
     tie.close
     (tie.spec
-    (λ c. omega arith)
     (λ c κs. search needs)
     by-block
     (λ c. search needs)
