@@ -86,7 +86,7 @@ num-byte b s h = num-append (bits 8 b) (bitsOf s) ∙ ap (λ (n : ℕ). n * 2 ^ 
 
 -- the number that five bytes write
 pub bytes-number : (a b c d e : ℕ) → a < 256 → b < 256 → c < 256 → d < 256 → e < 256
-    → num (bitsOf (a ∷ b ∷ c ∷ d ∷ e ∷ [])) ≡ (((a * 256 + b) * 256 + c) * 256 + d) * 256 + e
+    → num (bitsOf (a ∷ b ∷ c ∷ d ∷ e ∷ [])) ≡ (a * 16777216 + b * 65536 + c * 256 + d) * 256 + e
 bytes-number a b c d e ha hb hc hd he =
     num-byte a (b ∷ c ∷ d ∷ e ∷ []) ha
     ∙ ap (λ (n : ℕ). a * 4294967296 + n) (num-byte b (c ∷ d ∷ e ∷ []) hb)

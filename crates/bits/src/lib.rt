@@ -37,11 +37,13 @@ fn window(s: &[u8], k: usize) -> u64
     )
 }
 
+// The number that five bytes write. The first four are a sum of their own, in 32 bits: bytes that stand side by side are then loaded as
+// one number.
 fn joined(a: u8, b: u8, c: u8, d: u8, e: u8) -> u64
     ensures { λ r. ⌜ r ≡ num (bitsOf (a ∷ b ∷ c ∷ d ∷ e ∷ [])) ⌝ }
 {
-    let four = ((a as u64 * 256 + b as u64) * 256 + c as u64) * 256 + d as u64;
-    four * 256 + e as u64
+    let four = a as u32 * 16777216 + b as u32 * 65536 + c as u32 * 256 + d as u32;
+    four as u64 * 256 + e as u64
 }
 
 fn byte_at(s: &[u8], i: usize) -> u8
@@ -50,13 +52,13 @@ fn byte_at(s: &[u8], i: usize) -> u8
     if i < s.len() { s[i] } else { 0 }
 }
 
-// A byte with its bits in the other order: its halves exchanged, then the pairs in each, then the bits in each.
+// A byte with its bits in the other order: two products lay copies of it, the masks keep each bit once, and the third brings them together in
+// one byte.
 pub fn reverse(b: u8) -> u8
     ensures { λ r. ⌜ r ≡ reversed b ⌝ }
 {
-    let halves = b >> 4 | b << 4;
-    let pairs = (halves & 0xCC) >> 2 | (halves & 0x33) << 2;
-    (pairs & 0xAA) >> 1 | (pairs & 0x55) << 1
+    let spread = (b as u64 * 0x0802 & 0x22110) | (b as u64 * 0x8020 & 0x88440);
+    (spread * 0x10101 / 65536 % 256) as u8
 }
 
 // Where, from index `from` on, the first byte stands that is not 0, or the end.
@@ -87,15 +89,13 @@ fn is_clear(s: &[u8], i: usize) -> bool
     if s.len() - BLOCK < i {
         return false;
     }
-    let mut clean = true;
+    let mut any = 0;
     let mut j = 0;
     while j < BLOCK {
-        if s[i + j] != 0 {
-            clean = false;
-        }
+        any = any | s[i + j];
         j += 1;
     }
-    clean
+    any == 0
 }
 
 // How many zero bits a byte begins with.

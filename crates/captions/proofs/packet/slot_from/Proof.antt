@@ -1,13 +1,12 @@
 -- `captions::packet::slot_from` meets its contract: the four bytes read are those of the slot at that index. Assumes nothing.
 use Prim.Native.Nat.{ℕ, _+_, _*_}
 use native.Mathlib.Nat.{add-zero}
-use mathlib.Core.Path.{_≡_, _∙_, ap, sym}
+use mathlib.Core.Path.{_≡_, sym}
 use mathlib.Core.List.{List}
 use borrow.Author.Needs.{needs}
 use denote.Ref.{now}
 use lib.ListN.{getD, drop}
 use lib.Seq.{getD-drop}
-use Rattle.sdp.specs.declared.Slot.{Slot}
 use Rattle.captions.specs.Calls.{slotIn}
 use Rattle.captions.proofs.packet.slot_from.Statement.{statement}
 use Rattle.captions.proofs.packet.slot_from.Tie as tie

@@ -2,11 +2,9 @@
 -- Assumes nothing.
 use Prim.Native.Nat.{ℕ, _≤_, _<_}
 use native.Mathlib.Omega.{arith}
-use mathlib.Core.Path.{_≡_, ap, refl}
+use mathlib.Core.Path.{ap, refl}
 use borrow.Author.Needs.{needs}
-use denote.Ref.{now}
 use Rattle.refusal.specs.declared.Refusal.{Refusal}
-use Rattle.captions.specs.Calls.{PayloadWrites}
 use Rattle.captions.proofs.payload.captions_payload_write.Statement.{statement}
 use Rattle.captions.proofs.payload.captions_payload_write.Tie as tie
 
