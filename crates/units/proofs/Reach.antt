@@ -11,6 +11,7 @@ use lib.ListN.{length, getD, drop, length-drop, drop-of-length-le}
 use lib.Seq.{drop-cons}
 use Rattle.units.specs.Layout.{prefixed}
 use Rattle.units.specs.Split.{cutAt, cutOf, reach, nextOf}
+use Rattle.units.specs.Inside.{Passes}
 
 -- a 00 00 01 is reached at once
 pub reach-here : (s : List ℕ) → prefixed s ≡ true → reach s ≡ 0
@@ -127,3 +128,10 @@ next-pass s i h other = go (eqb (getD s (i + 2) 0) 1) refl
         let second : getD s (i + 1) 0 ≡ 0 → ⊥ = λ z. other z (eqb-true (getD s (i + 2) 0) 1 e) in
         next-by s i h (second-other (getD s i 0) (getD s (i + 1) 0) (getD s (i + 2) 0 ∷ drop (i + 3) s) second)
     go false e = next-by s i h (third-other (getD s i 0) (getD s (i + 1) 0) (getD s (i + 2) 0) (drop (i + 3) s) (eqb-false (getD s (i + 2) 0) 1 e))
+
+-- places that are passed, and none
+pub passes : (s : List ℕ) (i r : ℕ) → 0 < r → nextOf s i ≡ nextOf s (i + r) → i + r ≤ length s → Passes s i r
+passes s i r some e h = record { here = λ z. let f : ⊥ = omega arith in absurd f; ahead = λ n. e; within = h }
+
+pub stays : (s : List ℕ) (i : ℕ) → prefixed (drop i s) ≡ true → i ≤ length s → Passes s i 0
+stays s i e h = record { here = λ z. e; ahead = λ n. let f : ⊥ = omega arith in absurd f; within = omega arith }

@@ -22,7 +22,7 @@ Notes seen span r = (spans : List Span) → seen ≡ seenOf spans → r ≡ seen
 abbrev pub Tells : Seen → Found → Type 0
 Tells seen r = (spans : List Span) → seen ≡ seenOf spans → r ≡ foundOf Accepted spans
 
--- the promise of `passable`: none is passed where a 00 00 01 begins at i, else so many that the next one is still ahead
+-- the promise of `pace` and `passable`: none is passed where a 00 00 01 begins at i, else so many that the next one is still ahead
 pub record Passes (s : List ℕ) (i r : ℕ) : Type 0 where
   pub here : r ≡ 0 → prefixed (drop i s) ≡ true
   pub ahead : (r ≡ 0 → ⊥) → nextOf s i ≡ nextOf s (i + r)
@@ -30,4 +30,4 @@ pub record Passes (s : List ℕ) (i r : ℕ) : Type 0 where
 
 -- the promise of `is_quiet`: where it answers yes, 64 places can be passed; a no says nothing
 abbrev pub Quiet : List ℕ → ℕ → Bool → Type 0
-Quiet s i r = r ≡ true → (i + 66 ≤ length s) × (nextOf s i ≡ nextOf s (i + 64))
+Quiet s i r = r ≡ true → nextOf s i ≡ nextOf s (i + 64)

@@ -2,7 +2,7 @@
 //
 // Normative references: document 01, "Picture area"; ISO/IEC 13818-2, start codes.
 ghost use mathlib.Core.Path.{_≡_};
-ghost use Prim.Native.Nat.{_+_, _<_};
+ghost use Prim.Native.Nat.{_+_, _≤_, _<_};
 ghost use lib.ListN.{length};
 ghost use Rattle.kind.specs.Ours.{ours};
 ghost use Rattle.units.specs.Layout.{started};
@@ -41,6 +41,12 @@ struct Seen {
     end: usize,
 }
 
+// How many places the search passes, and where it next looks at a block.
+struct Ahead {
+    passed: usize,
+    look: usize,
+}
+
 // Judges an area's start codes and looks for the units of one kind.
 pub fn scan(s: &[u8], kind: Kind) -> Found
     ensures { λ r. ⌜ r ≡ scanOf (ours kind) (now (s .entry)) ⌝ }
@@ -66,13 +72,16 @@ pub fn scan(s: &[u8], kind: Kind) -> Found
         let body = at + START_BYTES;
         let mut next = s.len();
         let mut i = body;
+        // A short unit has no block to look at.
+        let mut look = body + 16;
         while i + 2 < s.len() {
-            let passed = passable(s, i);
-            if passed == 0 {
+            let ahead = pace(s, i, look);
+            if ahead.passed == 0 {
                 next = i;
                 break;
             }
-            i += passed;
+            i += ahead.passed;
+            look = ahead.look;
         }
         let unit = at;
         at = next;
@@ -146,17 +155,41 @@ fn told(seen: Seen) -> Found
     Found::Many(seen.count)
 }
 
-// How many places from i on can be passed, since no 00 00 01 begins at any of them: none where one begins at i.
+// How far the search goes from i on, and where it next looks at a block. Near a start a block is looked at in vain, so that after such a look the
+// search goes by bytes for as long as a block.
+fn pace(s: &[u8], i: usize, look: usize) -> Ahead
+    requires { ⌜ i + 2 < length (now s) ⌝ }
+    ensures { λ r. ⌜ Passes (now (s .entry)) i (r .passed) ⌝ }
+{
+    if i < look {
+        return Ahead {
+            passed: passable(s, i),
+            look,
+        };
+    }
+    if s.len() - i < BLOCK + 2 {
+        return Ahead {
+            passed: passable(s, i),
+            look: s.len(),
+        };
+    }
+    if is_quiet(s, i) {
+        return Ahead {
+            passed: BLOCK,
+            look,
+        };
+    }
+    Ahead {
+        passed: passable(s, i),
+        look: i + BLOCK,
+    }
+}
+
+// How many places from i on can be passed by what stands there, since no 00 00 01 begins at any of them: none where one begins at i.
 fn passable(s: &[u8], i: usize) -> usize
     requires { ⌜ i + 2 < length (now s) ⌝ }
     ensures { λ r. ⌜ Passes (now (s .entry)) i r ⌝ }
 {
-    // Asked once in 64 bytes: near a start it would be asked in vain.
-    if i % BLOCK < 3 {
-        if is_quiet(s, i) {
-            return BLOCK;
-        }
-    }
     let third = s[i + 2];
     if 1 < third {
         // A byte above 1 rules out three places.
@@ -175,12 +208,9 @@ fn passable(s: &[u8], i: usize) -> usize
 // Whether, at the 64 places from i on, no 00 00 01 begins, since at none 00 01 follows. It looks at all of them: a loop that does not leave
 // early is done by wide registers.
 fn is_quiet(s: &[u8], i: usize) -> bool
-    requires { ⌜ i + 2 < length (now s) ⌝ }
+    requires { ⌜ i + 66 ≤ length (now s) ⌝ }
     ensures { λ r. ⌜ Quiet (now (s .entry)) i r ⌝ }
 {
-    if s.len() - i < BLOCK + 2 {
-        return false;
-    }
     let mut clean = true;
     let mut j = 0;
     while j < BLOCK {
@@ -199,15 +229,17 @@ pub fn next(s: &[u8], from: usize) -> usize
     ensures { λ r. ⌜ r ≡ nextOf (now (s .entry)) from ⌝ }
 {
     let mut i = from;
+    let mut look = from;
     while i < s.len() {
         if s.len() - i < 3 {
             return s.len();
         }
-        let passed = passable(s, i);
-        if passed == 0 {
+        let ahead = pace(s, i, look);
+        if ahead.passed == 0 {
             return i;
         }
-        i += passed;
+        i += ahead.passed;
+        look = ahead.look;
     }
     i
 }

@@ -35,12 +35,12 @@ one-more s i j clean before inside other told =
 
 loop-holds : tie.Need-loop-holds Inv-loop μ-loop
 loop-holds c =
-    let args = c .before .args in
-    (omega arith, omega arith, none-passed (now (args .s)) (args .i) true)
+    let args = c .args in
+    (c .pre, omega arith, none-passed (now (args .s)) (args .i) true)
 
 loop-again : tie.Need-loop-again Inv-loop μ-loop
 loop-again c =
-    let args = c .before .before .before .before .before .before .args in
+    let args = c .before .before .before .before .before .args in
     let s = now (args .s) in
     let at = c .before .before .before .before .loop in
     let turn = c .before .before .before .loop-test .taken in
@@ -50,15 +50,15 @@ loop-again c =
       ⊎-elim
           (λ w told. absurd (true≢false (sym told ∙ w .1)))
           (λ w told. one-more s (args .i) (at .j) (at .clean) (at .inv .2) inside (λ a b. w .0 .left (ap₂ (λ (x y : ℕ). bitOr x (bitXor y 1)) a b)) (sym (w .1) ∙ told))
-          (c .if2 .came),
+          (c .if1 .came),
     )
 
-all-passed : tie.Need-returns-2 Inv-loop μ-loop
+all-passed : tie.Need-returns Inv-loop μ-loop
 all-passed c told =
-    let args = c .before .before .before .args in
+    let args = c .before .before .args in
     let at = c .before .loop in
     let all : at .j ≡ 64 = omega (arith, at .inv .1, c .loop-test .left) in
-    (at .inv .0, at .inv .2 told ∙ ap (λ (k : ℕ). nextOf (now (args .s)) (args .i + k)) all)
+    at .inv .2 told ∙ ap (λ (k : ℕ). nextOf (now (args .s)) (args .i + k)) all
 
 pub is-quiet-spec : {M : Type 1} → statement M
 is-quiet-spec =
@@ -66,9 +66,6 @@ is-quiet-spec =
     (tie.spec
     Inv-loop
     μ-loop
-    (λ c. omega (arith, c .pre))
-    (λ c. omega arith)
-    (λ c told. absurd (true≢false (sym told)))
     loop-holds
     (λ c. omega arith)
     (λ c. omega arith)

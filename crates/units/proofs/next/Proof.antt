@@ -12,10 +12,10 @@ use Rattle.units.proofs.next.Statement.{statement}
 use Rattle.units.proofs.next.Tie as tie
 
 abbrev Inv-loop : tie.InvT-loop
-Inv-loop s from i₀ i = nextOf s from ≡ nextOf s i
+Inv-loop s from i₀ look₀ i look = nextOf s from ≡ nextOf s i
 
 abbrev μ-loop : tie.MeasureT-loop
-μ-loop s from i₀ i = length s - i
+μ-loop s from i₀ look₀ i look = length s - i
 
 too-few : tie.Need-returns Inv-loop μ-loop
 too-few c =
@@ -25,12 +25,12 @@ too-few c =
 
 found : tie.Need-returns-2 Inv-loop μ-loop
 found c =
-    let at = c .before .before .before .before in
-    let passed = c .before .passable in
+    let at = c .before .before .before .before .before in
+    let passed = c .before .before .pace in
     sym (at .loop .inv ∙ next-here (now (at .before .before .args .s)) (at .loop .i) (passed .ensures .here (c .if2 .taken)))
 
 loop-again : tie.Need-loop-again Inv-loop μ-loop
-loop-again c = c .before .before .before .before .loop .inv ∙ c .before .passable .ensures .ahead (c .if2 .left)
+loop-again c = c .before .before .before .before .before .before .loop .inv ∙ c .before .before .before .pace .ensures .ahead (c .before .if2 .left)
 
 at-end : tie.Need-returns-3 Inv-loop μ-loop
 at-end c = sym (c .before .loop .inv ∙ next-past (now (c .before .before .before .args .s)) (c .before .loop .i) (c .loop-test .left))
@@ -46,7 +46,7 @@ next-spec =
     too-few
     (λ c κs. omega arith)
     found
-    (λ c. omega (arith, c .before .passable .ensures .within))
-    (λ c. omega (arith, c .if2 .left))
+    (λ c. omega (arith, c .before .before .before .pace .ensures .within))
+    (λ c. omega (arith, c .before .if2 .left))
     loop-again
     at-end)

@@ -19,10 +19,10 @@ use Rattle.units.proofs.scan.Statement.{statement}
 use Rattle.units.proofs.scan.Tie as tie
 
 abbrev Inv-loop : tie.InvT-loop
-Inv-loop s kind seen at body next₀ i₀ next i = (i ≤ length s) × (next ≡ length s) × (nextOf s body ≡ nextOf s i)
+Inv-loop s kind seen at body next₀ i₀ look₀ next i look = (i ≤ length s) × (next ≡ length s) × (nextOf s body ≡ nextOf s i)
 
 abbrev μ-loop : tie.MeasureT-loop
-μ-loop s kind seen at body next₀ i₀ next i = length s - i
+μ-loop s kind seen at body next₀ i₀ look₀ next i look = length s - i
 
 abbrev Inv-units : tie.InvT-units
 Inv-units s kind seen₀ at₀ seen at = Going (ours kind) s seen at
@@ -65,9 +65,9 @@ loop-holds c = (omega arith, refl, refl)
 
 loop-again : tie.Need-loop-again Inv-loop μ-loop Inv-units μ-units
 loop-again c =
-    let at = c .before .before .before in
-    let passed = c .before .passable .ensures in
-    (passed .within, at .loop .inv .1, at .loop .inv .2 ∙ passed .ahead (c .if3 .left))
+    let at = c .before .before .before .before .before in
+    let passed = c .before .before .before .pace .ensures in
+    (passed .within, at .loop .inv .1, at .loop .inv .2 ∙ passed .ahead (c .before .if3 .left))
 
 -- behind it
 module _ (c : tie.Left-loop Inv-loop μ-loop Inv-units μ-units) where
@@ -81,7 +81,7 @@ module _ (c : tie.Left-loop Inv-loop μ-loop Inv-units μ-units) where
       let inv = c .before .loop .inv in
       ⊎-elim
       (λ w. w .1 ∙ inv .1 ∙ sym (inv .2 ∙ next-short s i (inv .0) (w .0 .left)))
-      (λ w. w .3 ∙ sym (inv .2 ∙ next-here s i (w .1 .ensures .here (w .2 .taken))))
+      (λ w. w .4 ∙ sym (inv .2 ∙ next-here s i (w .1 .ensures .here (w .3 .taken))))
       (c .loop-test .came)
 
   fits : walk .units .at + 3 < length (area walk)
@@ -133,11 +133,12 @@ scan-spec =
     (λ c. search needs)
     another-code
     (λ c. search needs)
+    (λ c. omega arith)
     loop-holds
     (λ c. search needs)
     (λ c κs. search needs)
-    (λ c. omega (arith, c .before .passable .ensures .within))
-    (λ c. omega (arith, c .if3 .left, c .before .passable .ensures .within))
+    (λ c. omega (arith, c .before .before .before .pace .ensures .within))
+    (λ c. omega (arith, c .before .if3 .left, c .before .before .before .pace .ensures .within))
     loop-again
     (λ c. omega (arith, bounds (c .before)))
     (λ c. omega (arith, bounds (c .before)))
