@@ -79,13 +79,13 @@ fn is_unwritable(s: Slot, row: [u8; ROW_BYTES]) -> bool
 fn is_blank(row: [u8; ROW_BYTES]) -> bool
     ensures { λ r. ⌜ r ≡ allZero row ⌝ }
 {
-    let mut sum: u16 = 0;
+    let mut any = 0;
     let mut j = 0;
     while j < ROW_BYTES {
-        sum += row[j] as u16;
+        any = any | row[j];
         j += 1;
     }
-    sum == 0
+    any == 0
 }
 
 // The descriptor of a slot. 16 bits hold it even where its numbers are too large.

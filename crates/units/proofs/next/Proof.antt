@@ -1,6 +1,6 @@
 -- `units::next` meets its contract. The loop's invariant: the next 00 00 01 from i on is the next from `from` on.
 -- Assumes nothing.
-use Prim.Native.Nat.{_+_, _-_, _<_}
+use Prim.Native.Nat.{_-_}
 use native.Mathlib.Omega.{arith}
 use mathlib.Core.Path.{_≡_, _∙_, sym, refl}
 use borrow.Author.Needs.{needs}

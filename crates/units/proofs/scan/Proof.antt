@@ -7,7 +7,7 @@ use mathlib.Core.Path.{_≡_, _∙_, sym, refl}
 use mathlib.Core.Logic.{⊎-elim}
 use mathlib.Core.List.{List}
 use borrow.Author.Needs.{needs}
-use borrow.Author.Tests.{eqb-true, eqb-false, not-true, not-false}
+use borrow.Author.Tests.{not-true, not-false}
 use denote.Ref.{now}
 use lib.ListN.{length, List·getD-eq-default}
 use Rattle.kind.specs.Ours.{ours}
