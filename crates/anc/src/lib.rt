@@ -15,11 +15,7 @@ use refusal::Verdict;
 pub fn word(byte: u8) -> u16
     ensures { λ r. ⌜ r ≡ wordOf byte ⌝ }
 {
-    let four = byte ^ byte / 16;
-    let two = four ^ four / 4;
-    let one = two ^ two / 2;
-    let parity = (one % 2) as u16;
-    byte as u16 + 512 - 256 * parity
+    byte as u16 + 512 - 256 * parity(byte as u16)
 }
 
 // 11 of the words from index from up to, not including, index to: the first that is no byte's word.
@@ -64,6 +60,7 @@ fn parity(byte: u16) -> u16
     one % 2
 }
 
+// The search for the first that is no byte's word.
 fn first_wrong(words: &[u16], from: usize, to: usize) -> Verdict
     ensures { λ r. ⌜ r ≡ wordsVerdict from (part from to (now (words .entry))) ⌝ }
 {
