@@ -11,10 +11,13 @@ use mathlib.Core.List.{List, [], _∷_, _++_, append-nil}
 use lib.ListN.{length}
 use Rattle.lists.specs.Flat.{flat, taken}
 use Rattle.lists.proofs.Flat.{taken-flat}
+use Rattle.refusal.specs.declared.Verdict.the-variants.{Accepted}
 use Rattle.refusal.specs.declared.Written.{Written}
 use Rattle.refusal.proofs.Outputs.{wrote-determined}
 use Rattle.scte20.specs.declared.Numbers.{Numbers}
 use Rattle.scte20.specs.Lent.{unitIn}
+use Rattle.scte20.specs.Writing.{wholeVerdict}
+use Rattle.scte20.proofs.Holding.{whole-accepted}
 use Rattle.picture.specs.declared.Head.{Head}
 use Rattle.picture.specs.Writing.{Writes, Replaces}
 use Rattle.picture.proofs.Theorems as picture
@@ -46,6 +49,20 @@ numbers-told reserved flag n z r f =
 pub numbers-wide : (reserved flag n z : ℕ) → (127 < reserved → 127 < numbersIn reserved flag n z .reserved) × (1 < flag → 1 < numbersIn reserved flag n z .«vbi_data_flag»)
 unfolding numbersIn
 numbers-wide reserved flag n z = (λ h. omega arith, λ h. omega arith)
+
+-- So it is refused with 15, whatever the records and the output are.
+pub wide-refused : (reserved flag n z : ℕ) (lent out : List ℕ) (r : Written) (exit : List ℕ) → Writes (unitIn (numbersIn reserved flag n z) lent) out r exit
+    → (127 < reserved) ⊎ (1 < flag) → r .refusal ≡ record { number = 15; place = 0 }
+wide-refused reserved flag n z lent out r exit w wide = picture.write-15 (unitIn v lent) out r exit w (λ e. ⊎-elim (high e) (set e) wide)
+  where
+    v : Numbers
+    v = numbersIn reserved flag n z
+
+    high : wholeVerdict (unitIn v lent) ≡ Accepted → 127 < reserved → ⊥
+    high e h = omega (arith, whole-accepted (unitIn v lent) e .reserved, numbers-wide reserved flag n z .0 h)
+
+    set : wholeVerdict (unitIn v lent) ≡ Accepted → 1 < flag → ⊥
+    set e h = omega (arith, whole-accepted (unitIn v lent) e .flag, numbers-wide reserved flag n z .1 h)
 
 -- Every slot can be told: four bytes each.
 abbrev pub slotBytes : Slot → List ℕ
