@@ -40,7 +40,7 @@ module _ {A : Type 0} (from : List ℕ → A) (width : ℕ) where
       (taken-more k (drop width s) ∙ ap (λ (t : List ℕ). taken from width k (drop width s) ++ (from t ∷ [])) (further k s))
 
 module _ {A : Type 0} (bytes : A → List ℕ) where
-  pub flat-append : (xs ys : List A) → flat bytes (xs ++ ys) ≡ flat bytes xs ++ flat bytes ys
+  flat-append : (xs ys : List A) → flat bytes (xs ++ ys) ≡ flat bytes xs ++ flat bytes ys
   flat-append [] ys = refl
   flat-append (x ∷ xs) ys = ap (λ (r : List ℕ). bytes x ++ r) (flat-append xs ys) ∙ sym (append-assoc (bytes x) (flat bytes xs) (flat bytes ys))
 

@@ -5,4 +5,3 @@ pub mod Sum
 pub mod Part
 pub mod Flat
 pub mod Below
-pub mod Tests

@@ -4,14 +4,13 @@ use Prim.Native.Nat.{ℕ, zero, suc, _+_, _*_, _≤_}
 use native.Mathlib.Omega.{arith}
 use mathlib.Core.Path.{_≡_, _∙_, ap, sym, refl}
 use mathlib.Core.Logic.{inl, inr, ⊎-elim}
-use mathlib.Core.Bool.{true, false, not, _&&_, true≢false}
+use mathlib.Core.Bool.{Bool, true, false, not, _&&_, true≢false}
 use mathlib.Core.List.{List, [], _∷_, map}
 use borrow.Author.Tests.{le-ltb, eqb-true, eqb-false, ne-eqb, not-false}
 use lib.Dec.{eqb}
 use lib.ListN.{length, replicate, length-append, length-map}
 use Rattle.lists.specs.Each.{Each}
 use Rattle.lists.proofs.Each.{each-map, each-both}
-use Rattle.lists.proofs.Tests.{and-both}
 use Rattle.refusal.specs.declared.Verdict.the-variants.{Accepted}
 use Rattle.refusal.specs.declared.Item.the-variants.{Whole}
 use Rattle.refusal.proofs.Checks.{refuseIf-accepted, andThen-accepted, each-accepted, accepted-each, within-accepted}
@@ -24,6 +23,10 @@ use Rattle.sdp.specs.Holdable.{allZero, unwritable, slotVerdict, slotsVe
 use Rattle.sdp.proofs.Slots.{accepted-line, line-accepted, legal-below}
 
 -- ONE SLOT
+
+and-both : (a b : Bool) → (a && b) ≡ true → (a ≡ true) × (b ≡ true)
+and-both true b e = (refl, e)
+and-both false b e = absurd (true≢false (sym e))
 
 all-zero : (row : List ℕ) → allZero row ≡ true → row ≡ replicate (length row) 0
 all-zero [] e = refl
