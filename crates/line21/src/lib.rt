@@ -3,7 +3,6 @@
 // Normative references: document 01, "Line 21 payload"; document 004, 3.2.1, Tables 1 and 2.
 mod lent;
 mod reading;
-mod writing;
 
 pub use lent::bytes_of;
 pub use lent::unit_in;
@@ -12,8 +11,6 @@ pub use reading::read_head;
 pub use reading::read_into;
 pub use reading::read_unit;
 use refusal::Refusal;
-pub use writing::write;
-pub use writing::write_from;
 
 pub const MAX_UNITS: usize = 291;
 

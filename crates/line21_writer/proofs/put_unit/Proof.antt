@@ -1,13 +1,13 @@
--- `line21::writing::put_unit` meets its contract: five stores from the front are the unit's five bytes in place of the first five.
+-- `line21_writer::put_unit` meets its contract: five stores from the front are the unit's five bytes in place of the first five.
 -- Assumes nothing.
 use native.Mathlib.Omega.{arith}
 use denote.Ref.{now}
 use lib.ListN.{length-set}
 use lib.Seq.{sets-eq}
 use Rattle.line21.specs.Layout.{layoutUnit}
 use Rattle.line21.proofs.Numbers.{accepted-unit}
-use Rattle.line21.proofs.writing.put_unit.Statement.{statement}
-use Rattle.line21.proofs.writing.put_unit.Tie as tie
+use Rattle.line21_writer.proofs.put_unit.Statement.{statement}
+use Rattle.line21_writer.proofs.put_unit.Tie as tie
 
 mul-out : tie.Need-mul-out
 mul-out c = omega (arith, accepted-unit (c .before .args .u) (c .before .pre .0) .valid-1)

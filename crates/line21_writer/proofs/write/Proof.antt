@@ -1,15 +1,15 @@
--- `line21::writing::write` meets its contract: the struct's units as bytes tell the struct.
+-- `line21_writer::write` meets its contract: the struct's units as bytes tell the struct.
 -- Assumes nothing.
 use mathlib.Core.Path.{_∙_, ap, subst}
 use borrow.Author.Needs.{needs}
 use denote.Ref.{now}
 use Rattle.line21.specs.declared.Payload.{Payload}
 use Rattle.line21.specs.Writing.{Writes}
 use Rattle.line21.specs.Lent.{payloadIn}
 use Rattle.line21.proofs.Types.{typed}
 use Rattle.line21.proofs.LentUnits.{payload-held}
-use Rattle.line21.proofs.writing.write.Statement.{statement}
-use Rattle.line21.proofs.writing.write.Tie as tie
+use Rattle.line21_writer.proofs.write.Statement.{statement}
+use Rattle.line21_writer.proofs.write.Tie as tie
 
 returns : tie.Need-returns
 returns c =

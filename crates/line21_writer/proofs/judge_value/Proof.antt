@@ -1,4 +1,4 @@
--- `line21::writing::judge_value` meets its contract. The loop's invariant: the units from i on decide as all of them do.
+-- `line21_writer::judge_value` meets its contract. The loop's invariant: the units from i on decide as all of them do.
 -- Assumes nothing.
 use Prim.Native.Nat.{ℕ, _+_, _-_, _*_, _≤_, _<_}
 use native.Mathlib.Omega.{arith}
@@ -9,23 +9,20 @@ use borrow.Author.Needs.{needs}
 use borrow.Author.Tests.{lt-ltb, le-ltb}
 use denote.Ref.{now}
 use lib.Dec.{ltb}
-use lib.ListN.{length, drop, drop-of-length-le}
+use lib.ListN.{length, getD, drop, drop-of-length-le}
 use lib.Seq.{getD-take}
-use Rattle.lists.specs.Bytes.{Bytes}
-use Rattle.lists.proofs.Each.{each-of}
 use Rattle.lists.proofs.Flat.{length-taken}
 use Rattle.refusal.specs.declared.Verdict.{Verdict}
 use Rattle.refusal.specs.declared.Reason.the-variants.{NoRoom}
 use Rattle.refusal.specs.declared.Item.the-variants.{Whole}
 use Rattle.refusal.specs.Checks.{refuseIf, andThen}
 use Rattle.line21.specs.declared.AccessUnit.{AccessUnit}
 use Rattle.line21.specs.Value.{blank, held}
 use Rattle.line21.specs.Writing.{unitVerdict, unitsVerdict, valueVerdict}
-use Rattle.line21.specs.Lent.{unitIn, payloadIn}
+use Rattle.line21.specs.Lent.{unitIn, unitsIn, payloadIn}
 use Rattle.line21.proofs.Numbers.{length-held, units-from, verdict-few}
-use Rattle.line21.proofs.LentUnits.{unit-there}
-use Rattle.line21.proofs.writing.judge_value.Statement.{statement}
-use Rattle.line21.proofs.writing.judge_value.Tie as tie
+use Rattle.line21_writer.proofs.judge_value.Statement.{statement}
+use Rattle.line21_writer.proofs.judge_value.Tie as tie
 
 -- the units that are judged
 abbrev judged : ℕ → List ℕ → List AccessUnit
@@ -37,22 +34,18 @@ Inv-loop m units room i₀ i = (i ≤ m) × (unitsVerdict (judged m units) ≡ u
 abbrev μ-loop : tie.MeasureT-loop
 μ-loop m units room i₀ i = m - i
 
-bytes : (c : tie.After-shared-slice-known Inv-loop μ-loop) → Bytes (now (c .before .args .units))
-bytes c = each-of (λ (b : ℕ). b < 256) 0 (now (c .before .args .units)) (λ i h. omega (arith, c .shared-slice-known .given i))
-
 -- the code's first test was passed
 module _ (m : ℕ) (units : List ℕ) (few : m ≤ 291) where
   places : length (judged m units) ≡ m
   places = length-held (payloadIn 0 m units) (length-taken unitIn 7 291 units) few
 
   -- in a turn, the unit at i decides first
-  split : (i : ℕ) → i < m → unitsVerdict (drop i (judged m units)) ≡ andThen (unitVerdict (unitIn (drop (7 * i) units))) (unitsVerdict (drop (i + 1) (judged m units)))
+  split : (i : ℕ) → i < m → unitsVerdict (drop i (judged m units)) ≡ andThen (unitVerdict (getD (unitsIn units) i blank)) (unitsVerdict (drop (i + 1) (judged m units)))
   split i below =
       let inside : i < length (judged m units) = omega (arith, places) in
-      let near : i < 291 = omega arith in
       units-from (judged m units) i inside
       ∙ ap (λ (u : AccessUnit). andThen (unitVerdict u) (unitsVerdict (drop (i + 1) (judged m units))))
-      (getD-take m (payloadIn 0 m units .units) i blank below ∙ unit-there units i near)
+      (getD-take m (unitsIn units) i blank below)
 
   -- what the checks say of the value, as long as no unit was refused
   told : (room i : ℕ) → unitsVerdict (judged m units) ≡ unitsVerdict (drop i (judged m units))
@@ -67,37 +60,32 @@ module _ (m : ℕ) (units : List ℕ) (few : m ≤ 291) where
 
 returns : tie.Need-returns Inv-loop μ-loop
 unfolding valueVerdict
-returns c = (simp (lt-ltb _ _ (c .if1 .taken)), bytes (c .before))
+returns c = simp (lt-ltb _ _ (c .if1 .taken))
 
 loop-holds : tie.Need-loop-holds Inv-loop μ-loop
 loop-holds c = (omega arith, refl)
 
-unit-from-requires : tie.Need-unit-from-requires Inv-loop μ-loop
-unit-from-requires c κs = omega arith
-
 returns-2 : tie.Need-returns-2 Inv-loop μ-loop
 returns-2 c =
     let turn = c .before .before .before .before in
-    let known = turn .before .before .before in
-    let m = known .before .args .m in
-    let units = now (known .before .args .units) in
+    let start = turn .before .before .before in
+    let m = start .args .m in
+    let units = now (start .args .units) in
     let i = turn .before .loop .i in
     let few = turn .before .before .if1 .left in
     let judged-here = c .enum-told .given .1 in
     let rest = unitsVerdict (drop (i + 1) (judged m units)) in
-    let space = refuseIf (ltb (known .before .args .room) (1 + 5 * m)) NoRoom Whole in (
-      judged-here
-          ∙ ap (λ (v : Verdict). andThen (andThen v rest) space)
-          (sym judged-here ∙ c .before .before .judge-unit .ensures ∙ ap unitVerdict (c .before .before .before .unit-from .ensures))
-          ∙ ap (λ (v : Verdict). andThen v space) (sym (split m units few i (turn .loop-test .taken)))
-          ∙ sym (told m units few (known .before .args .room) i (turn .before .loop .inv .1)),
-      bytes known,
-    )
+    let space = refuseIf (ltb (start .args .room) (1 + 5 * m)) NoRoom Whole in
+    judged-here
+    ∙ ap (λ (v : Verdict). andThen (andThen v rest) space)
+    (sym judged-here ∙ c .before .before .judge-unit .ensures ∙ ap unitVerdict (c .before .before .before .unit-in .ensures))
+    ∙ ap (λ (v : Verdict). andThen v space) (sym (split m units few i (turn .loop-test .taken)))
+    ∙ sym (told m units few (start .args .room) i (turn .before .loop .inv .1))
 
 loop-again : tie.Need-loop-again Inv-loop μ-loop
 loop-again c =
     let turn = c .before .before .before .before in
-    let start = turn .before .before .before .before in
+    let start = turn .before .before .before in
     let m = start .args .m in
     let units = now (start .args .units) in
     let i = turn .before .loop .i in (
@@ -105,15 +93,15 @@ loop-again c =
       turn .before .loop .inv .1
           ∙ split m units (turn .before .before .if1 .left) i (turn .loop-test .taken)
           ∙ ap (λ (v : Verdict). andThen v (unitsVerdict (drop (i + 1) (judged m units))))
-          (sym (c .before .before .judge-unit .ensures ∙ ap unitVerdict (c .before .before .before .unit-from .ensures)) ∙ c .enum-told2 .given .1),
+          (sym (c .before .before .judge-unit .ensures ∙ ap unitVerdict (c .before .before .before .unit-in .ensures)) ∙ c .enum-told2 .given .1),
     )
 
 -- after the loop the room decides
 past : (c : tie.After-loop Inv-loop μ-loop)
-    → valueVerdict (payloadIn 0 (c .before .before .before .before .args .m) (now (c .before .before .before .before .args .units))) (c .before .before .before .before .args .room)
-    ≡ refuseIf (ltb (c .before .before .before .before .args .room) (1 + 5 * c .before .before .before .before .args .m)) NoRoom Whole
+    → valueVerdict (payloadIn 0 (c .before .before .before .args .m) (now (c .before .before .before .args .units))) (c .before .before .before .args .room)
+    ≡ refuseIf (ltb (c .before .before .before .args .room) (1 + 5 * c .before .before .before .args .m)) NoRoom Whole
 past c =
-    let start = c .before .before .before .before in
+    let start = c .before .before .before in
     let m = start .args .m in
     let units = now (start .args .units) in
     let few = c .before .before .if1 .left in
@@ -122,10 +110,10 @@ past c =
     (none-left m units few (c .before .loop .i) (c .loop-test .left))
 
 returns-3 : tie.Need-returns-3 Inv-loop μ-loop
-returns-3 c = (sym (past (c .before) ∙ ap (λ (t : Bool). refuseIf t NoRoom Whole) (lt-ltb _ _ (c .if2 .taken))), bytes (c .before .before .before .before))
+returns-3 c = sym (past (c .before) ∙ ap (λ (t : Bool). refuseIf t NoRoom Whole) (lt-ltb _ _ (c .if2 .taken)))
 
 returns-4 : tie.Need-returns-4 Inv-loop μ-loop
-returns-4 c = (sym (past (c .before) ∙ ap (λ (t : Bool). refuseIf t NoRoom Whole) (le-ltb _ _ (c .if2 .left))), bytes (c .before .before .before .before))
+returns-4 c = sym (past (c .before) ∙ ap (λ (t : Bool). refuseIf t NoRoom Whole) (le-ltb _ _ (c .if2 .left)))
 
 pub judge-value-spec : {M : Type 1} → statement M
 judge-value-spec =
@@ -135,7 +123,7 @@ judge-value-spec =
     μ-loop
     returns
     loop-holds
-    unit-from-requires
+    (λ c κs. search needs)
     (λ c κs. search needs)
     (λ c. search needs)
     returns-2

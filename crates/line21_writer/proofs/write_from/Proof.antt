@@ -1,4 +1,4 @@
--- `line21::writing::write_from` meets its contract: it stores where the refusal's number is 0, which is where the verdict accepts.
+-- `line21_writer::write_from` meets its contract: it stores where the refusal's number is 0, which is where the verdict accepts.
 -- Assumes nothing.
 use Prim.Native.Nat.{ℕ}
 use native.Mathlib.Omega.{arith}
@@ -13,19 +13,19 @@ use Rattle.refusal.specs.Numbers.{refusalOf}
 use Rattle.refusal.specs.Answers.{Wrote}
 use Rattle.refusal.proofs.Acceptance.{told-accepted}
 use Rattle.refusal.proofs.Outputs.{wrote-nothing, wrote-laid}
 use Rattle.line21.specs.declared.Payload.{Payload}
 use Rattle.line21.specs.Value.{Typed, held}
 use Rattle.line21.specs.Layout.{layout}
 use Rattle.line21.specs.Writing.{valueVerdict}
 use Rattle.line21.specs.Lent.{unitsIn, payloadIn}
 use Rattle.line21.proofs.Numbers.{Writable, accepted-value, length-layout-held}
 use Rattle.line21.proofs.LentUnits.{typed-in, verdict-flags}
-use Rattle.line21.proofs.writing.write_from.Statement.{statement}
-use Rattle.line21.proofs.writing.write_from.Tie as tie
+use Rattle.line21_writer.proofs.write_from.Statement.{statement}
+use Rattle.line21_writer.proofs.write_from.Tie as tie
 
 module _ (c : tie.After-told) where
   abbrev start : tie.Start
-  start = c .before .before .before .before
+  start = c .before .before .before .before .before
 
   abbrev p : Payload
   p = payloadIn (start .args .flags) (start .args .m) (now (start .args .units))
@@ -37,10 +37,10 @@ module _ (c : tie.After-told) where
   verdict = valueVerdict p (length out)
 
   told : c .told .result ≡ refusalOf verdict
-  told = c .told .ensures ∙ ap refusalOf (c .before .judge-value .ensures .0 ∙ sym (verdict-flags (start .args .flags) (start .args .m) (length out) (unitsIn (now (start .args .units)))))
+  told = c .told .ensures ∙ ap refusalOf (c .before .judge-value .ensures ∙ sym (verdict-flags (start .args .flags) (start .args .m) (length out) (unitsIn (now (start .args .units)))))
 
   types : Typed p
-  types = typed-in (start .args .flags) (start .args .m) (now (start .args .units)) (start .good .0 .1) (c .before .judge-value .ensures .1)
+  types = typed-in (start .args .flags) (start .args .m) (now (start .args .units)) (start .good .0 .1) (c .before .before .known .ensures)
 
 -- past the test the value is accepted
 module _ (c : tie.Else1) where
@@ -62,17 +62,17 @@ refused c =
     }
 
 put-requires : tie.Need-put-requires
-put-requires c κs = (c .before .put-arg .given .0, told-accepted _ (zero (c .before .before)))
+put-requires c κs = told-accepted _ (zero (c .before))
 
-mul-t9 : tie.Need-mul-t9
-mul-t9 c = omega (arith, writable (c .before .before .before .before .before) .few)
+mul-t10 : tie.Need-mul-t10
+mul-t10 c = omega (arith, writable (c .before .before .before .before) .few)
 
-add-t16 : tie.Need-add-t16
-add-t16 c = omega (arith, writable (c .before .before .before .before .before) .few)
+add-t14 : tie.Need-add-t14
+add-t14 c = omega (arith, writable (c .before .before .before .before) .few)
 
 accepted : tie.Need-returns-2
 accepted c =
-    let past = c .before .before .before .before .before in
+    let past = c .before .before .before .before in
     let at = past .before .before in
     let laid = layout (held (p at)) in
     record {
@@ -91,9 +91,10 @@ write-from-spec =
     (tie.spec
     (λ c κs. search needs)
     (λ c κs. search needs)
+    (λ c κs. search needs)
     refused
     put-requires
-    mul-t9
-    add-t16
+    mul-t10
+    add-t14
     (λ c. search needs)
     accepted)

@@ -1,9 +1,10 @@
--- `line21::writing::put` meets its contract. The loop's invariant: the flags byte and the first i units are laid over the output.
+-- `line21_writer::put` meets its contract. The loop's invariant: the flags byte and the first i units are laid over the output.
 -- Assumes nothing.
 use Prim.Native.Nat.{ℕ, _+_, _-_, _*_, _≤_, _<_}
 use native.Mathlib.Omega.{arith}
 use mathlib.Core.Path.{_≡_, _∙_, ap, ap₂, sym}
 use mathlib.Core.List.{List, [], _∷_, _++_}
+use borrow.Author.Needs.{needs}
 use denote.Ref.{now}
 use borrow.Rule.Slice.PartMut.{putMid}
 use lib.ListN.{length, take, drop, getD, set, length-set, length-drop}
@@ -12,17 +13,16 @@ use Rattle.lists.specs.Room.{over}
 use Rattle.lists.proofs.Flat.{length-taken}
 use Rattle.lists.proofs.Lay.{length-over, over-more, rest-whole}
 use Rattle.refusal.specs.declared.Verdict.the-variants.{Accepted}
 use Rattle.line21.specs.declared.AccessUnit.{AccessUnit}
 use Rattle.line21.specs.declared.Payload.{Payload}
 use Rattle.line21.specs.Value.{blank, held}
 use Rattle.line21.specs.Layout.{layout, layoutUnit, layoutUnits}
 use Rattle.line21.specs.Writing.{unitVerdict}
 use Rattle.line21.specs.Lent.{unitIn, unitsIn, payloadIn}
 use Rattle.line21.proofs.Layouts.{length-layoutUnits, layoutUnits-more}
 use Rattle.line21.proofs.Numbers.{Writable, accepted-value, length-held, length-layout-held, units-accepted-at}
-use Rattle.line21.proofs.LentUnits.{unit-there}
-use Rattle.line21.proofs.writing.put.Statement.{statement}
-use Rattle.line21.proofs.writing.put.Tie as tie
+use Rattle.line21_writer.proofs.put.Statement.{statement}
+use Rattle.line21_writer.proofs.put.Tie as tie
 
 -- what the first i units have laid so far
 abbrev front : ℕ → List ℕ → ℕ → List ℕ
@@ -47,25 +47,23 @@ module _ (c : tie.Start Inv-loop μ-loop) where
   p = payloadIn (c .args .flags) (c .args .m) (now (c .args .units))
 
   writable : Writable p (length (now (c .args .out)))
-  writable = accepted-value p (length (now (c .args .out))) (c .pre .1)
+  writable = accepted-value p (length (now (c .args .out))) (c .pre)
 
   -- the result fits the output
   long : 1 + 5 * c .args .m ≤ length (now (c .args .out))
   long = omega (arith, writable .fits, length-layout-held p (places (now (c .args .units))) (writable .few))
 
   -- each unit that is written was judged
-  passed : (i : ℕ) → i < c .args .m → unitVerdict (unitIn (drop (7 * i) (now (c .args .units)))) ≡ Accepted
+  passed : (i : ℕ) → i < c .args .m → unitVerdict (getD (unitsIn (now (c .args .units))) i blank) ≡ Accepted
   passed i below =
-      let units = unitsIn (now (c .args .units)) in
-      let near : i < 291 = omega (arith, writable .few) in
       let inside : i < length (held p .units) = omega (arith, length-held p (places (now (c .args .units))) (writable .few)) in
-      ap unitVerdict (sym (getD-take (c .args .m) units i blank below ∙ unit-there (now (c .args .units)) i near))
+      ap unitVerdict (sym (getD-take (c .args .m) (unitsIn (now (c .args .units))) i blank below))
       ∙ units-accepted-at (held p .units) (writable .each) i inside
 
 -- what the loop knows of its output at its head
 module _ (c : tie.At-loop Inv-loop μ-loop) where
   abbrev start : tie.Start Inv-loop μ-loop
-  start = c .before .before .before
+  start = c .before .before
 
   sized : length (front (start .args .flags) (now (start .args .units)) (c .loop .i)) ≡ 1 + 5 * c .loop .i
   sized = length-front (start .args .flags) (now (start .args .units)) (c .loop .i) (omega (arith, writable start .few))
@@ -80,19 +78,16 @@ module _ (c : tie.At-loop Inv-loop μ-loop) where
       ap length (c .loop .inv .1) ∙ length-over laid (set out 0 flags) h ∙ same
 
 slice-write-out : tie.Need-slice-write-out Inv-loop μ-loop
-slice-write-out c = omega (arith, long (c .before .before))
+slice-write-out c = omega (arith, long (c .before))
 
 loop-holds : tie.Need-loop-holds Inv-loop μ-loop
 loop-holds c =
-    let out = now (c .before .before .args .out) in
-    let flags = c .before .before .args .flags in (
+    let out = now (c .before .args .out) in
+    let flags = c .before .args .flags in (
       omega arith,
-      sets-eq (flags ∷ []) out 0 (omega (arith, long (c .before .before)))
+      sets-eq (flags ∷ []) out 0 (omega (arith, long (c .before)))
           ∙ ap (λ (rest : List ℕ). flags ∷ rest) (sym (drop-set-lt 1 out 0 flags (omega arith))),
     )
-
-unit-from-requires : tie.Need-unit-from-requires Inv-loop μ-loop
-unit-from-requires c κs = omega (arith, writable (start (c .before)) .few)
 
 mul-put-unit : tie.Need-mul-put-unit Inv-loop μ-loop
 mul-put-unit c = omega (arith, writable (start (c .before .before)) .few)
@@ -114,7 +109,7 @@ put-unit-requires c κs =
     let at = c .before .before .before in
     let i = at .loop .i in
     let out = at .loop .out in (
-      ap unitVerdict (c .before .unit-from .ensures) ∙ passed (start at) i (c .before .before .loop-test .taken),
+      ap unitVerdict (c .before .unit-in .ensures) ∙ passed (start at) i (c .before .before .loop-test .taken),
       omega (arith, ap length (rest-whole out (1 + 5 * i)), length-drop (1 + 5 * i) out, kept at, long (start at)),
     )
 
@@ -132,13 +127,13 @@ loop-again c =
     let i = at .loop .i in
     let begun = set (now (start at .args .out)) 0 flags in
     let part = c .before .before .put-unit .last .1 .0 in
-    let near : i < 291 = omega (arith, writable (start at) .few) in
-    let unit : c .before .before .before .before .unit-from .result ≡ getD (unitsIn units) i blank = c .before .before .before .before .unit-from .ensures ∙ sym (unit-there units i near) in
     let piece = layoutUnit (getD (unitsIn units) i blank) in
-    let inside : i < length (unitsIn units) = omega (arith, places units) in
+    let inside : i < length (unitsIn units) = omega (arith, places units, writable (start at) .few) in
     let laid =
     c .before .before .put-unit .ensures
-    ∙ ap₂ (λ (u : AccessUnit) (xs : List ℕ). over (layoutUnit u) (take (length xs - (1 + 5 * i)) (drop (1 + 5 * i) xs))) unit (at .loop .inv .1)
+    ∙ ap₂ (λ (u : AccessUnit) (xs : List ℕ). over (layoutUnit u) (take (length xs - (1 + 5 * i)) (drop (1 + 5 * i) xs)))
+    (c .before .before .before .before .unit-in .ensures)
+    (at .loop .inv .1)
     in (
       omega arith,
       ap (λ (xs : List ℕ). putMid (1 + 5 * i) (length xs - (1 + 5 * i)) xs part) (at .loop .inv .1)
@@ -168,7 +163,7 @@ put-spec =
     μ-loop
     slice-write-out
     loop-holds
-    unit-from-requires
+    (λ c κs. search needs)
     mul-put-unit
     add-put-unit
     sub-put-unit

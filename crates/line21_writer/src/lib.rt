@@ -1,20 +1,20 @@
-// Writing a payload.
+// Writing an ISMA Line 21 RTP payload.
+//
+// Normative references: document 01, "Line 21 payload" and "Which refusal comes first"; document 004, 3.2.1, Tables 1 and 2.
 ghost use mathlib.Core.Path.{_≡_};
 ghost use Prim.Native.Nat.{_≤_};
 ghost use lib.ListN.{length};
-ghost use Rattle.lists.specs.Bytes.{Bytes};
 ghost use Rattle.lists.specs.Room.{over};
 ghost use Rattle.refusal.specs.declared.Verdict.the-variants.{Accepted};
 ghost use Rattle.line21.specs.Value.{held};
 ghost use Rattle.line21.specs.Layout.{layout, layoutUnit};
 ghost use Rattle.line21.specs.Writing.{unitVerdict, valueVerdict, Writes};
 ghost use Rattle.line21.specs.Lent.{payloadIn};
-use crate::AccessUnit;
-use crate::LENT_UNITS;
-use crate::MAX_UNITS;
-use crate::Payload;
-use crate::UNIT_BYTES;
-use crate::lent;
+use line21::AccessUnit;
+use line21::LENT_UNITS;
+use line21::MAX_UNITS;
+use line21::Payload;
+use line21::UNIT_BYTES;
 use refusal::Excess;
 use refusal::Item;
 use refusal::Reason;
@@ -25,7 +25,7 @@ use refusal::Written;
 pub fn write(p: Payload, out: &mut [u8]) -> Written
     ensures { λ r. ⌜ Writes p (now (out .entry)) r (now (out .exit)) ⌝ }
 {
-    let units = lent::bytes_of(p);
+    let units = line21::bytes_of(p);
     write_from(p.flags, p.m, &units, out)
 }
 
@@ -33,6 +33,7 @@ pub fn write(p: Payload, out: &mut [u8]) -> Written
 pub fn write_from(flags: u8, m: usize, units: &[u8; LENT_UNITS], out: &mut [u8]) -> Written
     ensures { λ r. ⌜ Writes (payloadIn flags m (now (units .entry))) (now (out .entry)) r (now (out .exit)) ⌝ }
 {
+    lists::known(units);
     let refusal = refusal::told(judge_value(m, units, out.len()));
     if refusal.number != 0 {
         return Written { refusal, len: 0 };
@@ -46,18 +47,15 @@ pub fn write_from(flags: u8, m: usize, units: &[u8; LENT_UNITS], out: &mut [u8])
 
 // 01, "Which refusal comes first": 15 of the whole value, 15 of each unit in order, then 1, which
 // 291 units cannot meet, then 14. No flags byte is refused.
-// A slice tells that its elements are bytes, which `Writes` asks of the lent array.
-fn judge_value(m: usize, units: &[u8], room: usize) -> Verdict
-    requires { ⌜ length (now units) ≡ 2037 ⌝ }
+fn judge_value(m: usize, units: &[u8; LENT_UNITS], room: usize) -> Verdict
     ensures { λ r. ⌜ r ≡ valueVerdict (payloadIn 0 m (now (units .entry))) room ⌝ }
-    ensures { λ _. ⌜ Bytes (now (units .entry)) ⌝ }
 {
     if MAX_UNITS < m {
         return Verdict::Refused(Reason::Unholdable(Excess::Count), Item::Whole);
     }
     let mut i = 0;
     while i < m {
-        let verdict = judge_unit(lent::unit_from(units, i));
+        let verdict = judge_unit(line21::unit_in(units, i));
         if let Verdict::Refused(_, _) = verdict {
             return verdict;
         }
@@ -85,15 +83,14 @@ fn judge_unit(u: AccessUnit) -> Verdict
 }
 
 // Stores the layout of a value that was judged.
-fn put(flags: u8, m: usize, units: &[u8], out: &mut [u8])
-    requires { ⌜ length (now units) ≡ 2037 ⌝ }
+fn put(flags: u8, m: usize, units: &[u8; LENT_UNITS], out: &mut [u8])
     requires { ⌜ valueVerdict (payloadIn flags m (now units)) (length (now out)) ≡ Accepted ⌝ }
     ensures { λ _. ⌜ now (out .exit) ≡ over (layout (held (payloadIn flags m (now (units .entry))))) (now (out .entry)) ⌝ }
 {
     out[0] = flags;
     let mut i = 0;
     while i < m {
-        put_unit(lent::unit_from(units, i), &mut out[1 + UNIT_BYTES * i..]);
+        put_unit(line21::unit_in(units, i), &mut out[1 + UNIT_BYTES * i..]);
         i += 1;
     }
 }
