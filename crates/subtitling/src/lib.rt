@@ -1,24 +1,104 @@
-// The RDD 8 (OP-47) subtitling packet: the ancillary data words that carry a subtitling distribution packet.
+// The RDD 8 (OP-47) subtitling packet: the ancillary data words that carry a subtitling distribution packet, and the order of checks over them.
 //
-// Normative references: document 01, "Subtitling packet"; document 002 (RDD 8), clause 4; SMPTE 291M.
-mod reading;
-mod writing;
-
-pub use reading::read;
-pub use reading::read_into;
-pub use reading::read_rows;
+// Normative references: document 01, "Subtitling packet" and "Which refusal comes first"; document 002 (RDD 8), clause 4; SMPTE 291M.
+ghost use mathlib.Core.Path.{_≡_};
+ghost use Prim.Native.Nat.{_≤_};
+ghost use lib.ListN.{length};
+ghost use Rattle.subtitling.specs.Reading.{formVerdict, headerVerdict, checksumVerdict, packetVerdict};
+use refusal::Fixed;
+use refusal::Item;
+use refusal::Misfit;
+use refusal::Reason;
 use refusal::Refusal;
+use refusal::Verdict;
 use sdp::Packet;
-pub use writing::write;
-pub use writing::write_from;
 
 pub const MIN_WORDS: usize = 20;
 
 pub const MAX_WORDS: usize = 245;
 
-// What `read` and `read_into` answer: the numbers, or a refusal and zeros.
+// A packet: the flag, DID, SDID, DC, the user words, CS.
+pub const USER: usize = 6;
+
+// What reading answers: the numbers, or a refusal and zeros.
 #[repr(C)]
 pub struct Answer {
     pub refusal: Refusal,
     pub packet: Packet,
+}
+
+// 01, "Which refusal comes first": the whole order of reading a packet.
+pub fn judge(words: &[u16]) -> Verdict
+    ensures { λ r. ⌜ r ≡ packetVerdict (now (words .entry)) ⌝ }
+{
+    let form = judge_form(words);
+    if let Verdict::Refused(_, _) = form {
+        return form;
+    }
+    let header = judge_header(words);
+    if let Verdict::Refused(_, _) = header {
+        return header;
+    }
+    let n = words.len();
+    let user = sdp::judge_user(&words[USER..n - 1], 5);
+    if let Verdict::Refused(_, _) = user {
+        return user;
+    }
+    judge_checksum(words)
+}
+
+// 1, 5 under 20 words, 2, then 11 from DID to CS.
+fn judge_form(words: &[u16]) -> Verdict
+    ensures { λ r. ⌜ r ≡ formVerdict (now (words .entry)) ⌝ }
+{
+    let n = words.len();
+    if MAX_WORDS < n {
+        return Verdict::Refused(Reason::TooLong, Item::Length(n));
+    }
+    if n < MIN_WORDS {
+        return Verdict::Refused(Reason::Ends, Item::Length(n));
+    }
+    if words[0] != 0x000 {
+        return Verdict::Refused(Reason::NoStart, Item::Word(0));
+    }
+    if words[1] != 0x3FF {
+        return Verdict::Refused(Reason::NoStart, Item::Word(1));
+    }
+    if words[2] != 0x3FF {
+        return Verdict::Refused(Reason::NoStart, Item::Word(2));
+    }
+    let verdict = anc::judge_words(words, 3, n - 1);
+    if let Verdict::Refused(_, _) = verdict {
+        return verdict;
+    }
+    anc::judge_sum(words[n - 1], n - 1)
+}
+
+// DID, SDID 6; DC 13.
+fn judge_header(words: &[u16]) -> Verdict
+    requires { ⌜ 20 ≤ length (now words) ⌝ }
+    ensures { λ r. ⌜ r ≡ headerVerdict (now (words .entry)) ⌝ }
+{
+    if words[3] != 0x143 {
+        return Verdict::Refused(Reason::Unfixed(Fixed::Identifier), Item::Word(3));
+    }
+    if words[4] != 0x102 {
+        return Verdict::Refused(Reason::Unfixed(Fixed::Identifier), Item::Word(4));
+    }
+    if (words[5] % 256) as usize != words.len() - 7 {
+        return Verdict::Refused(Reason::Unfit(Misfit::DataCount), Item::Word(5));
+    }
+    Verdict::Accepted
+}
+
+// CS 12.
+fn judge_checksum(words: &[u16]) -> Verdict
+    requires { ⌜ 20 ≤ length (now words) ⌝ }
+    ensures { λ r. ⌜ r ≡ checksumVerdict (now (words .entry)) ⌝ }
+{
+    let n = words.len();
+    if words[n - 1] != anc::checksum(&words[3..n - 1]) {
+        return Verdict::Refused(Reason::Checksum, Item::Word(n - 1));
+    }
+    Verdict::Accepted
 }

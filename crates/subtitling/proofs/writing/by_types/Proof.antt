@@ -1,8 +1,0 @@
--- `subtitling::writing::by_types` meets its contract: what comes by value is `Typed`.
--- Assumes nothing.
-use Rattle.sdp.proofs.Types.{typed}
-use Rattle.subtitling.proofs.writing.by_types.Statement.{statement}
-use Rattle.subtitling.proofs.writing.by_types.Tie as tie
-
-pub by-types-spec : {M : Type 1} → statement M
-by-types-spec = tie.close (tie.spec (λ c. typed (c .args .p) _ (c .good .0) (c .args .rows) _ (c .good .1 .0)))

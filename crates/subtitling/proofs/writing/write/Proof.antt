@@ -1,8 +1,0 @@
--- `subtitling::writing::write` meets its contract, which is that of `write_from`.
--- Assumes nothing.
-use borrow.Author.Needs.{needs}
-use Rattle.subtitling.proofs.writing.write.Statement.{statement}
-use Rattle.subtitling.proofs.writing.write.Tie as tie
-
-pub write-spec : {M : Type 1} → statement M
-write-spec = tie.close (tie.spec (λ c κs. search needs) (λ c. search needs) (λ c. c .before .before .write-from .ensures))

@@ -1,0 +1,172 @@
+// Writing an RDD 8 (OP-47) subtitling packet.
+//
+// Normative references: document 01, "Subtitling packet" and "Which refusal comes first"; document 002 (RDD 8), clause 4; SMPTE 291M.
+ghost use mathlib.Core.Path.{_≡_};
+ghost use Prim.Native.Nat.{_+_, _*_, _≤_, _<_};
+ghost use mathlib.Core.List.{[], _∷_, map};
+ghost use lib.ListN.{length, take};
+ghost use Rattle.lists.specs.Room.{over};
+ghost use Rattle.anc.specs.Words.{wordOf, byteOf};
+ghost use Rattle.refusal.specs.declared.Verdict.the-variants.{Accepted};
+ghost use Rattle.sdp.specs.Value.{descriptor as Value·descriptor, Typed, held, beside};
+ghost use Rattle.sdp.specs.Layout.{count as Layout·count, structures, footer};
+ghost use Rattle.subtitling.specs.Layout.{layout};
+ghost use Rattle.subtitling.specs.Writing.{valueVerdict, sealed, Writes};
+use refusal::Excess;
+use refusal::Item;
+use refusal::Reason;
+use refusal::Verdict;
+use refusal::Written;
+use sdp::Packet;
+use sdp::ROW_BYTES;
+use sdp::SLOTS;
+use sdp::STRUCTURE_WORDS;
+use subtitling::MIN_WORDS;
+
+// Writes a packet at the front of out.
+pub fn write(p: Packet, rows: [[u8; ROW_BYTES]; SLOTS], out: &mut [u16]) -> Written
+    ensures { λ r. ⌜ Writes p rows (now (out .entry)) r (now (out .exit)) ⌝ }
+{
+    write_from(p, &rows, out)
+}
+
+// The same with the rows in a lent array.
+pub fn write_from(p: Packet, rows: &[[u8; ROW_BYTES]; SLOTS], out: &mut [u16]) -> Written
+    ensures { λ r. ⌜ Writes p (now (rows .entry)) (now (out .entry)) r (now (out .exit)) ⌝ }
+{
+    by_types(p, *rows);
+    let refusal = refusal::told(judge_value(p, rows, out.len()));
+    if refusal.number != 0 {
+        return Written { refusal, len: 0 };
+    }
+    put(p, rows, out);
+    Written {
+        refusal,
+        len: MIN_WORDS + STRUCTURE_WORDS * sdp::count(p),
+    }
+}
+
+// What the types say, told of a lent array too. It does nothing.
+fn by_types(p: Packet, rows: [[u8; ROW_BYTES]; SLOTS])
+    ensures { λ _. ⌜ Typed p rows ⌝ }
+{}
+
+// 01, "Which refusal comes first": 15 of the counter; 15 and 7 of each slot in order; then 1, which five structures cannot meet, then 14.
+fn judge_value(p: Packet, rows: &[[u8; ROW_BYTES]; SLOTS], room: usize) -> Verdict
+    requires { ⌜ Typed p (now rows) ⌝ }
+    ensures { λ r. ⌜ r ≡ valueVerdict (held p (now (rows .entry))) room ⌝ }
+{
+    if 65535 < p.counter {
+        return Verdict::Refused(Reason::Unholdable(Excess::Counter), Item::Whole);
+    }
+    let mut i = 0;
+    while i < SLOTS {
+        let slot = p.slots[i];
+        let verdict = sdp::judge_slot(slot, rows[i]);
+        if let Verdict::Refused(_, _) = verdict {
+            return verdict;
+        }
+        i += 1;
+    }
+    if room < MIN_WORDS + STRUCTURE_WORDS * sdp::count(p) {
+        return Verdict::Refused(Reason::NoRoom, Item::Whole);
+    }
+    Verdict::Accepted
+}
+
+// Stores the layout of a value that was judged: 10 words up to the descriptors, these 5, the structures, 3 of the footer, and the two sums.
+fn put(p: Packet, rows: &[[u8; ROW_BYTES]; SLOTS], out: &mut [u16])
+    requires { ⌜ Typed p (now rows) ⌝ }
+    requires { ⌜ valueVerdict (held p (now rows)) (length (now out)) ≡ Accepted ⌝ }
+    ensures { λ _. ⌜ now (out .exit) ≡ over (layout (held p (now (rows .entry)))) (now (out .entry)) ⌝ }
+{
+    let k = sdp::count(p);
+    put_header((13 + STRUCTURE_WORDS * k) as u8, out);
+    put_descriptors(p, &mut out[10..]);
+    put_structures(p, rows, &mut out[15..]);
+    put_footer(p.counter, &mut out[15 + STRUCTURE_WORDS * k..]);
+    put_sums(18 + STRUCTURE_WORDS * k, out);
+}
+
+// The flag, DID, SDID, DC, and the user bytes 51, 15, LENGTH, 02.
+fn put_header(dc: u8, out: &mut [u16])
+    requires { ⌜ 10 ≤ length (now out) ⌝ }
+    ensures { λ _. ⌜ now (out .exit) ≡ over (0x000 ∷ 0x3FF ∷ 0x3FF ∷ map wordOf (0x43 ∷ 0x02 ∷ dc ∷ 0x51 ∷ 0x15 ∷ dc ∷ 0x02 ∷ [])) (now (out .entry)) ⌝ }
+{
+    let count = anc::word(dc);
+    out[0] = 0x000;
+    out[1] = 0x3FF;
+    out[2] = 0x3FF;
+    out[3] = 0x143;
+    out[4] = 0x102;
+    out[5] = count;
+    out[6] = 0x151;
+    out[7] = 0x115;
+    out[8] = count;
+    out[9] = 0x102;
+}
+
+fn put_descriptors(p: Packet, out: &mut [u16])
+    requires { ⌜ 5 ≤ length (now out) ⌝ }
+    ensures { λ _. ⌜ now (out .exit) ≡ over (map wordOf (map byteOf (map Value·descriptor (p .slots)))) (now (out .entry)) ⌝ }
+{
+    let mut i = 0;
+    while i < SLOTS {
+        let slot = p.slots[i];
+        out[i] = anc::word((sdp::descriptor(slot) % 256) as u8);
+        i += 1;
+    }
+}
+
+// One structure for each descriptor that is not 0, one behind the other.
+fn put_structures(p: Packet, rows: &[[u8; ROW_BYTES]; SLOTS], out: &mut [u16])
+    requires { ⌜ Typed p (now rows) ⌝ }
+    requires { ⌜ 45 * Layout·count (map Value·descriptor (p .slots)) ≤ length (now out) ⌝ }
+    ensures { λ _. ⌜ now (out .exit) ≡ over (map wordOf (structures (beside (p .slots) (now (rows .entry))))) (now (out .entry)) ⌝ }
+{
+    let mut at = 0;
+    let mut i = 0;
+    while i < SLOTS {
+        let slot = p.slots[i];
+        if sdp::descriptor(slot) != 0 {
+            put_structure(rows[i], &mut out[at..]);
+            at += STRUCTURE_WORDS;
+        }
+        i += 1;
+    }
+}
+
+fn put_structure(row: [u8; ROW_BYTES], out: &mut [u16])
+    requires { ⌜ 45 ≤ length (now out) ⌝ }
+    ensures { λ _. ⌜ now (out .exit) ≡ over (map wordOf (0x55 ∷ 0x55 ∷ 0x27 ∷ row)) (now (out .entry)) ⌝ }
+{
+    out[0] = 0x255;
+    out[1] = 0x255;
+    out[2] = 0x227;
+    let mut j = 0;
+    while j < ROW_BYTES {
+        out[3 + j] = anc::word(row[j]);
+        j += 1;
+    }
+}
+
+// 74 and the counter.
+fn put_footer(counter: u32, out: &mut [u16])
+    requires { ⌜ counter < 65536 ⌝ }
+    requires { ⌜ 3 ≤ length (now out) ⌝ }
+    ensures { λ _. ⌜ now (out .exit) ≡ over (map wordOf (footer counter)) (now (out .entry)) ⌝ }
+{
+    out[0] = 0x274;
+    out[1] = anc::word((counter / 256) as u8);
+    out[2] = anc::word((counter % 256) as u8);
+}
+
+// The SDP checksum at index n, behind what was stored before it, and CS.
+fn put_sums(n: usize, out: &mut [u16])
+    requires { ⌜ (6 ≤ n) × (n + 2 ≤ length (now out)) ⌝ }
+    ensures { λ _. ⌜ now (out .exit) ≡ over (sealed (take n (now (out .entry)))) (now (out .entry)) ⌝ }
+{
+    let sum = sdp::byte_sum(&out[6..n]);
+    out[n] = anc::word(((256 - sum) % 256) as u8);
+    out[n + 1] = anc::checksum(&out[3..n + 1]);
+}
