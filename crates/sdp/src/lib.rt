@@ -1,5 +1,5 @@
-// The subtitling distribution packet of RDD 8 (OP-47) as user words: five slots of teletext, and the rules over them, apart from the ancillary
-// packet that carries them.
+// The subtitling distribution packet of RDD 8 (OP-47): five slots of teletext, and what can be held in them, apart from the ancillary packet that
+// carries them.
 //
 // Normative references: document 01, "Subtitling packet"; document 002 (RDD 8), clause 5.
 mod holding;
@@ -11,7 +11,6 @@ pub use holding::judge_slot;
 pub use holding::slot_of;
 pub use user::byte_sum;
 pub use user::judge_line;
-pub use user::judge_user;
 
 pub const SLOTS: usize = 5;
 

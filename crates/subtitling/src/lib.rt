@@ -40,7 +40,7 @@ pub fn judge(words: &[u16]) -> Verdict
         return header;
     }
     let n = words.len();
-    let user = sdp::judge_user(&words[USER..n - 1], 5);
+    let user = sdp_reader::judge_user(&words[USER..n - 1], 5);
     if let Verdict::Refused(_, _) = user {
         return user;
     }

@@ -1,4 +1,4 @@
--- `sdp::user::structures` meets its contract. The loop's invariant: k of the first i descriptors are not 0.
+-- `sdp_reader::structures` meets its contract. The loop's invariant: k of the first i descriptors are not 0.
 -- Assumes nothing.
 use Prim.Native.Nat.{ℕ, _+_, _-_, _≤_, _<_}
 use native.Mathlib.Omega.{arith}
@@ -9,12 +9,12 @@ use denote.Ref.{now}
 use lib.ListN.{length, getD, take}
 use lib.Seq.{take-all}
 use Rattle.anc.specs.Words.{byteOf}
 use Rattle.sdp.specs.Layout.{count}
 use Rattle.sdp.specs.User.{descriptorsIn, markOf}
 use Rattle.sdp.proofs.Slots.{mark-some}
 use Rattle.sdp.proofs.Descriptors.{count-more, descriptor-at, length-descriptors}
-use Rattle.sdp.proofs.user.structures.Statement.{statement}
-use Rattle.sdp.proofs.user.structures.Tie as tie
+use Rattle.sdp_reader.proofs.structures.Statement.{statement}
+use Rattle.sdp_reader.proofs.structures.Tie as tie
 
 abbrev descriptors : List ℕ → List ℕ
 descriptors user = descriptorsIn (map byteOf user)

@@ -1,4 +1,4 @@
--- `sdp::user::judge_user` meets its contract: where the head is accepted, the length is what the tail wants.
+-- `sdp_reader::judge_user` meets its contract: where the head is accepted, the length is what the tail wants.
 -- Assumes nothing.
 use mathlib.Core.Path.{_∙_, sym}
 use mathlib.Core.List.{map}
@@ -6,10 +6,10 @@ use borrow.Author.Needs.{needs}
 use denote.Ref.{now}
 use lib.ListN.{length-map}
 use Rattle.anc.specs.Words.{byteOf}
 use Rattle.sdp.proofs.Accepted.{accepted-head}
 use Rattle.refusal.proofs.Checks.{refused-first, accepted-first}
-use Rattle.sdp.proofs.user.judge_user.Statement.{statement}
-use Rattle.sdp.proofs.user.judge_user.Tie as tie
+use Rattle.sdp_reader.proofs.judge_user.Statement.{statement}
+use Rattle.sdp_reader.proofs.judge_user.Tie as tie
 
 head : tie.Need-returns
 head c = refused-first _ (c .before .before .judge-head .ensures) (c .enum-told .given .1)

@@ -1,4 +1,4 @@
--- `sdp::user::judge_head` meets its contract: at each return the tests that led there pick that check of `headVerdict`.
+-- `sdp_reader::judge_head` meets its contract: at each return the tests that led there pick that check of `headVerdict`.
 -- Assumes nothing.
 use Prim.Native.Nat.{ℕ, _+_}
 use native.Mathlib.Omega.{arith}
@@ -17,13 +17,13 @@ use Rattle.refusal.specs.declared.Misfit.the-variants.{Structures}
 use Rattle.refusal.specs.declared.Item.the-variants.{Word}
 use Rattle.refusal.specs.Checks.{refuseIf, andThen}
 use Rattle.anc.specs.Words.{byteOf}
 use Rattle.sdp.specs.Layout.{userLength}
 use Rattle.sdp.specs.User.{descriptorsIn, descriptorsVerdict, structuresIn, headVerdict}
 use Rattle.refusal.proofs.Checks.{refused-first, accepted-first}
 use Rattle.sdp.proofs.Bytes.{byte-at}
 use Rattle.sdp.proofs.Descriptors.{few-structures}
-use Rattle.sdp.proofs.user.judge_head.Statement.{statement}
-use Rattle.sdp.proofs.user.judge_head.Tie as tie
+use Rattle.sdp_reader.proofs.judge_head.Statement.{statement}
+use Rattle.sdp_reader.proofs.judge_head.Tie as tie
 
 short : tie.Need-returns
 unfolding headVerdict

@@ -1,12 +1,12 @@
--- `sdp::user::judge_structure` meets its contract: at each return the tests that led there pick that check of `structureVerdict`.
+-- `sdp_reader::judge_structure` meets its contract: at each return the tests that led there pick that check of `structureVerdict`.
 -- Assumes nothing.
 use native.Mathlib.Nat.{add-zero}
 use borrow.Author.Needs.{needs}
 use borrow.Author.Tests.{eq-eqb, ne-eqb}
 use Rattle.sdp.specs.User.{structureVerdict}
 use Rattle.sdp.proofs.Bytes.{byte-from}
-use Rattle.sdp.proofs.user.judge_structure.Statement.{statement}
-use Rattle.sdp.proofs.user.judge_structure.Tie as tie
+use Rattle.sdp_reader.proofs.judge_structure.Statement.{statement}
+use Rattle.sdp_reader.proofs.judge_structure.Tie as tie
 
 returns : tie.Need-returns
 unfolding structureVerdict

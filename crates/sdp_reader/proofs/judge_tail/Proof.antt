@@ -1,4 +1,4 @@
--- `sdp::user::judge_tail` meets its contract: at each return the tests that led there pick that check of `tailVerdict`.
+-- `sdp_reader::judge_tail` meets its contract: at each return the tests that led there pick that check of `tailVerdict`.
 -- Assumes nothing.
 use Prim.Native.Nat.{ℕ, _+_, _-_, _%_}
 use native.Mathlib.Omega.{arith}
@@ -17,12 +17,12 @@ use Rattle.refusal.specs.declared.Fixed.the-variants.{Footer}
 use Rattle.refusal.specs.declared.Item.the-variants.{Word}
 use Rattle.refusal.specs.Checks.{refuseIf, first}
 use Rattle.anc.specs.Words.{byteOf}
 use Rattle.sdp.specs.User.{structuresIn, structuresVerdict, tailVerdict}
 use Rattle.refusal.proofs.Checks.{refused-first, accepted-first}
 use Rattle.sdp.proofs.Bytes.{byte-at}
 use Rattle.sdp.proofs.Descriptors.{few-structures}
-use Rattle.sdp.proofs.user.judge_tail.Statement.{statement}
-use Rattle.sdp.proofs.user.judge_tail.Tie as tie
+use Rattle.sdp_reader.proofs.judge_tail.Statement.{statement}
+use Rattle.sdp_reader.proofs.judge_tail.Tie as tie
 
 judge-structures-requires : tie.Need-judge-structures-requires
 judge-structures-requires c κs = (omega (arith, c .structures .ensures), omega (arith, c .structures .ensures, few-structures (map byteOf (now (c .before .before .args .user)))))

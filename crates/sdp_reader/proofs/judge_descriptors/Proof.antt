@@ -1,4 +1,4 @@
--- `sdp::user::judge_descriptors` meets its contract. The loop's invariant: the descriptors from i on decide as all of them do.
+-- `sdp_reader::judge_descriptors` meets its contract. The loop's invariant: the descriptors from i on decide as all of them do.
 -- Assumes nothing.
 use Prim.Native.Nat.{ℕ, suc, _+_, _-_, _%_, _≤_, _<_}
 use native.Mathlib.Omega.{arith}
@@ -13,11 +13,11 @@ use Rattle.refusal.specs.declared.Verdict.{Verdict}
 use Rattle.refusal.specs.declared.Item.the-variants.{Word}
 use Rattle.refusal.specs.Checks.{andThen}
 use Rattle.anc.specs.Words.{byteOf}
 use Rattle.sdp.specs.User.{lineVerdict, descriptorsIn, descriptorsVerdict}
 use Rattle.refusal.proofs.Checks.{refused-first, accepted-first}
 use Rattle.sdp.proofs.Bytes.{byte-at}
-use Rattle.sdp.proofs.user.judge_descriptors.Statement.{statement}
-use Rattle.sdp.proofs.user.judge_descriptors.Tie as tie
+use Rattle.sdp_reader.proofs.judge_descriptors.Statement.{statement}
+use Rattle.sdp_reader.proofs.judge_descriptors.Tie as tie
 
 -- the descriptors from index i on
 abbrev judged : List ℕ → ℕ → ℕ → Verdict

@@ -1,4 +1,4 @@
--- `sdp::user::judge_structures` meets its contract. The loop's invariant: the structures from i on decide as all of them do.
+-- `sdp_reader::judge_structures` meets its contract. The loop's invariant: the structures from i on decide as all of them do.
 -- Assumes nothing.
 use Prim.Native.Nat.{ℕ, suc, _+_, _-_, _*_, _≤_, _<_}
 use native.Mathlib.Omega.{arith}
@@ -11,10 +11,10 @@ use lib.Seq.{drop-drop}
 use Rattle.refusal.specs.declared.Verdict.{Verdict}
 use Rattle.refusal.specs.Checks.{andThen}
 use Rattle.anc.specs.Words.{byteOf}
 use Rattle.sdp.specs.User.{structureVerdict, structuresVerdict}
 use Rattle.refusal.proofs.Checks.{refused-first, accepted-first}
-use Rattle.sdp.proofs.user.judge_structures.Statement.{statement}
-use Rattle.sdp.proofs.user.judge_structures.Tie as tie
+use Rattle.sdp_reader.proofs.judge_structures.Statement.{statement}
+use Rattle.sdp_reader.proofs.judge_structures.Tie as tie
 
 -- the structures from structure i on, of k
 abbrev judged : List ℕ → ℕ → ℕ → ℕ → Verdict
