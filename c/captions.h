@@ -12,9 +12,9 @@
  * nothing outside the library but C's memcpy and memset, so that any number of threads may call it.
  *
  * What a caller owes, since C cannot check it:
- *   - no pointer is null, also where its length is 0;
- *   - behind a pointer and a length stand that many bytes or words; behind an array of fixed size, all of its places;
- *   - memory that a call may store to (a parameter that is not const) overlaps no other argument of that call.
+ *   - behind a pointer and a length stand that many bytes or words; only with length 0 may the pointer be null;
+ *   - behind an array of fixed size stand all of its places;
+ *   - memory that a call may store to (restrict below) overlaps no other argument of that call.
  *
  * A refused call changes no lent memory. An accepted one changes what its description says, and nothing else.
  */
@@ -30,8 +30,8 @@ extern "C" {
 #endif
 
 /*
- * How memory is lent. STORED: the call may store to it, so that it overlaps no other argument of that call. Memory without
- * the word is read only, and may overlap other memory that is. An ARRAY has all its places.
+ * How memory is lent. STORED: the call may store to it, so that it overlaps no other argument. What is only read is const,
+ * and may overlap what is only read. An ARRAY has all its places. C++ has no array parameter that is restrict.
  */
 #ifndef __cplusplus
 #define CAPTIONS_STORED restrict
