@@ -14,7 +14,7 @@
  * What a caller owes, since C cannot check it:
  *   - behind a pointer and a length stand that many bytes or words; only with length 0 may the pointer be null;
  *   - behind an array of fixed size stand all of its places;
- *   - memory that a call may store to (restrict below) overlaps no other argument of that call.
+ *   - memory that a call may store to (STORED below) overlaps no other argument of that call.
  *
  * A refused call changes no lent memory. An accepted one changes what its description says, and nothing else.
  */
