@@ -12,9 +12,9 @@
  * nothing outside the library but C's memcpy and memset, so that any number of threads may call it.
  *
  * What a caller owes, since C cannot check it:
- *   - no pointer is null, also where its length is 0;
- *   - behind a pointer and a length stand that many bytes or words; behind an array of fixed size, all of its places;
- *   - memory that a call may store to (a parameter that is not const) overlaps no other argument of that call.
+ *   - behind a pointer and a length stand that many bytes or words; only with length 0 may the pointer be null;
+ *   - behind an array of fixed size stand all of its places;
+ *   - memory that a call may store to (STORED below) overlaps no other argument of that call.
  *
  * A refused call changes no lent memory. An accepted one changes what its description says, and nothing else.
  */
@@ -27,9 +27,24 @@
 
 #ifdef __cplusplus
 extern "C" {
-#define CAPTIONS_AT_LEAST(n) n
+#endif
+
+/*
+ * How memory is lent. STORED: the call may store to it, so that it overlaps no other argument. What is only read is const,
+ * and may overlap what is only read. An ARRAY has all its places. C++ has no array parameter that is restrict.
+ */
+#ifndef __cplusplus
+#define CAPTIONS_STORED restrict
+#define CAPTIONS_ARRAY(name, places) name[static places]
+#define CAPTIONS_STORED_ARRAY(name, places) name[restrict static places]
 #else
-#define CAPTIONS_AT_LEAST(n) static n
+#if defined(__GNUC__) || defined(__clang__) || defined(_MSC_VER)
+#define CAPTIONS_STORED __restrict
+#else
+#define CAPTIONS_STORED
+#endif
+#define CAPTIONS_ARRAY(name, places) name[places]
+#define CAPTIONS_STORED_ARRAY(name, places) *CAPTIONS_STORED name
 #endif
 
 /* ---- Refusals ---- */
@@ -98,7 +113,8 @@ typedef struct captions_unit {
  * Refuses with 1, 2, 3, 4, then 5 to 10 from left to right in the caption unit, with the unit's first byte as the place.
  * Lent: all places of `records` are stored to where the call is accepted, the n records first and zeros behind them.
  */
-captions_unit captions_area_read(const uint8_t *area, size_t len, captions_record records[CAPTIONS_AT_LEAST(CAPTIONS_RECORDS)]);
+captions_unit captions_area_read(const uint8_t *area, size_t len,
+                                 captions_record CAPTIONS_STORED_ARRAY(records, CAPTIONS_RECORDS));
 
 /*
  * Writes a caption unit with its start code and its stuffing at the front of `out`.
@@ -109,8 +125,8 @@ captions_unit captions_area_read(const uint8_t *area, size_t len, captions_recor
  * Lent: the first `len` bytes of `out` are stored to.
  */
 captions_written captions_unit_write(uint32_t reserved, uint32_t vbi_data_flag, size_t n, size_t z,
-                                     const captions_record records[CAPTIONS_AT_LEAST(CAPTIONS_RECORDS)],
-                                     uint8_t *out, size_t room);
+                                     const captions_record CAPTIONS_ARRAY(records, CAPTIONS_RECORDS),
+                                     uint8_t *CAPTIONS_STORED out, size_t room);
 
 /*
  * Writes an area with another caption unit at the front of `out`. The new unit stands in the place of the old one, or
@@ -122,8 +138,8 @@ captions_written captions_unit_write(uint32_t reserved, uint32_t vbi_data_flag, 
  */
 captions_written captions_area_replace(const uint8_t *area, size_t len,
                                        uint32_t reserved, uint32_t vbi_data_flag, size_t n, size_t z,
-                                       const captions_record records[CAPTIONS_AT_LEAST(CAPTIONS_RECORDS)],
-                                       uint8_t *out, size_t room);
+                                       const captions_record CAPTIONS_ARRAY(records, CAPTIONS_RECORDS),
+                                       uint8_t *CAPTIONS_STORED out, size_t room);
 
 /* ---- Subtitling packet (RDD 8, OP-47) ---- */
 
@@ -160,7 +176,7 @@ typedef struct captions_packet {
  * Lent: all of `rows` is stored to where the call is accepted: the 42 bytes of each full slot, zeros for an empty one.
  */
 captions_packet captions_packet_read(const uint16_t *words, size_t len,
-                                     captions_row rows[CAPTIONS_AT_LEAST(CAPTIONS_SLOTS)]);
+                                     captions_row CAPTIONS_STORED_ARRAY(rows, CAPTIONS_SLOTS));
 
 /*
  * Writes a packet at the front of `out`.
@@ -169,9 +185,9 @@ captions_packet captions_packet_read(const uint16_t *words, size_t len,
  * empty and not all zero, and with 7; then with 14.
  * Lent: the first `len` words of `out` are stored to.
  */
-captions_written captions_packet_write(uint32_t counter, const captions_slot slots[CAPTIONS_AT_LEAST(CAPTIONS_SLOTS)],
-                                       const captions_row rows[CAPTIONS_AT_LEAST(CAPTIONS_SLOTS)],
-                                       uint16_t *out, size_t room);
+captions_written captions_packet_write(uint32_t counter, const captions_slot CAPTIONS_ARRAY(slots, CAPTIONS_SLOTS),
+                                       const captions_row CAPTIONS_ARRAY(rows, CAPTIONS_SLOTS),
+                                       uint16_t *CAPTIONS_STORED out, size_t room);
 
 /* ---- Line 21 payload ---- */
 
@@ -205,7 +221,7 @@ typedef struct captions_payload {
  * Lent: all places of `units` are stored to where the call is accepted, the m units first and zeros behind them.
  */
 captions_payload captions_payload_read(const uint8_t *payload, size_t len,
-                                       captions_access_unit units[CAPTIONS_AT_LEAST(CAPTIONS_ACCESS_UNITS)]);
+                                       captions_access_unit CAPTIONS_STORED_ARRAY(units, CAPTIONS_ACCESS_UNITS));
 
 /*
  * Writes a payload at the front of `out`. Of `units` the first m are looked at.
@@ -214,22 +230,89 @@ captions_payload captions_payload_read(const uint8_t *payload, size_t len,
  * Lent: the first `len` bytes of `out` are stored to.
  */
 captions_written captions_payload_write(uint32_t flags, size_t m,
-                                        const captions_access_unit units[CAPTIONS_AT_LEAST(CAPTIONS_ACCESS_UNITS)],
-                                        uint8_t *out, size_t room);
+                                        const captions_access_unit CAPTIONS_ARRAY(units, CAPTIONS_ACCESS_UNITS),
+                                        uint8_t *CAPTIONS_STORED out, size_t room);
 
-#undef CAPTIONS_AT_LEAST
+#undef CAPTIONS_STORED
+#undef CAPTIONS_ARRAY
+#undef CAPTIONS_STORED_ARRAY
 
 #ifdef __cplusplus
 }
 #endif
 
-/* The library's layouts. A compiler that lays these structs out in another way must not link it. */
-#if defined(__STDC_VERSION__) && __STDC_VERSION__ >= 201112L
-_Static_assert(sizeof(size_t) == 8, "the library is for 64-bit systems");
-_Static_assert(sizeof(captions_refusal) == 16 && sizeof(captions_written) == 24, "refusals");
-_Static_assert(sizeof(captions_record) == 5 && sizeof(captions_unit) == 40, "caption units");
-_Static_assert(sizeof(captions_slot) == 4 && sizeof(captions_row) == 42 && sizeof(captions_packet) == 40, "packets");
-_Static_assert(sizeof(captions_access_unit) == 7 && sizeof(captions_payload) == 32, "payloads");
+/* ---- Layouts ---- */
+
+/*
+ * Where the library has each field (its first byte, and its bytes) and how large each struct is. A compiler that lays
+ * them out in another way must not link it. C before C11 and C++ before C++11 cannot ask.
+ */
+#if defined(__cplusplus) && __cplusplus >= 201103L
+#define CAPTIONS_SIZE(type, size) static_assert(sizeof(type) == size, #type)
+#define CAPTIONS_FIELD(type, field, at, size) \
+    static_assert(offsetof(type, field) == at && sizeof(type::field) == size, #type "." #field)
+#elif !defined(__cplusplus) && __STDC_VERSION__ >= 201112L
+#define CAPTIONS_SIZE(type, size) _Static_assert(sizeof(type) == size, #type)
+#define CAPTIONS_FIELD(type, field, at, size) \
+    _Static_assert(offsetof(type, field) == at && sizeof(((type *)0)->field) == size, #type "." #field)
+#endif
+
+#ifdef CAPTIONS_FIELD
+CAPTIONS_SIZE(size_t, 8);
+
+CAPTIONS_FIELD(captions_refusal, number, 0, 1);
+CAPTIONS_FIELD(captions_refusal, place, 8, 8);
+CAPTIONS_SIZE(captions_refusal, 16);
+
+CAPTIONS_FIELD(captions_written, refusal, 0, 16);
+CAPTIONS_FIELD(captions_written, len, 16, 8);
+CAPTIONS_SIZE(captions_written, 24);
+
+CAPTIONS_FIELD(captions_record, cc_priority, 0, 1);
+CAPTIONS_FIELD(captions_record, field_number, 1, 1);
+CAPTIONS_FIELD(captions_record, line_offset, 2, 1);
+CAPTIONS_FIELD(captions_record, cc_data_1, 3, 1);
+CAPTIONS_FIELD(captions_record, cc_data_2, 4, 1);
+CAPTIONS_SIZE(captions_record, 5);
+
+CAPTIONS_FIELD(captions_unit, refusal, 0, 16);
+CAPTIONS_FIELD(captions_unit, present, 16, 1);
+CAPTIONS_FIELD(captions_unit, reserved, 17, 1);
+CAPTIONS_FIELD(captions_unit, vbi_data_flag, 18, 1);
+CAPTIONS_FIELD(captions_unit, n, 24, 8);
+CAPTIONS_FIELD(captions_unit, z, 32, 8);
+CAPTIONS_SIZE(captions_unit, 40);
+
+CAPTIONS_FIELD(captions_slot, full, 0, 1);
+CAPTIONS_FIELD(captions_slot, line, 1, 1);
+CAPTIONS_FIELD(captions_slot, reserved, 2, 1);
+CAPTIONS_FIELD(captions_slot, field, 3, 1);
+CAPTIONS_SIZE(captions_slot, 4);
+
+CAPTIONS_FIELD(captions_row, bytes, 0, 42);
+CAPTIONS_SIZE(captions_row, 42);
+
+CAPTIONS_FIELD(captions_packet, refusal, 0, 16);
+CAPTIONS_FIELD(captions_packet, counter, 16, 4);
+CAPTIONS_FIELD(captions_packet, slots, 20, 20);
+CAPTIONS_SIZE(captions_packet, 40);
+
+CAPTIONS_FIELD(captions_access_unit, cc_valid_1, 0, 1);
+CAPTIONS_FIELD(captions_access_unit, cc_valid_2, 1, 1);
+CAPTIONS_FIELD(captions_access_unit, padding, 2, 1);
+CAPTIONS_FIELD(captions_access_unit, field1_data1, 3, 1);
+CAPTIONS_FIELD(captions_access_unit, field1_data2, 4, 1);
+CAPTIONS_FIELD(captions_access_unit, field2_data1, 5, 1);
+CAPTIONS_FIELD(captions_access_unit, field2_data2, 6, 1);
+CAPTIONS_SIZE(captions_access_unit, 7);
+
+CAPTIONS_FIELD(captions_payload, refusal, 0, 16);
+CAPTIONS_FIELD(captions_payload, flags, 16, 1);
+CAPTIONS_FIELD(captions_payload, m, 24, 8);
+CAPTIONS_SIZE(captions_payload, 32);
+
+#undef CAPTIONS_SIZE
+#undef CAPTIONS_FIELD
 #endif
 
 #endif

@@ -241,4 +241,5 @@ void make_case(dice *d, question *q)
         payload_read_case(d, q, legal);
     else
         payload_write_case(d, q, legal);
+    q->nulls = chance(d, 50);
 }

@@ -102,8 +102,7 @@ static void on_touch(int signal_number)
     _exit(TOUCHED);
 }
 
-/* Touches one byte beside what was lent, in a process of its own, and tells whether that was noticed. */
-static bool touch_is_noticed(volatile uint8_t *beside, bool store)
+bool touches(void (*act)(void *), void *with)
 {
     int status = 0;
     pid_t child = fork();
@@ -114,13 +113,20 @@ static bool touch_is_noticed(volatile uint8_t *beside, bool store)
         action.sa_handler = on_touch;
         sigaction(SIGSEGV, &action, NULL);
         sigaction(SIGBUS, &action, NULL);
-        if (store)
-            *beside = 1;
-        else
-            (void)*beside;
+        act(with);
         _exit(0);
     }
     return child > 0 && waitpid(child, &status, 0) == child && WIFEXITED(status) && WEXITSTATUS(status) == TOUCHED;
+}
+
+static void read_byte(void *at)
+{
+    (void)*(volatile uint8_t *)at;
+}
+
+static void store_byte(void *at)
+{
+    *(volatile uint8_t *)at = 1;
 }
 
 /* One piece: the one side is untouchable, and a changed byte on the other side shows. */
@@ -129,7 +135,7 @@ static bool guard_holds(arena *a, side at, size_t size)
     uint8_t *lent = arena_lend(a, at, size);
     uint8_t *before = lent - 1, *behind = lent + size;
     uint8_t *untouchable = at == AT_END ? behind : before;
-    bool good = touch_is_noticed(untouchable, false) && touch_is_noticed(untouchable, true) && arena_near_is_whole(a);
+    bool good = touches(read_byte, untouchable) && touches(store_byte, untouchable) && arena_near_is_whole(a);
 
     *(at == AT_END ? before : behind) ^= 1;
     good = good && !arena_near_is_whole(a) && !arena_is_whole(a);

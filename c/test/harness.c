@@ -178,11 +178,17 @@ static void set_payload(outcome *got, captions_payload answer)
     got->numbers[3] = answer.m;
 }
 
+/* Not to the model: in C no null pointer may be moved, not even by 0. */
+static void *given(const calls *who, const question *q, uint8_t *lent, size_t size)
+{
+    return q->nulls && size == 0 && who != &model_calls ? NULL : lent;
+}
+
 static void call(const calls *who, const question *q, const loan *l, outcome *got)
 {
     const unit_value *u = &q->unit;
-    void *output = l->output_lent;
-    const void *first = l->first_lent, *second = l->second_lent, *rows = l->rows_lent;
+    void *output = given(who, q, l->output_lent, l->output_size);
+    const void *first = given(who, q, l->first_lent, l->first_size), *second = l->second_lent, *rows = l->rows_lent;
 
     switch (q->op) {
     case AREA_READ:

@@ -32,6 +32,7 @@ typedef struct question {
     operation op;
     uint16_t fill;            /* what the pattern of the lent output begins with */
     side at;                  /* which side of each lent piece is untouchable */
+    bool nulls;               /* the library is given a null pointer for an input or an output of no elements */
     size_t len;               /* elements of the input: bytes, or words of a packet */
     uint8_t bytes[INPUT_MAX]; /* an area or a payload */
     uint16_t words[WORDS_MAX];
@@ -91,6 +92,9 @@ size_t element_bytes(operation op);
 
 /* All guard bytes of all arenas, not only the near ones. */
 bool arenas_are_whole(void);
+
+/* Does `act` in a process of its own, and tells whether it touched what may not be touched. */
+bool touches(void (*act)(void *), void *with);
 
 /* Whether one byte read, and one stored, on the untouchable side of a lent piece ends a program. */
 bool guards_hold(void);

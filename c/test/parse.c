@@ -256,6 +256,7 @@ parsed parse_line(char *line, vector_line *to)
     to->q.op = (operation)to->kind;
     to->q.fill = FILL;
     to->q.at = AT_END;
+    to->q.nulls = false;
     question_fields(&c, &to->q);
     if (c.bad)
         return bad(to, "values that are not formed as they should be");

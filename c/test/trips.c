@@ -18,6 +18,7 @@ static void begin(operation op, const question *q)
     back.op = op;
     back.fill = (uint16_t)(q->fill + 0x8080);
     back.at = q->at == AT_END ? AT_FRONT : AT_END;
+    back.nulls = q->nulls;
 }
 
 /* Expects exactly `len` elements from `from`, in a room that has no more. */

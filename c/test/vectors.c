@@ -61,7 +61,7 @@ static void with_fill(vector_line *v, uint16_t fill, outcome *expected)
 
 /*
  * Twice: with the pattern of the vectors, and with one that differs in every byte, so that no byte is right by chance; with
- * the untouchable page behind the lent memory, and with it before.
+ * the untouchable page behind the lent memory, and with it before; with a null pointer for what is empty, and without.
  */
 static bool passes(const calls *who, const char *name, vector_line *v)
 {
@@ -73,11 +73,13 @@ static bool passes(const calls *who, const char *name, vector_line *v)
         const char *differs;
         with_fill(v, fills[i], &expected);
         v->q.at = sides[i];
+        v->q.nulls = i == 0;
         ask(who, &v->q, SPOIL_NOTHING, &got);
         differs = difference(&v->q, &expected, &got);
         if (differs != NULL) {
             printf("DIFFERS: %s: %s: %s\n", guard_asking, name, differs);
             v->q.fill = FILL;
+            v->q.nulls = false;
             return false;
         }
     }

@@ -1,0 +1,185 @@
+/*
+ * empty.c: null pointers with length 0, for each pointer of each call that has a length.
+ *
+ * The library is given null where the model is given a pointer to nothing. Both must answer alike, with the number that
+ * stands here. Then the same question goes to calls that touch their first element before they look at the length: each
+ * must be noticed, so that the null pointers did arrive.
+ */
+#include <stdio.h>
+#include <string.h>
+
+#include "harness.h"
+
+typedef struct empty_case {
+    const char *what;
+    operation op;
+    bool input, output; /* which of them is empty */
+    bool legal;         /* whether the value to write is */
+    uint8_t number;     /* 01's refusal */
+    size_t len;         /* how many elements a writer wrote */
+} empty_case;
+
+enum { UNIT_BYTES = 11 };
+
+static const empty_case cases[] = {
+    {"area_read: area", AREA_READ, true, false, true, 0, 0},
+    {"unit_write: out", UNIT_WRITE, false, true, true, 14, 0},
+    {"unit_write: out, a value that is not legal", UNIT_WRITE, false, true, false, 15, 0},
+    {"area_replace: area", AREA_REPLACE, true, false, true, 0, UNIT_BYTES},
+    {"area_replace: area, a value that is not legal", AREA_REPLACE, true, false, false, 15, 0},
+    {"area_replace: out", AREA_REPLACE, false, true, true, 14, 0},
+    {"area_replace: area and out", AREA_REPLACE, true, true, true, 14, 0},
+    {"packet_read: words", PACKET_READ, true, false, true, 5, 0},
+    {"packet_write: out", PACKET_WRITE, false, true, true, 14, 0},
+    {"packet_write: out, a value that is not legal", PACKET_WRITE, false, true, false, 15, 0},
+    {"payload_read: payload", PAYLOAD_READ, true, false, true, 2, 0},
+    {"payload_write: out", PAYLOAD_WRITE, false, true, true, 14, 0},
+    {"payload_write: out, a value that is not legal", PAYLOAD_WRITE, false, true, false, 15, 0},
+};
+
+static question q;
+static outcome by_library, by_model, altered;
+static unsigned long asked, differ, not_noticed;
+
+/* ---- Calls that touch before they look at the length ---- */
+
+static void touch(const void *pointer)
+{
+    (void)*(const volatile uint8_t *)pointer;
+}
+
+static captions_unit eager_area_read(const uint8_t *area, size_t len, captions_record *records)
+{
+    touch(area);
+    return captions_area_read(area, len, records);
+}
+
+static captions_written eager_unit_write(uint32_t reserved, uint32_t flag, size_t n, size_t z, const captions_record *records,
+                                         uint8_t *out, size_t room)
+{
+    touch(out);
+    return captions_unit_write(reserved, flag, n, z, records, out, room);
+}
+
+/* Only one of the two is touched: the area where it is empty, else the output. */
+static captions_written eager_area_replace(const uint8_t *area, size_t len, uint32_t reserved, uint32_t flag, size_t n, size_t z,
+                                           const captions_record *records, uint8_t *out, size_t room)
+{
+    touch(len == 0 ? area : out);
+    return captions_area_replace(area, len, reserved, flag, n, z, records, out, room);
+}
+
+static captions_packet eager_packet_read(const uint16_t *words, size_t len, captions_row *rows)
+{
+    touch(words);
+    return captions_packet_read(words, len, rows);
+}
+
+static captions_written eager_packet_write(uint32_t counter, const captions_slot *slots, const captions_row *rows, uint16_t *out,
+                                           size_t room)
+{
+    touch(out);
+    return captions_packet_write(counter, slots, rows, out, room);
+}
+
+static captions_payload eager_payload_read(const uint8_t *payload, size_t len, captions_access_unit *units)
+{
+    touch(payload);
+    return captions_payload_read(payload, len, units);
+}
+
+static captions_written eager_payload_write(uint32_t flags, size_t m, const captions_access_unit *units, uint8_t *out, size_t room)
+{
+    touch(out);
+    return captions_payload_write(flags, m, units, out, room);
+}
+
+static const calls eager_calls = {eager_area_read,    eager_unit_write,   eager_area_replace, eager_packet_read,
+                                  eager_packet_write, eager_payload_read, eager_payload_write};
+
+static void ask_eagerly(void *question_asked)
+{
+    ask(&eager_calls, question_asked, SPOIL_NOTHING, &altered);
+}
+
+/* ---- Questions ---- */
+
+static void make_question(const empty_case *c, side at)
+{
+    static const uint8_t area[] = {0x00, 0x00, 0x01, 0xB2, 0x47};
+
+    memset(&q, 0, sizeof q);
+    q.op = c->op;
+    q.fill = FILL;
+    q.at = at;
+    q.nulls = true;
+    if (!c->input) {
+        memcpy(q.bytes, area, sizeof area);
+        q.len = sizeof area;
+    }
+    q.room = c->output ? 0 : 64;
+    q.unit.reserved = c->legal ? 64 : 128;
+    q.unit.vbi_data_flag = 1;
+    q.unit.n = 1;
+    q.unit.records[0] = (captions_record){0, 1, 11, 0x94, 0x2C};
+    q.packet.counter = c->legal ? 4660 : 65536;
+    q.payload.flags = c->legal ? 0 : 256;
+    q.payload.m = 1;
+    q.payload.units[0] = (captions_access_unit){1, 0, 0, 0x94, 0x2C, 0x00, 0x00};
+}
+
+static void complain(const empty_case *c, const char *what)
+{
+    printf("DIFFERS: %s: %s\n", c->what, what);
+    differ++;
+}
+
+/* Each number of the answer changed: the comparison must say so. */
+static void alter(const empty_case *c)
+{
+    for (size_t i = 0; i < by_library.count; i++) {
+        altered = by_library;
+        altered.numbers[i]++;
+        if (difference(&q, &altered, &by_library) == NULL) {
+            printf("NOT NOTICED: %s: number %zu changed\n", c->what, i);
+            not_noticed++;
+        }
+    }
+}
+
+static void run(const empty_case *c, side at)
+{
+    const char *differs;
+
+    make_question(c, at);
+    snprintf(guard_asking, sizeof guard_asking, "%s", c->what);
+    ask(&library_calls, &q, SPOIL_NOTHING, &by_library);
+    ask(&model_calls, &q, SPOIL_NOTHING, &by_model);
+    asked++;
+    differs = difference(&q, &by_model, &by_library);
+    if (differs != NULL)
+        complain(c, differs);
+    else if (by_library.numbers[0] != c->number || (is_writer(c->op) && by_library.numbers[2] != c->len))
+        complain(c, "not the number or the length that 01 has");
+    alter(c);
+    if (!touches(ask_eagerly, &q)) {
+        printf("NOT NOTICED: %s: a touch before the length was looked at\n", c->what);
+        not_noticed++;
+    }
+}
+
+int main(void)
+{
+    bool good;
+
+    harness_open();
+    for (size_t i = 0; i < sizeof cases / sizeof *cases; i++) {
+        run(&cases[i], AT_END);
+        run(&cases[i], AT_FRONT);
+    }
+    good = differ == 0 && not_noticed == 0 && arenas_are_whole();
+    printf("empty: %lu calls with null pointers, %lu differ; altered or touching too soon, and not noticed: %lu\n", asked, differ,
+           not_noticed);
+    puts(good ? "empty: passed" : "empty: FAILED");
+    return good ? 0 : 1;
+}

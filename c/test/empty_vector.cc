@@ -1,0 +1,101 @@
+/*
+ * empty_vector.cc: the calls from C++, with what an empty std::vector gives: in practice a null pointer, and length 0.
+ *
+ * Each answer and all lent memory are compared with what 01 says. The status is 1 where one differs.
+ */
+#include <cstdio>
+#include <cstring>
+#include <vector>
+
+#include "captions.h"
+
+static int checks, wrong;
+
+static void expect(const char *what, bool holds)
+{
+    checks++;
+    if (!holds) {
+        std::printf("DIFFERS: %s\n", what);
+        wrong++;
+    }
+}
+
+static void expect_refused(const char *what, captions_refusal refusal, int number)
+{
+    expect(what, refusal.number == number && refusal.place == 0);
+}
+
+/* Whether an array is of this byte throughout. */
+template <typename T, size_t N>
+static bool is_all(const T (&array)[N], uint8_t byte)
+{
+    std::vector<uint8_t> right(sizeof array, byte);
+
+    return std::memcmp(array, right.data(), sizeof array) == 0;
+}
+
+static void areas()
+{
+    const std::vector<uint8_t> none;
+    std::vector<uint8_t> no_room, out(64, 0xA5);
+    captions_record records[CAPTIONS_RECORDS];
+
+    std::memset(records, 0xA5, sizeof records);
+    captions_unit unit = captions_area_read(none.data(), none.size(), records);
+    expect_refused("an empty area is accepted", unit.refusal, CAPTIONS_ACCEPTED);
+    expect("an empty area has no caption unit", !unit.present && unit.n == 0 && unit.z == 0);
+    expect("an empty area clears the records", is_all(records, 0));
+
+    captions_written made = captions_unit_write(64, 0, 0, 0, records, no_room.data(), no_room.size());
+    expect_refused("a unit and no room", made.refusal, CAPTIONS_NO_ROOM);
+    made = captions_area_replace(none.data(), none.size(), 64, 0, 0, 0, records, no_room.data(), no_room.size());
+    expect_refused("an empty area and no room", made.refusal, CAPTIONS_NO_ROOM);
+    made = captions_area_replace(none.data(), none.size(), 64, 0, 0, 0, records, out.data(), out.size());
+    expect_refused("a unit put into an empty area", made.refusal, CAPTIONS_ACCEPTED);
+    const uint8_t right[] = {0x00, 0x00, 0x01, 0xB2, 0x03, 0x80};
+    expect("the bytes of that area", made.len == sizeof right && std::memcmp(out.data(), right, sizeof right) == 0);
+    expect("what stands behind that area", out[made.len] == 0xA5);
+    made = captions_area_replace(out.data(), made.len, 64, 0, 0, 0, records, no_room.data(), no_room.size());
+    expect_refused("an area and no room", made.refusal, CAPTIONS_NO_ROOM);
+}
+
+static void packets()
+{
+    const std::vector<uint16_t> none;
+    std::vector<uint16_t> no_room;
+    captions_slot slots[CAPTIONS_SLOTS] = {};
+    captions_row rows[CAPTIONS_SLOTS];
+
+    std::memset(rows, 0xA5, sizeof rows);
+    captions_packet packet = captions_packet_read(none.data(), none.size(), rows);
+    expect_refused("a packet of no words", packet.refusal, CAPTIONS_ENDS);
+    expect("a refused packet leaves the rows alone", is_all(rows, 0xA5));
+    std::memset(rows, 0, sizeof rows);
+    captions_written made = captions_packet_write(4660, slots, rows, no_room.data(), no_room.size());
+    expect_refused("a packet and no room", made.refusal, CAPTIONS_NO_ROOM);
+}
+
+static void payloads()
+{
+    const std::vector<uint8_t> none;
+    std::vector<uint8_t> no_room;
+    captions_access_unit units[CAPTIONS_ACCESS_UNITS];
+
+    std::memset(units, 0xA5, sizeof units);
+    captions_payload payload = captions_payload_read(none.data(), none.size(), units);
+    expect_refused("a payload of no bytes", payload.refusal, CAPTIONS_NO_START);
+    expect("a refused payload leaves the units alone", is_all(units, 0xA5));
+    captions_written made = captions_payload_write(0, 0, units, no_room.data(), no_room.size());
+    expect_refused("a payload and no room", made.refusal, CAPTIONS_NO_ROOM);
+}
+
+int main()
+{
+    areas();
+    packets();
+    payloads();
+    std::printf("empty_vector: %d checks, %d differ; an empty vector gave %s\n", checks, wrong,
+                std::vector<uint8_t>().data() == nullptr ? "null" : "a pointer that is not null");
+    std::puts(wrong == 0 ? "empty_vector: passed" : "empty_vector: FAILED");
+    return wrong == 0 ? 0 : 1;
+}
