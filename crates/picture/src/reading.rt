@@ -62,7 +62,7 @@ fn read_unit(s: &[u8], unit: usize, end: usize, records: &mut [u8; LENT_RECORDS]
     ensures { λ r. ⌜ ReadsInto (now (s .entry)) (now (records .entry)) r (now (records .exit)) ⌝ }
 {
     let body = unit + START_BYTES;
-    let content = scte20::read_into(&s[body..end], records);
+    let content = scte20_reader::read_into(&s[body..end], records);
     let verdict = content.verdict;
     if let Verdict::Refused(reason, item) = verdict {
         return nothing(Verdict::Refused(reason, placed(unit, item)));

@@ -60,7 +60,7 @@ pub fn replace_from(s: &[u8], v: Numbers, records: &[u8; LENT_RECORDS], out: &mu
     let old = reading::head_of(s, found, &mut kept);
     let refusal = old.refusal;
     if refusal.number != 0 {
-        scte20::known(records);
+        lists::known(records);
         return Written { refusal, len: 0 };
     }
     let spot = spot_of(found, s.len());

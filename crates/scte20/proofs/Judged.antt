@@ -18,7 +18,6 @@ use Rattle.scte20.specs.Rules.{recordVerdict}
 use Rattle.scte20.specs.Inside.{lastOf, lastVerdict, lastAfter}
 use Rattle.scte20.specs.Writing.{rangeVerdict, recordsVerdict}
 use Rattle.scte20.proofs.Order.{Back, last-record, record-back, last-after}
-use Rattle.scte20.proofs.Stepwise.{urgent-after}
 
 -- what holds where i records are judged and accepted: `last` is what counts of them, and the records from i on decide as all of them do
 pub record Judging (rs : List Record) (last : Last) (i : ℕ) : Type 0 where
@@ -26,11 +25,10 @@ pub record Judging (rs : List Record) (last : Last) (i : ℕ) : Type 0 where
   pub before : List Record
   pub latest : last ≡ lastOf before
   pub back : Back before
-  pub few : last .urgent ≤ i
   pub left : recordsVerdict [] 21 rs ≡ recordsVerdict before (21 + 26 * i) (drop i rs)
 
 pub judging-first : (rs : List Record) → Judging rs (lastOf []) 0
-judging-first rs = record { before = []; latest = refl; back = tt; few = omega arith; left = refl }
+judging-first rs = record { before = []; latest = refl; back = tt; left = refl }
 
 -- the turn of record i, which is r
 module _ (rs : List Record) (last : Last) (i : ℕ) (r : Record) (judging : Judging rs last i) (more : i < length rs) (here : getD rs i blank ≡ r) where
@@ -65,7 +63,6 @@ module _ (rs : List Record) (last : Last) (i : ℕ) (r : Record) (judging : Judg
         before = r ∷ before;
         latest = ap (λ (l : Last). lastAfter l r) (judging .latest) ∙ last-after at before r (judging .back) fits;
         back = record-back at before r (judging .back) fits;
-        few = omega (arith, urgent-after last r, judging .few);
         left = on ∙ ap (λ (k : ℕ). recordsVerdict (r ∷ before) k (drop (i + 1) rs)) far;
       }
 

@@ -5,7 +5,9 @@ use native.Mathlib.Nat.{add-zero}
 use native.Mathlib.Omega.{arith}
 use native.Mathlib.Numerals.{add-one}
 use mathlib.Core.Path.{_≡_, _∙_, ap, sym, subst, refl}
+use mathlib.Core.Bool.{Bool}
 use mathlib.Core.List.{List, [], _∷_, _++_, append-nil}
+use borrow.Author.Tests.{lt-ltb}
 use lib.ListN.{length, getD, take, drop, replicate, length-replicate, replicate-append-replicate, drop-of-length-le}
 use lib.Seq.{drop-at, getD-drop, length-take-le, take-suc}
 use Rattle.lists.specs.Bytes.{Bytes}
@@ -13,12 +15,12 @@ use Rattle.lists.specs.Flat.{taken}
 use Rattle.lists.specs.Room.{filled, over, overAt}
 use Rattle.lists.proofs.Each.{each-of, each-at}
 use Rattle.lists.proofs.Flat.{length-taken, getD-taken, flat-more, length-flat, taken-flat, flat-filled}
-use Rattle.lists.proofs.Lay.{length-over, overAt-overAt}
+use Rattle.lists.proofs.Lay.{length-over, sets-overAt, overAt-overAt}
 use Rattle.scte20.specs.declared.Record.{Record}
 use Rattle.scte20.specs.declared.Numbers.{Numbers}
 use Rattle.scte20.specs.declared.CaptionUnit.{CaptionUnit}
 use Rattle.scte20.specs.Value.{ByteRecord, blank, Typed}
-use Rattle.scte20.specs.Lent.{recordBytes, recordsBytes, recordIn, lentRecords, unitIn, numbersOf}
+use Rattle.scte20.specs.Lent.{recordBytes, recordsBytes, recordIn, lentRecords, storedIf, storedAt, unitIn, numbersOf}
 
 -- ---- one record
 
@@ -28,6 +30,11 @@ length-record r = refl
 pub record-back : (r : Record) (rest : List ℕ) → recordIn (recordBytes r ++ rest) ≡ r
 unfolding recordIn
 record-back r rest = refl
+
+-- stored within an array, its bytes are laid over
+pub stored-laid : (i : ℕ) (r : Record) (s : List ℕ) → i < 31 → length s ≡ 155 → storedAt i r s ≡ overAt (5 * i) (recordBytes r) s
+unfolding storedAt
+stored-laid i r s h e = ap (λ (t : Bool). storedIf t i r s) (lt-ltb i 31 h) ∙ sets-overAt (5 * i) (recordBytes r) s (omega arith)
 
 -- ---- all places of an array
 

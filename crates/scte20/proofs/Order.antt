@@ -1,12 +1,12 @@
 -- What the code keeps of the records before (the latest's field and line, and how many of that field have priority 0) tells the same as the records do.
 -- Assumes nothing.
-use Prim.Native.Nat.{ℕ, _+_, _≤_, _<_}
+use Prim.Native.Nat.{ℕ, _+_, _≤_, _<_, min}
 use native.Mathlib.Omega.{arith}
 use mathlib.Core.Path.{_≡_, _∙_, ap, ap₂, sym, refl}
 use mathlib.Core.Bool.{Bool, true, false, _&&_}
 use mathlib.Core.List.{List, [], _∷_}
 use lib.Dec.{eqb, ltb}
-use borrow.Author.Tests.{eqb-true, eqb-false, ltb-false, eq-eqb, ne-eqb, le-ltb}
+use borrow.Author.Tests.{eqb-true, eqb-false, ltb-true, ltb-false, eq-eqb, ne-eqb, lt-ltb, le-ltb}
 use Rattle.lists.specs.Each.{Each}
 use Rattle.refusal.specs.declared.Reason.{Reason}
 use Rattle.refusal.specs.declared.Reason.the-variants.{FieldNumberZero, FieldFalls, LineDoesNotRise, FifthPriority}
@@ -57,9 +57,22 @@ kept-urgent f last earlier false e b h =
     let below : fieldOf last < f = omega (arith, other) in
     sym (urgent-none f (last ∷ earlier) (back-below f last earlier b below))
 
-kept-four : (t : Bool) (k : ℕ) → (t && ltb 3 k) ≡ ltb 3 (kept t k)
-kept-four true k = refl
+-- four are as good as more
+four-enough : (k : ℕ) → ltb 3 (min k 4) ≡ ltb 3 k
+four-enough k = by-four (ltb 3 k) refl
+  where
+    by-four : (t : Bool) → ltb 3 k ≡ t → ltb 3 (min k 4) ≡ t
+    by-four true e = let many : 3 < k = ltb-true 3 k e in lt-ltb 3 (min k 4) (omega arith)
+    by-four false e = let few : k ≤ 3 = ltb-false 3 k e in le-ltb 3 (min k 4) (omega arith)
+
+kept-four : (t : Bool) (k : ℕ) → (t && ltb 3 (min k 4)) ≡ ltb 3 (kept t k)
+kept-four true k = four-enough k
 kept-four false k = refl
+
+-- counted on, too
+kept-more : (t : Bool) (n k : ℕ) → min (n + kept t (min k 4)) 4 ≡ min (n + kept t k) 4
+kept-more true n k = omega arith
+kept-more false n k = refl
 
 -- no record before: a `last` of field 0 is the same as none, since field 0 is refused first
 none-field : (f : ℕ) → eqb f 0 ≡ false → eqb 0 f ≡ false
@@ -109,15 +122,18 @@ pub record-back : (at : ℕ) (before : List Record) (r : Record) → Back before
 record-back at [] r b e = tt
 record-back at (last ∷ earlier) r b e = (accepted-rises at last earlier r e, b)
 
--- how many count on for the record
-counts-on : (at : ℕ) (before : List Record) (r : Record) → Back before → recordVerdict at before r ≡ Accepted
-    → kept (eqb (lastOf before .«field_number» .0) (fieldOf r)) (lastOf before .urgent) ≡ urgent (fieldOf r) before
-counts-on at [] r b e = ap (λ (t : Bool). kept t 0) (none-field (fieldOf r) (record-checks at [] r e .0))
-counts-on at (last ∷ earlier) r b e =
-    kept-urgent (fieldOf r) last earlier (eqb (fieldOf last) (fieldOf r)) refl b (accepted-rises at last earlier r e)
+-- how many count on for the record, of which n more are of priority 0
+counts-on : (at : ℕ) (before : List Record) (r : Record) (n : ℕ) → Back before → recordVerdict at before r ≡ Accepted
+    → min (n + kept (eqb (lastOf before .«field_number» .0) (fieldOf r)) (lastOf before .urgent)) 4 ≡ min (n + urgent (fieldOf r) before) 4
+counts-on at [] r n b e = ap (λ (t : Bool). min (n + kept t 0) 4) (none-field (fieldOf r) (record-checks at [] r e .0))
+counts-on at (last ∷ earlier) r n b e =
+    kept-more (eqb (fieldOf last) (fieldOf r)) n (urgent (fieldOf last) (last ∷ earlier))
+    ∙ ap (λ (k : ℕ). min (n + k) 4)
+    (kept-urgent (fieldOf r) last earlier (eqb (fieldOf last) (fieldOf r)) refl b (accepted-rises at last earlier r e))
 
 pub last-after : (at : ℕ) (before : List Record) (r : Record) → Back before → recordVerdict at before r ≡ Accepted → lastAfter (lastOf before) r ≡ lastOf (r ∷ before)
 unfolding lastAfter
 last-after at before r b e =
     ap (λ (k : ℕ). record { «field_number» = r .«field_number»; «line_offset» = r .«line_offset»; urgent = k })
-    (ap₂ _+_ (ap (λ (t : Bool). one (t && eqb (r .«cc_priority») 0)) (sym (eq-eqb (fieldOf r) (fieldOf r) refl))) (counts-on at before r b e))
+    (counts-on at before r (one (eqb (r .«cc_priority») 0)) b e
+    ∙ ap (λ (t : Bool). min (one (t && eqb (r .«cc_priority») 0) + urgent (fieldOf r) before) 4) (sym (eq-eqb (fieldOf r) (fieldOf r) refl)))

@@ -4,10 +4,8 @@ use Prim.Native.Nat.{ℕ, zero, suc, _+_, _-_, _*_, _/_, _%_, _≤_, _<_}
 use native.Mathlib.Omega.{arith}
 use native.Mathlib.Numerals.{add-one}
 use mathlib.Core.Path.{_≡_, _∙_, ap, ap₂, sym, subst, refl}
-use mathlib.Core.Bool.{Bool, true, false}
 use mathlib.Core.List.{List, [], _∷_}
 use borrow.Author.Tests.{eq-eqb, ne-eqb}
-use lib.Dec.{eqb}
 use lib.ListN.{length, getD, take}
 use lib.Seq.{length-take-le, take-all}
 use Rattle.lists.specs.Room.{over, overAt}
@@ -22,11 +20,11 @@ use Rattle.bits.specs.Bits.{field, AreBits}
 use Rattle.bits.proofs.Fields.{field-lt, field-within}
 use Rattle.scte20.specs.declared.Record.{Record}
 use Rattle.scte20.specs.declared.Last.{Last}
-use Rattle.scte20.specs.Value.{fieldOf, one, blank}
+use Rattle.scte20.specs.Value.{blank}
 use Rattle.scte20.specs.Rules.{recordVerdict}
 use Rattle.scte20.specs.Reading.{missing, constructAt, markerVerdict, constructsVerdict, recordsAt}
 use Rattle.scte20.specs.Lent.{recordBytes, recordsBytes}
-use Rattle.scte20.specs.Inside.{constructOf, lastOf, lastVerdict, kept, lastAfter}
+use Rattle.scte20.specs.Inside.{constructOf, lastOf, lastVerdict, lastAfter}
 use Rattle.scte20.proofs.Constructs.{length-records}
 use Rattle.scte20.proofs.Order.{Back, last-record, record-back, last-after}
 use Rattle.scte20.proofs.Lending.{lent-next, lent-room}
@@ -85,7 +83,6 @@ pub record Going (xs : List ℕ) (n : ℕ) (lent records : List ℕ) (last : Las
   pub within : i ≤ n
   pub latest : last ≡ lastOf (behind i xs)
   pub back : Back (behind i xs)
-  pub few : last .urgent ≤ i
   pub left : constructsVerdict [] n 21 xs ≡ constructsVerdict (behind i xs) (n - i) (21 + 26 * i) xs
   pub laid : records ≡ over (recordsBytes (take i (recordsAt n 21 xs))) lent
 
@@ -96,21 +93,9 @@ going-first xs n lent =
       within = omega arith;
       latest = refl;
       back = tt;
-      few = omega arith;
       left = ap (λ (k : ℕ). constructsVerdict [] k 21 xs) all;
       laid = refl;
     }
-
--- one record more adds no more than one of priority 0
-urgent-one : (same urgent : Bool) (k : ℕ) → one urgent + kept same k ≤ k + 1
-urgent-one true true k = omega arith
-urgent-one true false k = omega arith
-urgent-one false true k = omega arith
-urgent-one false false k = omega arith
-
-pub urgent-after : (last : Last) (r : Record) → lastAfter last r .urgent ≤ last .urgent + 1
-unfolding lastAfter
-urgent-after last r = urgent-one (eqb (last .«field_number» .0) (fieldOf r)) (eqb (r .«cc_priority») 0) (last .urgent)
 
 -- the turn of construct i
 module _ (xs : List ℕ) (n : ℕ) (lent records : List ℕ) (last : Last) (i : ℕ) (going : Going xs n lent records last i) (more : i < n) where
@@ -163,7 +148,6 @@ module _ (xs : List ℕ) (n : ℕ) (lent records : List ℕ) (last : Last) (i : 
         within = omega arith;
         latest = ap (λ (l : Last). lastAfter l r) (going .latest) ∙ last-after at before r (going .back) fits ∙ ap lastOf (sym next);
         back = subst Back (sym next) (record-back at before r (going .back) fits);
-        few = omega (arith, urgent-after last r, going .few);
         left = on ∙ ap₂ (λ (rs : List Record) (k : ℕ). constructsVerdict rs (n - (i + 1)) k xs) (sym next) far;
         laid =
             ap₂ (λ (s : Record) (bytes : List ℕ). overAt (5 * i) (recordBytes s) bytes) (sym (getD-recordsAt n 21 i xs more)) (going .laid)

@@ -1,5 +1,5 @@
 -- What private functions promise each other: what the reader keeps on its way. No theorem for a signer speaks of it.
-use Prim.Native.Nat.{ℕ, _+_, _/_, _%_, _^_}
+use Prim.Native.Nat.{ℕ, _+_, _/_, _%_, _^_, min}
 use mathlib.Core.Path.{_≡_}
 use mathlib.Core.Bool.{Bool, true, false, not, _&&_}
 use mathlib.Core.List.{List, [], _∷_}
@@ -17,10 +17,10 @@ use Rattle.scte20.specs.Value.{fieldOf, one, urgent}
 use Rattle.scte20.specs.Reading.{constructsVerdict, recordsAt}
 use Rattle.scte20.specs.Lent.{recordsBytes}
 
--- of the records before, the latest first: the latest's field and line, and how many of that field have priority 0
+-- of the records before, the latest first: the latest's field and line, and how many of that field have priority 0, no more than four of them counted
 abbrev pub lastOf : List Record → Last
 lastOf [] = record { «field_number» = record { 0 = 0 }; «line_offset» = 0; urgent = 0 }
-lastOf (r ∷ before) = record { «field_number» = r .«field_number»; «line_offset» = r .«line_offset»; urgent = urgent (fieldOf r) (r ∷ before) }
+lastOf (r ∷ before) = record { «field_number» = r .«field_number»; «line_offset» = r .«line_offset»; urgent = min (urgent (fieldOf r) (r ∷ before)) 4 }
 
 -- `recordVerdict` by that
 unfoldable pub lastVerdict : ℕ → Last → Record → Verdict
@@ -43,7 +43,7 @@ lastAfter last r =
     record {
       «field_number» = r .«field_number»;
       «line_offset» = r .«line_offset»;
-      urgent = one (eqb (r .«cc_priority») 0) + kept (eqb (last .«field_number» .0) (fieldOf r)) (last .urgent);
+      urgent = min (one (eqb (r .«cc_priority») 0) + kept (eqb (last .«field_number» .0) (fieldOf r)) (last .urgent)) 4;
     }
 
 -- a construct as one number of 26 bits, as it is taken from the stream

@@ -35,7 +35,7 @@ pub fn judge_value(v: Numbers, records: &[u8; LENT_RECORDS]) -> Verdict
         if let Verdict::Refused(_, _) = range {
             return range;
         }
-        let verdict = rules::judge_record(last, record, at);
+        let verdict = rules::judge_record(last, record, at as u32);
         if let Verdict::Refused(_, _) = verdict {
             return verdict;
         }

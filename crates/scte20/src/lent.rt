@@ -1,11 +1,8 @@
 // Records as bytes in a lent array.
 ghost use mathlib.Core.Path.{_≡_};
-ghost use Prim.Native.Nat.{_+_, _≤_};
-ghost use lib.ListN.{length, getD};
-ghost use Rattle.lists.specs.Bytes.{Bytes};
-ghost use Rattle.lists.specs.Room.{overAt};
-ghost use Rattle.scte20.specs.Value.{blank as Value·blank};
-ghost use Rattle.scte20.specs.Lent.{recordBytes, recordsBytes, lentRecords, unitIn, numbersOf};
+ghost use lib.ListN.{getD};
+ghost use Rattle.scte20.specs.Value.{blank as Value·blank, none, stored};
+ghost use Rattle.scte20.specs.Lent.{recordsBytes, lentRecords, storedAt, unitIn, numbersOf};
 use crate::CaptionUnit;
 use crate::DisplayField;
 use crate::LENT_RECORD;
@@ -13,7 +10,6 @@ use crate::LENT_RECORDS;
 use crate::MAX_RECORDS;
 use crate::Numbers;
 use crate::Record;
-use crate::reading::blank;
 
 // The record of index i, counted from 0. Beyond the last place it is all zero.
 pub fn record_in(records: &[u8; LENT_RECORDS], i: usize) -> Record
@@ -33,19 +29,14 @@ pub fn record_in(records: &[u8; LENT_RECORDS], i: usize) -> Record
     }
 }
 
-// A lent array holds bytes: a proof knows so of a slice's elements, and not of an array's behind a reference.
-pub fn known(records: &[u8])
-    ensures { λ _. ⌜ Bytes (now (records .entry)) ⌝ }
+// Stores a record as the one of index i. Beyond the last place nothing is stored.
+pub fn put_record(r: Record, i: usize, records: &mut [u8; LENT_RECORDS])
+    ensures { λ _. ⌜ now (records .exit) ≡ storedAt i r (now (records .entry)) ⌝ }
 {
-    blank();
-}
-
-// Stores one record's five bytes from index `at` on.
-pub(crate) fn put_record(r: Record, at: usize, records: &mut [u8; LENT_RECORDS])
-    requires { ⌜ at + 5 ≤ 155 ⌝ }
-    requires { ⌜ length (now records) ≡ 155 ⌝ }
-    ensures { λ _. ⌜ now (records .exit) ≡ overAt at (recordBytes r) (now (records .entry)) ⌝ }
-{
+    if MAX_RECORDS <= i {
+        return;
+    }
+    let at = LENT_RECORD * i;
     records[at] = r.cc_priority;
     records[at + 1] = r.field_number.0;
     records[at + 2] = r.line_offset;
@@ -92,8 +83,33 @@ pub fn bytes_of(unit: CaptionUnit) -> [u8; LENT_RECORDS]
     let mut i = 0;
     while i < MAX_RECORDS {
         let record = unit.records[i];
-        put_record(record, LENT_RECORD * i, &mut bytes);
+        put_record(record, i, &mut bytes);
         i += 1;
     }
     bytes
+}
+
+// No value: what an answer without one holds.
+pub fn nothing() -> CaptionUnit
+    ensures { λ r. ⌜ r ≡ stored none ⌝ }
+{
+    CaptionUnit {
+        reserved: 0,
+        vbi_data_flag: 0,
+        n: 0,
+        records: [blank(); MAX_RECORDS],
+        z: 0,
+    }
+}
+
+fn blank() -> Record
+    ensures { λ r. ⌜ r ≡ Value·blank ⌝ }
+{
+    Record {
+        cc_priority: 0,
+        field_number: DisplayField(0),
+        line_offset: 0,
+        cc_data_1: 0,
+        cc_data_2: 0,
+    }
 }

@@ -3,19 +3,19 @@
 // Normative references: document 01, "Picture area"; document 001, 5.4 to 5.8.
 mod judging;
 mod lent;
-mod reading;
 mod rules;
 
 pub use judging::judge_value;
 pub use lent::bytes_of;
-pub use lent::known;
+pub use lent::nothing;
 pub use lent::numbers_of;
+pub use lent::put_record;
 pub use lent::record_in;
 pub use lent::unit_of;
-pub use reading::nothing;
-pub use reading::read;
-pub use reading::read_into;
 use refusal::Verdict;
+pub use rules::after;
+pub use rules::first;
+pub use rules::judge_record;
 
 pub const MAX_RECORDS: usize = 31;
 
@@ -65,13 +65,13 @@ pub struct Numbers {
     pub z: usize,
 }
 
-// What `read_into` answers: the verdict, and the numbers, all zero where it refuses.
+// What `scte20_reader::read_into` answers: the verdict, and the numbers, all zero where it refuses.
 pub struct Head {
     pub verdict: Verdict,
     pub numbers: Numbers,
 }
 
-// What `read` answers: the verdict, and the value, all zero where it refuses.
+// What `scte20_reader::read` answers: the verdict, and the value, all zero where it refuses.
 pub struct Answer {
     pub verdict: Verdict,
     pub unit: CaptionUnit,
@@ -84,9 +84,9 @@ pub struct Laid {
 }
 
 // What the rules need of the records before one: the latest's field and line, and how many records of that
-// field have priority 0.
-struct Last {
-    field_number: DisplayField,
-    line_offset: u8,
-    urgent: usize,
+// field have priority 0, no more than four of them counted.
+pub struct Last {
+    pub field_number: DisplayField,
+    pub line_offset: u8,
+    pub urgent: usize,
 }

@@ -1,7 +1,8 @@
 // The rules over a record and those before it (document 01, "Legal records").
 ghost use mathlib.Core.Path.{_≡_};
-ghost use Prim.Native.Nat.{_<_};
+ghost use Prim.Native.Nat.{_+_, min};
 ghost use mathlib.Core.List.{[]};
+ghost use Rattle.scte20.specs.Value.{one};
 ghost use Rattle.scte20.specs.Inside.{lastOf, lastAfter, lastVerdict};
 use crate::DisplayField;
 use crate::Last;
@@ -11,10 +12,10 @@ use refusal::Reason;
 use refusal::Verdict;
 
 // 7, 8 and 9 of a record whose construct begins at bit `at`.
-pub(crate) fn judge_record(last: Last, r: Record, at: usize) -> Verdict
-    requires { ⌜ at < 1048576 ⌝ }
+pub fn judge_record(last: Last, r: Record, at: u32) -> Verdict
     ensures { λ v. ⌜ v ≡ lastVerdict at last r ⌝ }
 {
+    let at = at as usize;
     let before = last.field_number.0;
     let field = r.field_number.0;
     if field == 0 {
@@ -41,7 +42,7 @@ pub(crate) fn judge_record(last: Last, r: Record, at: usize) -> Verdict
 }
 
 // Before the first record. No record has field 0.
-pub(crate) fn first() -> Last
+pub fn first() -> Last
     ensures { λ l. ⌜ l ≡ lastOf [] ⌝ }
 {
     Last {
@@ -51,9 +52,8 @@ pub(crate) fn first() -> Last
     }
 }
 
-// The same after one record more. The count of priority 0 starts again at each field.
-pub(crate) fn after(last: Last, r: Record) -> Last
-    requires { ⌜ last .urgent < 1048576 ⌝ }
+// The same after one record more. The count of priority 0 starts again at each field, and goes no further than four: a fifth is refused.
+pub fn after(last: Last, r: Record) -> Last
     ensures { λ l. ⌜ l ≡ lastAfter last r ⌝ }
 {
     let field_number = r.field_number;
@@ -62,10 +62,20 @@ pub(crate) fn after(last: Last, r: Record) -> Last
     } else {
         0
     };
-    let urgent = if r.cc_priority == 0 { kept + 1 } else { kept };
+    let urgent = counted(kept, r.cc_priority == 0);
     Last {
         field_number,
         line_offset: r.line_offset,
         urgent,
     }
+}
+
+// One more where there is one, and no more than four.
+fn counted(kept: usize, more: bool) -> usize
+    ensures { λ n. ⌜ n ≡ min (one more + kept) 4 ⌝ }
+{
+    if 3 < kept {
+        return 4;
+    }
+    if more { kept + 1 } else { kept }
 }

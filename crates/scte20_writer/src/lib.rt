@@ -55,7 +55,7 @@ pub fn write_from(
 ) -> Laid
     ensures { λ r. ⌜ Writes (unitIn v (now (records .entry))) before after (now (out .entry)) r (now (out .exit)) ⌝ }
 {
-    scte20::known(records);
+    lists::known(records);
     let value = scte20::judge_value(v, records);
     if let Verdict::Refused(_, _) = value {
         return Laid {

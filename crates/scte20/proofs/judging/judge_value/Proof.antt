@@ -151,11 +151,12 @@ judge-value-spec =
     (λ c. search needs)
     out-of-range
     (λ c. search needs)
-    (λ c κs. omega (arith, below (c .before .before .before .before)))
+    (λ c. omega (arith, below (c .before .before .before .before)))
+    (λ c κs. search needs)
     (λ c. search needs)
     illegal
     (λ c. search needs)
-    (λ c κs. omega (arith, below (c .before .before .before .before .before .before .before), c .before .before .before .before .before .before .before .before .before .loop .inv .few))
+    (λ c κs. search needs)
     (λ c. omega (arith, below (c .before .before .before .before .before .before .before .before)))
     (λ c. omega arith)
     loop-again

@@ -1,15 +1,15 @@
--- `scte20::lent::put_record` meets its contract: the five stores, one behind the other, lay the record's bytes.
+-- `scte20::lent::put_record` meets its contract: within the array the five stores, one behind the other, lay the record's bytes.
 -- Assumes nothing.
-use Prim.Native.Nat.{ℕ, suc, _+_}
+use Prim.Native.Nat.{ℕ, suc, _+_, _*_}
 use native.Mathlib.Omega.{arith}
-use mathlib.Core.Path.{_≡_, _∙_, ap₂, sym}
+use mathlib.Core.Path.{_≡_, _∙_, ap, ap₂, sym}
+use mathlib.Core.Bool.{Bool}
 use mathlib.Core.List.{List, [], _∷_}
-use borrow.Author.Needs.{needs}
+use borrow.Author.Tests.{lt-ltb, le-ltb}
 use denote.Ref.{now}
 use lib.ListN.{set}
 use lib.Seq.{sets}
-use Rattle.lists.proofs.Lay.{sets-overAt}
-use Rattle.scte20.specs.Lent.{recordBytes}
+use Rattle.scte20.specs.Lent.{storedIf, storedAt}
 use Rattle.scte20.proofs.lent.put_record.Statement.{statement}
 use Rattle.scte20.proofs.lent.put_record.Tie as tie
 
@@ -23,22 +23,31 @@ five s at a b c d e =
     ap₂ (λ (i j : ℕ). set (set (set (set (set s at a) i b) j c) (suc (suc (suc at))) d) (suc (suc (suc (suc at)))) e) one two
     ∙ ap₂ (λ (i j : ℕ). set (set (set (set (set s at a) (at + 1) b) (at + 2) c) i d) j e) three four
 
-returns : tie.Need-returns
-returns c =
-    let s = now (c .args .records) in
-    sym (five s (c .args .at) _ _ _ _ _) ∙ sets-overAt (c .args .at) (recordBytes (c .args .r)) s (omega arith)
+beyond : tie.Need-returns
+unfolding storedAt
+beyond c = ap (λ (t : Bool). storedIf t (c .before .args .i) (c .before .args .r) (now (c .before .args .records))) (sym (le-ltb (c .before .args .i) 31 (c .if1 .taken)))
+
+stores : tie.Need-returns-2
+unfolding storedAt
+stores c =
+    let args = c .before .args in
+    let s = now (args .records) in
+    sym (five s (5 * args .i) _ _ _ _ _)
+    ∙ ap (λ (t : Bool). storedIf t (args .i) (args .r) s) (sym (lt-ltb (args .i) 31 (omega (arith, c .if1 .left))))
 
 pub put-record-spec : {M : Type 1} → statement M
 put-record-spec =
     tie.close
     (tie.spec
-    (λ c. search needs)
-    (λ c. search needs)
-    (λ c. search needs)
-    (λ c. search needs)
-    (λ c. search needs)
-    (λ c. search needs)
-    (λ c. search needs)
-    (λ c. search needs)
-    (λ c. search needs)
-    returns)
+    beyond
+    (λ c. omega arith)
+    (λ c. omega arith)
+    (λ c. omega arith)
+    (λ c. omega arith)
+    (λ c. omega arith)
+    (λ c. omega arith)
+    (λ c. omega arith)
+    (λ c. omega arith)
+    (λ c. omega arith)
+    (λ c. omega arith)
+    stores)

@@ -1,4 +1,4 @@
--- `scte20::reading::read_bare` meets its contract: with flag 0 the rest behind two bytes decides, and there are no records.
+-- `scte20_reader::read_bare` meets its contract: with flag 0 the rest behind two bytes decides, and there are no records.
 -- Assumes nothing.
 use Prim.Native.Nat.{ℕ, _≤_, _<_}
 use native.Mathlib.Omega.{arith}
@@ -8,13 +8,13 @@ use denote.Ref.{now}
 use lib.ListN.{length}
 use Rattle.lists.specs.Bytes.{Bytes}
 use Rattle.lists.proofs.Each.{each-of}
 use Rattle.scte20.specs.declared.Head.{Head}
 use Rattle.scte20.specs.Reading.{contentVerdict}
 use Rattle.scte20.specs.Lent.{ReadsInto}
 use Rattle.scte20.proofs.Contents.{head-accepted}
 use Rattle.scte20.proofs.Answers.{refused-into, accepted-into, head-long, bare-verdict, bare-value}
-use Rattle.scte20.proofs.reading.read_bare.Statement.{statement}
-use Rattle.scte20.proofs.reading.read_bare.Tie as tie
+use Rattle.scte20_reader.proofs.read_bare.Statement.{statement}
+use Rattle.scte20_reader.proofs.read_bare.Tie as tie
 
 judge-rest-requires : tie.Need-judge-rest-requires
 judge-rest-requires c κs =

@@ -1,4 +1,4 @@
--- `scte20::reading::read_constructs` meets its contract. The loop's invariant: i constructs are read and accepted, `last` is what counts of their
+-- `scte20_reader::read_constructs` meets its contract. The loop's invariant: i constructs are read and accepted, `last` is what counts of their
 -- records, and the records' bytes are laid over the front of the array.
 -- Assumes nothing.
 use Prim.Native.Nat.{ℕ, _+_, _-_, _*_, _%_, _≤_, _<_}
@@ -19,15 +19,16 @@ use Rattle.bits.specs.Bits.{bitsOf, field}
 use Rattle.bits.proofs.Stream.{length-bitsOf, bitsOf-are}
 use Rattle.bits.proofs.Fields.{field-lt}
 use Rattle.bits.proofs.Beyond.{peek-inside}
 use Rattle.scte20.specs.declared.Record.{Record}
 use Rattle.scte20.specs.declared.Last.{Last}
 use Rattle.scte20.specs.Reading.{missing, constructAt, markerVerdict, constructsVerdict}
-use Rattle.scte20.specs.Lent.{recordBytes}
+use Rattle.scte20.specs.Lent.{recordBytes, storedAt}
 use Rattle.scte20.specs.Inside.{constructOf, lastVerdict, lastAfter, Runs}
 use Rattle.scte20.proofs.Bytewise.{missing-some, missing-none}
+use Rattle.scte20.proofs.Lending.{stored-laid}
 use Rattle.scte20.proofs.Stepwise.{construct-at, marker-one, marker-other, behind, Going, going-first, going-room, constructs-here, going-next, going-accepted, going-laid}
-use Rattle.scte20.proofs.reading.read_constructs.Statement.{statement}
-use Rattle.scte20.proofs.reading.read_constructs.Tie as tie
+use Rattle.scte20_reader.proofs.read_constructs.Statement.{statement}
+use Rattle.scte20_reader.proofs.read_constructs.Tie as tie
 
 abbrev Inv-loop : tie.InvT-loop
 Inv-loop body n records₀ last₀ i₀ records last i = Going (bitsOf body) n records₀ records last i
@@ -59,8 +60,11 @@ module _ (c : tie.In-loop Inv-loop μ-loop) where
   abbrev atOf : ℕ
   atOf = 21 + 26 * iOf
 
+  few : nOf ≤ 31
+  few = omega arith
+
   below : iOf < 31
-  below = let h : nOf ≤ 31 = omega arith in omega arith
+  below = omega (arith, few)
 
   -- what is left to judge
   here :
@@ -138,16 +142,6 @@ unmarked c =
     (refused-first _ (sym other) refl
     ∙ sym (here turn ∙ accepted-first _ (sym (whole past)) refl ∙ accepted-first _ (judged past) (c .before .enum-told2 .given .1)))
 
-put-record-requires : tie.Need-put-record-requires Inv-loop μ-loop
-put-record-requires c κs =
-    let turn = c .before .before .before .before .before .before .before .before in
-    let at = turn .before .loop in
-    let few : nOf turn ≤ 31 = omega arith in (
-      omega (arith, below turn),
-      going-room (bitsOf (bodyOf turn)) (nOf turn) (lentOf turn) (at .records) (at .last) (at .i) (at .inv) (turn .loop-test .taken) few
-          (turn .before .before .before .before .pre .1 .1),
-    )
-
 loop-again : tie.Need-loop-again Inv-loop μ-loop
 loop-again c =
     let marking = c .before .before .before in
@@ -162,8 +156,9 @@ loop-again c =
     let legal = sym (judged past) ∙ marking .before .enum-told2 .given .1 in
     let marked = marker-one xs (atOf turn) (bitsOf-are body) (fits peeked) (ap (λ (k : ℕ). k % 2) (sym (seen peeked)) ∙ marking .if2 .left) in
     let after : c .after .result ≡ lastAfter (at .last) r = c .after .ensures ∙ ap (lastAfter (at .last)) (taken past) in
+    let room = going-room xs n (lentOf turn) (at .records) (at .last) (at .i) (at .inv) (turn .loop-test .taken) (few turn) (turn .before .before .before .before .pre .1 .1) in
     let laid : c .before .put-record .last .1 .1 .0 ≡ overAt (5 * at .i) (recordBytes r) (at .records) =
-    c .before .put-record .ensures ∙ ap (λ (s : Record). overAt (5 * at .i) (recordBytes s) (at .records)) (taken past)
+    c .before .put-record .ensures ∙ ap (λ (s : Record). storedAt (at .i) s (at .records)) (taken past) ∙ stored-laid (at .i) r (at .records) (below turn) room
     in
     subst (λ (last : Last). Going xs n (lentOf turn) (c .before .put-record .last .1 .1 .0) last (at .i + 1)) (sym after)
     (subst (λ (records : List ℕ). Going xs n (lentOf turn) records (lastAfter (at .last) r) (at .i + 1)) (sym laid)
@@ -196,15 +191,15 @@ read-constructs-spec =
     (λ c. omega arith)
     (λ c κs. search needs)
     (λ c κs. omega (arith, small c))
-    (λ c κs. omega (arith, below (c .before .before .before)))
+    (λ c. omega (arith, below (c .before .before .before)))
+    (λ c κs. search needs)
     (λ c. search needs)
     illegal
     (λ c. search needs)
     (λ c. omega (arith, below (c .before .before .before .before .before .before .before)))
     unmarked
-    (λ c. omega (arith, below (c .before .before .before .before .before .before .before)))
-    put-record-requires
-    (λ c κs. let turn = c .before .before .before .before .before .before .before .before .before in omega (arith, below turn, turn .before .loop .inv .few))
+    (λ c κs. search needs)
+    (λ c κs. search needs)
     (λ c. omega (arith, below (c .before .before .before .before .before .before .before .before .before .before)))
     (λ c. omega arith)
     loop-again

@@ -1,4 +1,4 @@
--- `scte20::reading::read_flagged` meets its contract: the count, the constructs, then what follows them decide, each as `flagVerdict` says.
+-- `scte20_reader::read_flagged` meets its contract: the count, the constructs, then what follows them decide, each as `flagVerdict` says.
 -- Assumes nothing.
 use Prim.Native.Nat.{ℕ, _+_, _-_, _*_, _/_, _≤_, _<_}
 use native.Mathlib.Omega.{arith}
@@ -14,16 +14,16 @@ use Rattle.refusal.specs.declared.Verdict.the-variants.{Accepted}
 use Rattle.refusal.specs.Checks.{andThen}
 use Rattle.refusal.proofs.Checks.{andThen-accepted, refused-first, accepted-first}
 use Rattle.bits.specs.Bits.{bitsOf}
 use Rattle.scte20.specs.declared.Head.{Head}
 use Rattle.scte20.specs.Reading.{countIn, constructsVerdict, recordsAt, sampledVerdict, restVerdict, contentVerdict}
 use Rattle.scte20.specs.Lent.{ReadsInto}
 use Rattle.scte20.proofs.Bytewise.{missing-some, missing-none, count-in}
 use Rattle.scte20.proofs.Constructs.{length-records}
 use Rattle.scte20.proofs.Contents.{head-accepted}
 use Rattle.scte20.proofs.Answers.{refused-into, accepted-into, sampled-long, head-long, flagged-verdict, flagged-value}
 use Rattle.scte20.proofs.Lending.{lent-over}
-use Rattle.scte20.proofs.reading.read_flagged.Statement.{statement}
-use Rattle.scte20.proofs.reading.read_flagged.Tie as tie
+use Rattle.scte20_reader.proofs.read_flagged.Statement.{statement}
+use Rattle.scte20_reader.proofs.read_flagged.Tie as tie
 
 -- the input is a list of bytes by its type
 bytes : (c : tie.After-shared-slice-known) → Bytes (now (c .before .args .body))

@@ -1,4 +1,4 @@
--- `scte20::reading::judge_tail` meets its contract: the sampled video count is judged as `sampledVerdict` says, and the rest by `judge_rest`.
+-- `scte20_reader::judge_tail` meets its contract: the sampled video count is judged as `sampledVerdict` says, and the rest by `judge_rest`.
 -- Assumes nothing.
 use Prim.Native.Nat.{ℕ, _+_, _-_, _*_, _≤_, _<_}
 use native.Mathlib.Omega.{arith}
@@ -10,10 +10,10 @@ use denote.Ref.{now}
 use lib.ListN.{length}
 use Rattle.bits.specs.Bits.{bitsOf, field}
 use Rattle.bits.proofs.Beyond.{peek-inside}
 use Rattle.scte20.specs.Reading.{sampledVerdict}
 use Rattle.scte20.proofs.Bytewise.{missing-some, missing-none}
-use Rattle.scte20.proofs.reading.judge_tail.Statement.{statement}
-use Rattle.scte20.proofs.reading.judge_tail.Tie as tie
+use Rattle.scte20_reader.proofs.judge_tail.Statement.{statement}
+use Rattle.scte20_reader.proofs.judge_tail.Tie as tie
 
 ends : tie.Need-returns
 unfolding sampledVerdict

@@ -1,4 +1,4 @@
--- `scte20::reading::judge_head` meets its contract: at each return the tests that led there pick that check of `headVerdict`.
+-- `scte20_reader::judge_head` meets its contract: at each return the tests that led there pick that check of `headVerdict`.
 -- Assumes nothing.
 use Prim.Native.Nat.{ℕ, _+_, _*_, _≤_, _<_}
 use native.Mathlib.Omega.{arith}
@@ -10,10 +10,10 @@ use Rattle.lists.specs.Bytes.{Bytes}
 use Rattle.lists.proofs.Each.{each-of}
 use Rattle.bits.specs.Bits.{bitsOf, field}
 use Rattle.bits.proofs.Fields.{field-whole}
 use Rattle.scte20.specs.Reading.{headVerdict}
 use Rattle.scte20.proofs.Bytewise.{missing-some, missing-none}
-use Rattle.scte20.proofs.reading.judge_head.Statement.{statement}
-use Rattle.scte20.proofs.reading.judge_head.Tie as tie
+use Rattle.scte20_reader.proofs.judge_head.Statement.{statement}
+use Rattle.scte20_reader.proofs.judge_head.Tie as tie
 
 long : tie.Need-returns
 unfolding headVerdict

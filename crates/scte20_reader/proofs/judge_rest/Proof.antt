@@ -1,4 +1,4 @@
--- `scte20::reading::judge_rest` meets its contract: the two looks find the bit that `restVerdict` refuses, or none.
+-- `scte20_reader::judge_rest` meets its contract: the two looks find the bit that `restVerdict` refuses, or none.
 -- Assumes nothing.
 use Prim.Native.Nat.{ℕ, _+_, _-_, _*_, _/_, _%_, _^_, _≤_, _<_, min}
 use native.Mathlib.Omega.{arith}
@@ -20,11 +20,11 @@ use Rattle.bits.specs.Peek.{peekOf, leadingOf, firstSet}
 use Rattle.bits.proofs.Stream.{bitsOf-are}
 use Rattle.bits.proofs.Fields.{field-lt}
 use Rattle.bits.proofs.Beyond.{peek-inside}
 use Rattle.scte20.specs.Layout.{padding}
 use Rattle.scte20.specs.Reading.{zeroVerdict, restVerdict}
 use Rattle.scte20.proofs.Trailing.{padding-lt, padding-fits, moved-lt, alignment-none, alignment-some, stuffing-none, stuffing-some}
-use Rattle.scte20.proofs.reading.judge_rest.Statement.{statement}
-use Rattle.scte20.proofs.reading.judge_rest.Tie as tie
+use Rattle.scte20_reader.proofs.judge_rest.Statement.{statement}
+use Rattle.scte20_reader.proofs.judge_rest.Tie as tie
 
 -- the alignment bits
 module _ (c : tie.After-peek) where

@@ -1,12 +1,12 @@
--- `scte20::reading::read` meets its contract: what `read_into` leaves in an array of zeros is told as a struct.
+-- `scte20_reader::read` meets its contract: what `read_into` leaves in an array of zeros is told as a struct.
 -- Assumes nothing.
 use mathlib.Core.Path.{_∙_, ap}
 use borrow.Author.Needs.{needs}
 use denote.Ref.{now}
 use Rattle.scte20.specs.declared.CaptionUnit.{CaptionUnit}
 use Rattle.scte20.proofs.Answers.{read-back}
-use Rattle.scte20.proofs.reading.read.Statement.{statement}
-use Rattle.scte20.proofs.reading.read.Tie as tie
+use Rattle.scte20_reader.proofs.read.Statement.{statement}
+use Rattle.scte20_reader.proofs.read.Tie as tie
 
 returns : tie.Need-returns
 returns c =

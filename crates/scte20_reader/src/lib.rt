@@ -1,33 +1,30 @@
-// Reading a caption unit's body from left to right.
+// Reading SCTE 20 caption content: the body of a caption unit, from left to right.
+//
+// Normative references: document 01, "Picture area" and "Which refusal comes first"; document 001, 5.4 to 5.8.
 ghost use mathlib.Core.Path.{_≡_};
 ghost use Prim.Native.Nat.{_-_, _*_, _≤_, _<_};
 ghost use lib.ListN.{length};
 ghost use Rattle.refusal.specs.declared.Verdict.the-variants.{Accepted};
 ghost use Rattle.refusal.specs.Checks.{andThen};
 ghost use Rattle.bits.specs.Bits.{bitsOf};
-ghost use Rattle.scte20.specs.Value.{blank as Value·blank, none, stored};
+ghost use Rattle.scte20.specs.Value.{none, stored};
 ghost use Rattle.scte20.specs.Reading.{headVerdict, flagIn, sampledVerdict, restVerdict, Reads};
 ghost use Rattle.scte20.specs.Lent.{numbersOf, ReadsInto};
 ghost use Rattle.scte20.specs.Inside.{constructOf, Runs};
-use crate::Answer;
-use crate::CONSTRUCT_BITS;
-use crate::CONSTRUCTS;
-use crate::CaptionUnit;
-use crate::DisplayField;
-use crate::Head;
-use crate::LENT_RECORD;
-use crate::LENT_RECORDS;
-use crate::MAX_BYTES;
-use crate::MAX_RECORDS;
-use crate::Numbers;
-use crate::Record;
-use crate::SAMPLED_BITS;
-use crate::lent;
-use crate::rules;
 use refusal::Fixed;
 use refusal::Item;
 use refusal::Reason;
 use refusal::Verdict;
+use scte20::Answer;
+use scte20::CONSTRUCT_BITS;
+use scte20::CONSTRUCTS;
+use scte20::DisplayField;
+use scte20::Head;
+use scte20::LENT_RECORDS;
+use scte20::MAX_BYTES;
+use scte20::Numbers;
+use scte20::Record;
+use scte20::SAMPLED_BITS;
 
 // user_data_type_code, reserved and vbi_data_flag take two bytes; then cc_count begins.
 const COUNT: usize = 16;
@@ -40,7 +37,7 @@ pub fn read(body: &[u8]) -> Answer
     let head = read_into(body, &mut records);
     let verdict = head.verdict;
     let numbers = head.numbers;
-    let unit = lent::unit_of(numbers, &records);
+    let unit = scte20::unit_of(numbers, &records);
     Answer { verdict, unit }
 }
 
@@ -139,7 +136,7 @@ fn read_constructs(body: &[u8], n: usize, records: &mut [u8; LENT_RECORDS]) -> V
     requires { ⌜ length (now records) ≡ 155 ⌝ }
     ensures { λ r. ⌜ Runs (now (body .entry)) n (now (records .entry)) r (now (records .exit)) ⌝ }
 {
-    let mut last = rules::first();
+    let mut last = scte20::first();
     let mut i = 0;
     while i < n {
         let at = CONSTRUCTS + CONSTRUCT_BITS * i;
@@ -148,15 +145,15 @@ fn read_constructs(body: &[u8], n: usize, records: &mut [u8; LENT_RECORDS]) -> V
         }
         let construct = bits::peek(body, at, CONSTRUCT_BITS as u32);
         let record = record_of(construct);
-        let verdict = rules::judge_record(last, record, at);
+        let verdict = scte20::judge_record(last, record, at as u32);
         if let Verdict::Refused(_, _) = verdict {
             return verdict;
         }
         if construct % 2 != 1 {
             return Verdict::Refused(Reason::Unfixed(Fixed::Marker), Item::Bit(at + 25));
         }
-        lent::put_record(record, LENT_RECORD * i, records);
-        last = rules::after(last, record);
+        scte20::put_record(record, i, records);
+        last = scte20::after(last, record);
         i += 1;
     }
     Verdict::Accepted
@@ -236,30 +233,5 @@ fn refused(verdict: Verdict) -> Head
             n: 0,
             z: 0,
         },
-    }
-}
-
-// No value: what an answer without one holds.
-pub fn nothing() -> CaptionUnit
-    ensures { λ r. ⌜ r ≡ stored none ⌝ }
-{
-    CaptionUnit {
-        reserved: 0,
-        vbi_data_flag: 0,
-        n: 0,
-        records: [blank(); MAX_RECORDS],
-        z: 0,
-    }
-}
-
-pub(crate) fn blank() -> Record
-    ensures { λ r. ⌜ r ≡ Value·blank ⌝ }
-{
-    Record {
-        cc_priority: 0,
-        field_number: DisplayField(0),
-        line_offset: 0,
-        cc_data_1: 0,
-        cc_data_2: 0,
     }
 }

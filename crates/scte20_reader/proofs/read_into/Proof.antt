@@ -1,4 +1,4 @@
--- `scte20::reading::read_into` meets its contract: the head refuses, or its flag says which of the two readings is meant.
+-- `scte20_reader::read_into` meets its contract: the head refuses, or its flag says which of the two readings is meant.
 -- Assumes nothing.
 use Prim.Native.Nat.{ℕ, _<_}
 use native.Mathlib.Omega.{arith}
@@ -11,13 +11,13 @@ use Rattle.lists.specs.Bytes.{Bytes}
 use Rattle.lists.proofs.Each.{each-of}
 use Rattle.refusal.specs.declared.Verdict.the-variants.{Accepted}
 use Rattle.bits.specs.Bits.{bitsOf}
 use Rattle.scte20.specs.declared.Head.{Head}
 use Rattle.scte20.specs.Reading.{headVerdict, flagIn}
 use Rattle.scte20.specs.Lent.{ReadsInto}
 use Rattle.scte20.proofs.Bytewise.{flag-in}
 use Rattle.scte20.proofs.Answers.{refused-into, head-long, head-refused}
-use Rattle.scte20.proofs.reading.read_into.Statement.{statement}
-use Rattle.scte20.proofs.reading.read_into.Tie as tie
+use Rattle.scte20_reader.proofs.read_into.Statement.{statement}
+use Rattle.scte20_reader.proofs.read_into.Tie as tie
 
 -- the input is a list of bytes by its type
 bytes : (c : tie.After-shared-slice-known) → Bytes (now (c .before .args .body))

@@ -1,12 +1,12 @@
--- `scte20::reading::record_of` meets its contract: each part of the number is the one that `constructOf` takes.
+-- `scte20_reader::record_of` meets its contract: each part of the number is the one that `constructOf` takes.
 -- Assumes nothing.
 use Prim.Native.Nat.{ℕ, _/_, _%_}
 use mathlib.Core.Path.{ap₂}
 use borrow.Author.Needs.{needs}
 use Rattle.scte20.specs.declared.Record.{Record}
 use Rattle.scte20.specs.Inside.{constructOf}
-use Rattle.scte20.proofs.reading.record_of.Statement.{statement}
-use Rattle.scte20.proofs.reading.record_of.Tie as tie
+use Rattle.scte20_reader.proofs.record_of.Statement.{statement}
+use Rattle.scte20_reader.proofs.record_of.Tie as tie
 
 made : ℕ → ℕ → ℕ → Record
 made c first second =
