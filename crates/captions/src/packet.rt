@@ -23,7 +23,7 @@ const LENT_SLOTS: usize = 20;
 pub extern "C" fn captions_packet_read(words: &[u16], rows: &mut [[u8; ROW_BYTES]; SLOTS]) -> Answer
     ensures { λ r. ⌜ ReadsInto (now (words .entry)) (now (rows .entry)) r (now (rows .exit)) ⌝ }
 {
-    subtitling::read_into(words, rows)
+    subtitling_reader::read_into(words, rows)
 }
 
 // Writes a packet at the front of out.
@@ -36,7 +36,7 @@ pub extern "C" fn captions_packet_write(
 ) -> Written
     ensures { λ r. ⌜ Writes (packetIn counter (now (slots .entry))) (now (rows .entry)) (now (out .entry)) r (now (out .exit)) ⌝ }
 {
-    subtitling::write_from(packet_of(counter, slots), rows, out)
+    subtitling_writer::write_from(packet_of(counter, slots), rows, out)
 }
 
 fn packet_of(counter: u32, bytes: &[u8]) -> Packet

@@ -34,5 +34,5 @@ pub extern "C" fn captions_payload_write(
             len: 0,
         };
     }
-    line21::write_from(flags as u8, m, units, out)
+    line21_writer::write_from(flags as u8, m, units, out)
 }

@@ -52,9 +52,9 @@ fn words_of(input: &[u8]) -> [u16; INPUT_WORDS]
 }
 
 fn answer_of(words: &[u16]) -> [u8; ANSWER] {
-    let answer = subtitling::read(words);
+    let answer = subtitling_reader::read(words);
     let packet = answer.packet;
-    let rows = subtitling::read_rows(words);
+    let rows = subtitling_reader::read_rows(words);
     let mut out = head(answer.refusal, packet.counter);
     let mut i = 0;
     while i < SLOTS {

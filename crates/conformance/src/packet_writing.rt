@@ -49,7 +49,7 @@ fn agrees(
     requires { ⌜ 9 + 2 * length (now out) ≤ length (now answer) ⌝ }
 {
     vectors::word_pattern(out);
-    let written = subtitling::write(packet, rows, out);
+    let written = subtitling_writer::write(packet, rows, out);
     vectors::put_refusal(answer, written.refusal);
     vectors::put_number(answer, 5, written.len);
     put_words(out, answer);

@@ -53,7 +53,7 @@ fn wide(b: u8) -> u16
 }
 
 fn list(words: &[u16]) {
-    let answer = subtitling::read(words);
+    let answer = subtitling_reader::read(words);
     let refusal = answer.refusal;
     if refusal.number != 0 {
         print::refused(refusal);
@@ -63,7 +63,7 @@ fn list(words: &[u16]) {
     print::text(b"counter ");
     print::decimal(packet.counter as u64);
     print::text(b"\nslot full line reserved field data\n");
-    list_slots(packet, subtitling::read_rows(words));
+    list_slots(packet, subtitling_reader::read_rows(words));
 }
 
 fn list_slots(packet: Packet, rows: [[u8; ROW_BYTES]; SLOTS]) {
