@@ -128,9 +128,9 @@ fn collect_into(s: &[u8], units: &mut [u8])
     requires { ⌜ length (now units) ≡ 2037 ⌝ }
     ensures { λ _. ⌜ now (units .exit) ≡ over (unitsBytes (valueOf (now (s .entry)) .units)) (now (units .entry)) ⌝ }
 {
-    let m = (s.len() - 1) / UNIT_BYTES;
+    let count = (s.len() - 1) / UNIT_BYTES;
     let mut i = 0;
-    while i < m {
+    while i < count {
         lent::put_flat(unit_at(s, 1 + UNIT_BYTES * i), LENT_UNIT * i, units);
         i += 1;
     }

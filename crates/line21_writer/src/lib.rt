@@ -88,10 +88,10 @@ fn put(flags: u8, m: usize, units: &[u8; LENT_UNITS], out: &mut [u8])
     ensures { λ _. ⌜ now (out .exit) ≡ over (layout (held (payloadIn flags m (now (units .entry))))) (now (out .entry)) ⌝ }
 {
     out[0] = flags;
-    let mut i = 0;
-    while i < m {
-        put_unit(line21::unit_in(units, i), &mut out[1 + UNIT_BYTES * i..]);
-        i += 1;
+    let mut k = 0;
+    while k < m {
+        put_unit(line21::unit_in(units, k), &mut out[1 + UNIT_BYTES * k..]);
+        k += 1;
     }
 }
 

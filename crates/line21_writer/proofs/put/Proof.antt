@@ -65,17 +65,17 @@ module _ (c : tie.At-loop Inv-loop μ-loop) where
   abbrev start : tie.Start Inv-loop μ-loop
   start = c .before .before
 
-  sized : length (front (start .args .flags) (now (start .args .units)) (c .loop .i)) ≡ 1 + 5 * c .loop .i
-  sized = length-front (start .args .flags) (now (start .args .units)) (c .loop .i) (omega (arith, writable start .few))
+  sized : length (front (start .args .flags) (now (start .args .units)) (c .loop .k)) ≡ 1 + 5 * c .loop .k
+  sized = length-front (start .args .flags) (now (start .args .units)) (c .loop .k) (omega (arith, writable start .few))
 
   kept : length (c .loop .out) ≡ length (now (start .args .out))
   kept =
       let flags = start .args .flags in
       let out = now (start .args .out) in
-      let laid = front flags (now (start .args .units)) (c .loop .i) in
+      let laid = front flags (now (start .args .units)) (c .loop .k) in
       let same = length-set out 0 flags in
       let h : length laid ≤ length (set out 0 flags) = omega (arith, sized, long start) in
-      ap length (c .loop .inv .1) ∙ length-over laid (set out 0 flags) h ∙ same
+      ap length (c .loop .knv .1) ∙ length-over laid (set out 0 flags) h ∙ same
 
 slice-write-out : tie.Need-slice-write-out Inv-loop μ-loop
 slice-write-out c = omega (arith, long (c .before))
@@ -107,14 +107,14 @@ part-put-unit-end c = omega arith
 put-unit-requires : tie.Need-put-unit-requires Inv-loop μ-loop
 put-unit-requires c κs =
     let at = c .before .before .before in
-    let i = at .loop .i in
+    let i = at .loop .k in
     let out = at .loop .out in (
       ap unitVerdict (c .before .unit-in .ensures) ∙ passed (start at) i (c .before .before .loop-test .taken),
       omega (arith, ap length (rest-whole out (1 + 5 * i)), length-drop (1 + 5 * i) out, kept at, long (start at)),
     )
 
-add-i : tie.Need-add-i Inv-loop μ-loop
-add-i c = omega (arith, writable (start (c .before .before .before .before .before .before)) .few)
+add-k : tie.Need-add-k Inv-loop μ-loop
+add-k c = omega (arith, writable (start (c .before .before .before .before .before .before)) .few)
 
 loop-less : tie.Need-loop-less Inv-loop μ-loop
 loop-less c = omega arith
@@ -124,7 +124,7 @@ loop-again c =
     let at = c .before .before .before .before .before .before in
     let flags = start at .args .flags in
     let units = now (start at .args .units) in
-    let i = at .loop .i in
+    let i = at .loop .k in
     let begun = set (now (start at .args .out)) 0 flags in
     let part = c .before .before .put-unit .last .1 .0 in
     let piece = layoutUnit (getD (unitsIn units) i blank) in
@@ -133,10 +133,10 @@ loop-again c =
     c .before .before .put-unit .ensures
     ∙ ap₂ (λ (u : AccessUnit) (xs : List ℕ). over (layoutUnit u) (take (length xs - (1 + 5 * i)) (drop (1 + 5 * i) xs)))
     (c .before .before .before .before .unit-in .ensures)
-    (at .loop .inv .1)
+    (at .loop .knv .1)
     in (
       omega arith,
-      ap (λ (xs : List ℕ). putMid (1 + 5 * i) (length xs - (1 + 5 * i)) xs part) (at .loop .inv .1)
+      ap (λ (xs : List ℕ). putMid (1 + 5 * i) (length xs - (1 + 5 * i)) xs part) (at .loop .knv .1)
           ∙ over-more (front flags units i) piece begun part (1 + 5 * i) (sized at) laid
           ∙ ap (λ (bytes : List ℕ). over (flags ∷ bytes) begun) (sym (layoutUnits-more (unitsIn units) i inside)),
     )
@@ -150,8 +150,8 @@ returns c =
     let out = now (start at .args .out) in
     let flags = start at .args .flags in
     let laid = layout (held (p (start at))) in
-    let all : at .loop .i ≡ start at .args .m = omega arith in
-    at .loop .inv .1
+    let all : at .loop .k ≡ start at .args .m = omega arith in
+    at .loop .knv .1
     ∙ ap (λ (k : ℕ). over (front flags (now (start at .args .units)) k) (set out 0 flags)) all
     ∙ ap (λ (rest : List ℕ). laid ++ rest) (drop-set-lt (length laid) out 0 flags (omega arith))
 
@@ -170,7 +170,7 @@ put-spec =
     part-put-unit-start
     part-put-unit-end
     put-unit-requires
-    add-i
+    add-k
     loop-less
     loop-again
     same-length

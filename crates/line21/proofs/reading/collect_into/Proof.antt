@@ -39,8 +39,8 @@ module _ (c : tie.At-loop Inv-loop μ-loop) where
 below : (c : tie.In-loop Inv-loop μ-loop) → c .before .loop .i < 291
 below c = omega (arith, whole (c .before .before .before .before) .most)
 
-sub-m : tie.Need-sub-m Inv-loop μ-loop
-sub-m c = omega (arith, whole (c .before .before) .exact)
+sub-count : tie.Need-sub-count Inv-loop μ-loop
+sub-count c = omega (arith, whole (c .before .before) .exact)
 
 loop-holds : tie.Need-loop-holds Inv-loop μ-loop
 loop-holds c = (omega arith, refl)
@@ -98,7 +98,7 @@ collect-into-spec =
     (tie.spec
     Inv-loop
     μ-loop
-    sub-m
+    sub-count
     loop-holds
     mul-unit-at
     add-unit-at
