@@ -3,10 +3,10 @@
 -- Assumes nothing.
 use Prim.Native.Nat.{_≤_, _-_}
 use native.Mathlib.Omega.{arith}
-use mathlib.Core.Path.{_≡_}
+use mathlib.Core.Path.{_≡_, sym}
 use borrow.Author.Needs.{needs}
 use lib.ListN.{length}
-use Rattle.io.proofs.Counting.{counts}
+use lib.Seq.{length-take-le}
 use Rattle.input.proofs.read.Statement.{statement}
 use Rattle.input.proofs.read.Tie as tie
 
@@ -17,10 +17,10 @@ abbrev μ-loop : tie.MeasureT-loop
 μ-loop buf₀ len₀ buf len = length buf - len
 
 full : tie.Need-returns-2 Inv-loop μ-loop
-full c = counts _ _ (omega arith)
+full c = (omega arith, sym (length-take-le _ _ (omega arith)))
 
 at-end : tie.Need-returns-3 Inv-loop μ-loop
-at-end c = counts _ _ (omega arith)
+at-end c = (omega arith, sym (length-take-le _ _ (omega arith)))
 
 pub read-spec : {M : Type 1} → statement M
 read-spec =
