@@ -22,7 +22,7 @@ fn main() {
     }
 }
 
-// Like all that is behind it, answers whether all was written.
+// Answers whether all was written, as the functions below do.
 fn list(payload: &[u8]) -> bool {
     let head = line21::read_head(payload);
     let refusal = head.refusal;

@@ -5,7 +5,7 @@ use libc::STDERR_FILENO;
 use scte20::CaptionUnit;
 use units::MAX_BYTES;
 
-// More than 31 records need, and a byte for the space before the first argument.
+// For 4,096 bytes of arguments, more than 31 records need, and the space before the first.
 const WORDS_ROOM: usize = 4096 + 1;
 
 fn main() {

@@ -32,7 +32,7 @@ fn main() {
     }
 }
 
-// Like all that is behind it, answers whether all was written.
+// Answers whether all was written, as the other functions that list do.
 fn list_bytes(input: &[u8]) -> bool
     requires { ⌜ length (now input) ≤ 492 ⌝ }
 {
