@@ -2,12 +2,11 @@
 // comes as words: reserved, flag and z, then each record as a line of `cclist` has it.
 ghost use Rattle.io.specs.Counts.{Counts};
 use libc::STDERR_FILENO;
-use libc::STDIN_FILENO;
 use scte20::CaptionUnit;
 use units::MAX_BYTES;
 
-// More than 31 records, in nine digits each, need.
-const WORDS_ROOM: usize = 4096;
+// For 4,096 bytes of arguments, more than 31 records need, and the space before the first.
+const WORDS_ROOM: usize = 4096 + 1;
 
 fn main() {
     let mut words = [0u8; WORDS_ROOM];
@@ -20,8 +19,18 @@ fn main() {
         );
         return;
     }
+    // One byte more than an area may have, so that longer input is noticed.
+    let mut area = [0u8; MAX_BYTES + 1];
+    let input = input::read(&mut area);
+    if !input.is_read {
+        os::fail(b"ccreplace: standard input");
+        return;
+    }
+    let len = input.len;
     let unit = told.unit;
-    replace(unit);
+    if !replace(&area[..len], unit) {
+        os::fail(b"ccreplace: standard output");
+    }
 }
 
 // Puts the arguments behind each other, with a space before each. Where they have no room, or one cannot be had, nothing is left, which tells
@@ -49,32 +58,14 @@ fn gathered(words: &mut [u8]) -> usize
     len
 }
 
-fn replace(unit: CaptionUnit) {
-    // One byte more than an area may have, so that longer input is noticed.
-    let mut input = [0u8; MAX_BYTES + 1];
-    let n = io::read_full(STDIN_FILENO, &mut input);
-    // A read that fails looks like the end of the input, and half an area must not pass for a whole one.
-    if n <= MAX_BYTES {
-        if !is_over() {
-            os::fail(b"standard input");
-            return;
-        }
-    }
+// Answers whether all of the new area, or of the refusal, was written.
+fn replace(area: &[u8], unit: CaptionUnit) -> bool {
     let mut out = [0u8; MAX_BYTES];
-    let written = picture::replace(&input[..n], unit, &mut out);
+    let written = picture::replace(area, unit, &mut out);
     let refusal = written.refusal;
     if refusal.number != 0 {
-        print::refused(refusal);
-        return;
+        return print::refused(refusal);
     }
     let len = written.len;
-    if len <= MAX_BYTES {
-        print::text(&out[..len]);
-    }
-}
-
-// Whether standard input has ended: a further read has nothing, and does not fail.
-fn is_over() -> bool {
-    let mut one = [0u8; 1];
-    libc::read(STDIN_FILENO, &mut one) == 0
+    print::text(&out[..len])
 }

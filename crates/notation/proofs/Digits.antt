@@ -1,7 +1,6 @@
 -- Words that write a number: what the code tests of them, character after character.
 -- Assumes nothing.
-use Prim.Native.Nat.{ℕ, _+_, _-_, _*_, _^_, _≤_, _<_}
-use native.Mathlib.Nat.{pow-le-pow-right, pow-suc}
+use Prim.Native.Nat.{ℕ, _+_, _-_, _*_, _≤_, _<_, min}
 use native.Mathlib.Numerals.{add-one}
 use native.Mathlib.Omega.{arith}
 use mathlib.Core.Bool.{Bool, true, false, not, _&&_, and-eq-true-iff, and-false, false≢true}
@@ -13,7 +12,7 @@ use lib.ListN.{length, getD, drop, drop-of-length-le}
 use lib.Seq.{drop-cons}
 use Rattle.notation.specs.declared.Number.{Number}
 use Rattle.notation.specs.Inside.{Reads}
-use Rattle.notation.specs.Value.{allDigits, between, decimalFrom, decimalOf, hexDigit, isDecimal, isDigit, isHex}
+use Rattle.notation.specs.Value.{allDigits, between, cappedOf, decimalFrom, hexDigit, isDecimal, isDigit, isHex}
 
 -- no number, which the code answers for a word that is none
 pub unread-reads : (isNumber : Bool) (number : ℕ) (n : Number) → n ≡ record { «is_readable» = false; value = 0 } → isNumber ≡ false → Reads isNumber number n
@@ -41,22 +40,28 @@ between-bounds low high c e =
     let both = and-eq-true-iff (not (ltb c low)) (not (ltb high c)) .0 e in
     (ltb-false c low (not-true (ltb c low) (both .0)), ltb-false high c (not-true (ltb high c) (both .1)))
 
+-- a number that is cut to the cap before a digit goes behind it, or is not
+capped-digit : (n d : ℕ) → min (min n 999999999 * 10 + d) 999999999 ≡ min (n * 10 + d) 999999999
+capped-digit n d = omega arith
+
+-- or before all digits
+capped-from : (n : ℕ) (word : List ℕ) → min (decimalFrom (min n 999999999) word) 999999999 ≡ min (decimalFrom n word) 999999999
+capped-from n [] = omega arith
+capped-from n (c ∷ word) =
+    let d = c - 0x30 in
+    sym (capped-from (min n 999999999 * 10 + d) word)
+    ∙ ap (λ (m : ℕ). min (decimalFrom m word) 999999999) (capped-digit n d)
+    ∙ capped-from (n * 10 + d) word
+
 -- a decimal word, of which the first i characters are read
 pub record Read (word : List ℕ) (value i : ℕ) : Type 0 where
   pub inside : i ≤ length word
   pub digits : allDigits word ≡ allDigits (drop i word)
-  pub number : decimalOf word ≡ decimalFrom value (drop i word)
-  pub small : value < 10 ^ i
+  pub number : cappedOf word ≡ min (decimalFrom value (drop i word)) 999999999
+  pub small : value ≤ 999999999
 
 pub read-none : (word : List ℕ) → Read word 0 0
 read-none word = record { inside = omega arith; digits = refl; number = refl; small = omega arith }
-
--- nine digits fit
-pub read-small : (word : List ℕ) (value i : ℕ) → Read word value i → i < length word → length word ≤ 9 → value < 100000000
-read-small word value i r h nine =
-    let ten : 0 < 10 = omega arith in
-    let few : i ≤ 8 = omega arith in
-    omega (arith, r .small, pow-le-pow-right ten few)
 
 module _ (word : List ℕ) (value i : ℕ) (r : Read word value i) where
   module _ (h : i < length word) where
@@ -64,16 +69,16 @@ module _ (word : List ℕ) (value i : ℕ) (r : Read word value i) where
     here = drop-cons word i 0 h ∙ ap (λ (k : ℕ). getD word i 0 ∷ drop k word) (sym (add-one i))
 
     -- one digit more
-    pub read-more : isDigit (getD word i 0) ≡ true → Read word (value * 10 + (getD word i 0 - 0x30)) (i + 1)
+    pub read-more : isDigit (getD word i 0) ≡ true → Read word (min (value * 10 + (getD word i 0 - 0x30)) 999999999) (i + 1)
     read-more is =
-        let c = getD word i 0 in
-        let most : c ≤ 57 = between-bounds 0x30 0x39 c is .1 in
-        let power : 10 ^ (i + 1) ≡ 10 ^ i * 10 = ap (λ (k : ℕ). 10 ^ k) (add-one i) ∙ pow-suc 10 i in
         record {
           inside = omega arith;
           digits = r .digits ∙ ap allDigits here ∙ ap (λ (t : Bool). t && allDigits (drop (i + 1) word)) is;
-          number = r .number ∙ ap (decimalFrom value) here;
-          small = omega (arith, r .small);
+          number =
+              r .number
+              ∙ ap (λ (rest : List ℕ). min (decimalFrom value rest) 999999999) here
+              ∙ sym (capped-from (value * 10 + (getD word i 0 - 0x30)) (drop (i + 1) word));
+          small = omega arith;
         }
 
     -- a character that is none
@@ -81,31 +86,24 @@ module _ (word : List ℕ) (value i : ℕ) (r : Read word value i) where
     unfolding isDecimal
     read-other other =
         let none : allDigits word ≡ false = r .digits ∙ ap allDigits here ∙ ap (λ (t : Bool). t && allDigits (drop (i + 1) word)) other in
-        ap (λ (t : Bool). t && (not (ltb (length word) 1) && not (ltb 9 (length word)))) none
+        ap (λ (t : Bool). t && not (ltb (length word) 1)) none
 
   -- all are read
   module _ (h : length word ≤ i) where
-    pub read-all : 1 ≤ length word → length word ≤ 9 → isDecimal word ≡ true
+    pub read-all : 1 ≤ length word → isDecimal word ≡ true
     unfolding isDecimal
-    read-all one nine =
-        ap (λ (t : Bool). t && (not (ltb (length word) 1) && not (ltb 9 (length word)))) (r .digits ∙ ap allDigits (drop-of-length-le word h))
-        ∙ ap₂ (λ (a b : Bool). not a && not b) (le-ltb (length word) 1 one) (le-ltb 9 (length word) nine)
+    read-all one =
+        ap₂ (λ (a b : Bool). a && not b) (r .digits ∙ ap allDigits (drop-of-length-le word h)) (le-ltb (length word) 1 one)
 
-    pub read-value : value ≡ decimalOf word
-    read-value = sym (r .number ∙ ap (decimalFrom value) (drop-of-length-le word h))
+    pub read-value : value ≡ cappedOf word
+    read-value =
+        let all = r .number ∙ ap (λ (rest : List ℕ). min (decimalFrom value rest) 999999999) (drop-of-length-le word h) in
+        omega (arith, all, r .small)
 
--- too few characters, and too many
+-- no character
 pub decimal-empty : (word : List ℕ) → length word < 1 → isDecimal word ≡ false
 unfolding isDecimal
-decimal-empty word h =
-    ap (λ (t : Bool). allDigits word && (not t && not (ltb 9 (length word)))) (lt-ltb (length word) 1 h) ∙ and-false (allDigits word)
-
-pub decimal-long : (word : List ℕ) → 9 < length word → isDecimal word ≡ false
-unfolding isDecimal
-decimal-long word h =
-    ap (λ (t : Bool). allDigits word && (not (ltb (length word) 1) && not t)) (lt-ltb 9 (length word) h)
-    ∙ ap (λ (t : Bool). allDigits word && t) (and-false (not (ltb (length word) 1)))
-    ∙ and-false (allDigits word)
+decimal-empty word h = ap (λ (t : Bool). allDigits word && not t) (lt-ltb (length word) 1 h) ∙ and-false (allDigits word)
 
 pub decimal-none : isDecimal [] ≡ false
 decimal-none = decimal-empty [] (omega arith)

@@ -15,7 +15,7 @@ use Rattle.notation.specs.declared.Number.{Number}
 use Rattle.notation.specs.declared.Taken.{Taken}
 use Rattle.notation.specs.declared.Word.{Word}
 use Rattle.notation.specs.Inside.{Finds, Reads, Takes, TakesEntry, TakesHead, entryOf, wordAt}
-use Rattle.notation.specs.Value.{byteOf, decimalOf, hexOf, isDecimal, isHex}
+use Rattle.notation.specs.Value.{byteOf, cappedOf, hexOf, isDecimal, isHex}
 use Rattle.notation.specs.Words.{closed, wordsOf}
 use Rattle.notation.proofs.Cutting.{words-end}
 
@@ -90,20 +90,24 @@ three a b c e =
 five : (a b c d e : Bool) → ((((a && b) && c) && d) && e) ≡ (a && (b && (c && (d && e))))
 five a b c d e = simp and-assoc
 
+-- a number is cut to the cap, and then to a byte
+byte-of : (word : List ℕ) (n b : ℕ) → b ≡ min n 255 → n ≡ cappedOf word → b ≡ byteOf word
+byte-of word n b cut capped = omega arith
+
 -- three words, and what the code makes of them
 module _ (text : List ℕ) (r f z : Taken)
-    (first : Takes isDecimal decimalOf text 0 r) (second : Takes isDecimal decimalOf text (r .end) f) (third : Takes isDecimal decimalOf text (f .end) z) where
+    (first : Takes isDecimal cappedOf text 0 r) (second : Takes isDecimal cappedOf text (r .end) f) (third : Takes isDecimal cappedOf text (f .end) z) where
   abbrev headWords : List (List ℕ)
   headWords = wordsOf text
 
-  head-0 : Tells isDecimal decimalOf text headWords 0 r
-  head-0 = tells isDecimal decimalOf text headWords 0 0 r first refl
+  head-0 : Tells isDecimal cappedOf text headWords 0 r
+  head-0 = tells isDecimal cappedOf text headWords 0 0 r first refl
 
-  head-1 : Tells isDecimal decimalOf text headWords 1 f
-  head-1 = tells isDecimal decimalOf text headWords 1 (r .end) f second (head-0 .rest)
+  head-1 : Tells isDecimal cappedOf text headWords 1 f
+  head-1 = tells isDecimal cappedOf text headWords 1 (r .end) f second (head-0 .rest)
 
-  head-2 : Tells isDecimal decimalOf text headWords 2 z
-  head-2 = tells isDecimal decimalOf text headWords 2 (f .end) z third (head-1 .rest)
+  head-2 : Tells isDecimal cappedOf text headWords 2 z
+  head-2 = tells isDecimal cappedOf text headWords 2 (f .end) z third (head-1 .rest)
 
   module _ (a b : ℕ) (ea : a ≡ min (r .value) 255) (eb : b ≡ min (f .value) 255) where
     each : ((r .«is_readable» && f .«is_readable») && z .«is_readable») ≡ true → (r .«is_readable» ≡ true) × (f .«is_readable» ≡ true) × (z .«is_readable» ≡ true)
@@ -123,8 +127,8 @@ module _ (text : List ℕ) (r f z : Taken)
           told =
               and-assoc (r .«is_readable») (f .«is_readable») (z .«is_readable»)
               ∙ (λ i. head-0 .told i && (head-1 .told i && head-2 .told i));
-          reserved = λ is. ea ∙ ap (λ (n : ℕ). min n 255) (head-0 .value (each is .0));
-          flag = λ is. eb ∙ ap (λ (n : ℕ). min n 255) (head-1 .value (each is .1));
+          reserved = λ is. byte-of (wordAt 0 headWords) (r .value) a ea (head-0 .value (each is .0));
+          flag = λ is. byte-of (wordAt 1 headWords) (f .value) b eb (head-1 .value (each is .1));
           z = λ is. head-2 .value (each is .2);
           rest = head-2 .rest;
           inside = third .inside;
@@ -132,19 +136,19 @@ module _ (text : List ℕ) (r f z : Taken)
 
 -- five words
 module _ (text : List ℕ) (at : ℕ) (p f l a b : Taken)
-    (first : Takes isDecimal decimalOf text at p) (second : Takes isDecimal decimalOf text (p .end) f) (third : Takes isDecimal decimalOf text (f .end) l)
+    (first : Takes isDecimal cappedOf text at p) (second : Takes isDecimal cappedOf text (p .end) f) (third : Takes isDecimal cappedOf text (f .end) l)
     (fourth : Takes isHex hexOf text (l .end) a) (fifth : Takes isHex hexOf text (a .end) b) where
   abbrev words : List (List ℕ)
   words = wordsOf (drop at text)
 
-  entry-0 : Tells isDecimal decimalOf text words 0 p
-  entry-0 = tells isDecimal decimalOf text words 0 at p first refl
+  entry-0 : Tells isDecimal cappedOf text words 0 p
+  entry-0 = tells isDecimal cappedOf text words 0 at p first refl
 
-  entry-1 : Tells isDecimal decimalOf text words 1 f
-  entry-1 = tells isDecimal decimalOf text words 1 (p .end) f second (entry-0 .rest)
+  entry-1 : Tells isDecimal cappedOf text words 1 f
+  entry-1 = tells isDecimal cappedOf text words 1 (p .end) f second (entry-0 .rest)
 
-  entry-2 : Tells isDecimal decimalOf text words 2 l
-  entry-2 = tells isDecimal decimalOf text words 2 (f .end) l third (entry-1 .rest)
+  entry-2 : Tells isDecimal cappedOf text words 2 l
+  entry-2 = tells isDecimal cappedOf text words 2 (f .end) l third (entry-1 .rest)
 
   entry-3 : Tells isHex hexOf text words 3 a
   entry-3 = tells isHex hexOf text words 3 (l .end) a fourth (entry-2 .rest)
@@ -171,9 +175,9 @@ module _ (text : List ℕ) (at : ℕ) (p f l a b : Taken)
     value is =
         let more = and-eq-true-iff ((p .«is_readable» && f .«is_readable») && l .«is_readable») (a .«is_readable») .0 (late is .0) in
         let early = three (p .«is_readable») (f .«is_readable») (l .«is_readable») (more .0) in
-        let px : x ≡ byteOf (wordAt 0 words) = ex ∙ ap (λ (n : ℕ). min n 255) (entry-0 .value (early .0)) in
-        let py : y ≡ byteOf (wordAt 1 words) = ey ∙ ap (λ (n : ℕ). min n 255) (entry-1 .value (early .1)) in
-        let pz : z ≡ byteOf (wordAt 2 words) = ez ∙ ap (λ (n : ℕ). min n 255) (entry-2 .value (early .2)) in
+        let px : x ≡ byteOf (wordAt 0 words) = byte-of (wordAt 0 words) (p .value) x ex (entry-0 .value (early .0)) in
+        let py : y ≡ byteOf (wordAt 1 words) = byte-of (wordAt 1 words) (f .value) y ey (entry-1 .value (early .1)) in
+        let pz : z ≡ byteOf (wordAt 2 words) = byte-of (wordAt 2 words) (l .value) z ez (entry-2 .value (early .2)) in
         let pa : a .value ≡ hexOf (wordAt 3 words) = entry-3 .value (more .1) in
         let pb : b .value ≡ hexOf (wordAt 4 words) = entry-4 .value (late is .1) in
         λ i. record { «cc_priority» = px i; «field_number» = record { 0 = py i }; «line_offset» = pz i; «cc_data_1» = pa i; «cc_data_2» = pb i }

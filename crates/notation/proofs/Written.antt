@@ -12,8 +12,7 @@ use lib.ListN.{length, length-append}
 use Rattle.lists.specs.Each.{Each}
 use Rattle.lists.proofs.Below.{below}
 use Rattle.listing.specs.Texts.{decimal, digit, digitsBefore, digitsOf, hex}
-use Rattle.listing.proofs.Digits.{digits-few}
-use Rattle.notation.specs.Value.{allDigits, byteOf, decimalFrom, decimalOf, hexDigit, hexOf, isDecimal, isDigit, isHex}
+use Rattle.notation.specs.Value.{allDigits, byteOf, cappedOf, decimalFrom, decimalOf, hexDigit, hexOf, isDecimal, isDigit, isHex}
 use Rattle.notation.specs.Words.{isSpace, wordsOf}
 use Rattle.notation.proofs.Cutting.{cut-space, words-space, words-word}
 use Rattle.notation.proofs.Digits.{between-bounds}
@@ -90,7 +89,9 @@ digits-some k n = go (ltb n 10)
 digit-space : (c : ℕ) → isDigit c ≡ true → isSpace c ≡ false
 digit-space c is =
     let bounds = between-bounds 0x30 0x39 c is in
-    ap₂ (λ (a b : Bool). a || b) (ne-eqb c 0x20 (λ e. omega arith)) (ne-eqb c 0x0A (λ e. omega arith))
+    ap₂ (λ (a b : Bool). a || b)
+    (ap₂ (λ (a b : Bool). a || b) (ne-eqb c 0x20 (λ e. omega arith)) (ne-eqb c 0x09 (λ e. omega arith)))
+    (ne-eqb c 0x0A (λ e. omega arith))
 
 digits-spaces : (word : List ℕ) → allDigits word ≡ true → Each (λ (c : ℕ). isSpace c ≡ false) word
 digits-spaces [] h = tt
@@ -100,15 +101,16 @@ digits-spaces (c ∷ word) h = let both = and-eq-true-iff (isDigit c) (allDigits
 module _ (n : ℕ) (h : n < 1000000000) where
   pub decimal-is : isDecimal (decimal n) ≡ true
   unfolding isDecimal decimal
-  decimal-is =
-      ap₂ (λ (a b : Bool). a && b) (digits-are 20 n)
-      (ap₂ (λ (a b : Bool). not a && not b)
-      (le-ltb (length (digitsOf 20 n)) 1 (digits-some 19 n))
-      (le-ltb 9 (length (digitsOf 20 n)) (digits-few 20 8 n (omega arith))))
+  decimal-is = ap₂ (λ (a b : Bool). a && not b) (digits-are 20 n) (le-ltb (length (digitsOf 20 n)) 1 (digits-some 19 n))
 
-  pub decimal-value : decimalOf (decimal n) ≡ n
+  decimal-number : decimalOf (decimal n) ≡ n
   unfolding decimal
-  decimal-value = digits-write 20 n (omega arith)
+  decimal-number = digits-write 20 n (omega arith)
+
+  pub decimal-value : cappedOf (decimal n) ≡ n
+  decimal-value =
+      let small : n ≤ 999999999 = omega arith in
+      ap (λ (m : ℕ). min m 999999999) decimal-number ∙ min-eq-left small
 
   pub decimal-next : (s : ℕ) (rest : List ℕ) → isSpace s ≡ true → wordsOf (decimal n ++ (s ∷ rest)) ≡ decimal n ∷ wordsOf rest
   unfolding decimal
@@ -120,7 +122,7 @@ byte-is n h = decimal-is n (omega arith)
 pub byte-value : (n : ℕ) → n < 256 → byteOf (decimal n) ≡ n
 byte-value n h =
     let small : n ≤ 255 = omega arith in
-    ap (λ (m : ℕ). min m 255) (decimal-value n (omega arith)) ∙ min-eq-left small
+    ap (λ (m : ℕ). min m 255) (decimal-number n (omega arith)) ∙ min-eq-left small
 
 pub byte-next : (n : ℕ) → n < 256 → (s : ℕ) (rest : List ℕ) → isSpace s ≡ true → wordsOf (decimal n ++ (s ∷ rest)) ≡ decimal n ∷ wordsOf rest
 byte-next n h s rest e = decimal-next n (omega arith) s rest e

@@ -16,7 +16,7 @@ use Rattle.notation.specs.declared.Number.{Number}
 use Rattle.notation.specs.declared.Taken.{Taken}
 use Rattle.notation.specs.declared.Word.{Word}
 use Rattle.notation.specs.Words.{closed, isSpace, wordsOf}
-use Rattle.notation.specs.Value.{areRecords, byteOf, decimalOf, isDecimal, isRecord, recordOf, recordsOf}
+use Rattle.notation.specs.Value.{areRecords, byteOf, cappedOf, isDecimal, isRecord, recordOf, recordsOf}
 
 -- from `at` on, r is the first character that is no space, or the end: no word is passed
 pub record Skips (text : List ℕ) (at r : ℕ) : Type 0 where
@@ -73,7 +73,7 @@ pub record TakesHead (text : List ℕ) (h : Head) : Type 0 where
   pub told : h .«is_readable» ≡ (isDecimal (wordAt 0 (wordsOf text)) && (isDecimal (wordAt 1 (wordsOf text)) && isDecimal (wordAt 2 (wordsOf text))))
   pub reserved : h .«is_readable» ≡ true → h .reserved ≡ byteOf (wordAt 0 (wordsOf text))
   pub flag : h .«is_readable» ≡ true → h .«vbi_data_flag» ≡ byteOf (wordAt 1 (wordsOf text))
-  pub z : h .«is_readable» ≡ true → h .z ≡ decimalOf (wordAt 2 (wordsOf text))
+  pub z : h .«is_readable» ≡ true → h .z ≡ cappedOf (wordAt 2 (wordsOf text))
   pub rest : wordsOf (drop (h .end) text) ≡ drop 3 (wordsOf text)
   pub inside : h .end ≤ length text
 

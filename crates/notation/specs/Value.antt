@@ -24,9 +24,9 @@ abbrev pub allDigits : List ℕ → Bool
 allDigits [] = true
 allDigits (c ∷ word) = isDigit c && allDigits word
 
--- one to nine digits
+-- one digit or more
 unfoldable pub isDecimal : List ℕ → Bool
-isDecimal word = allDigits word && (not (ltb (length word) 1) && not (ltb 9 (length word)))
+isDecimal word = allDigits word && not (ltb (length word) 1)
 
 -- the number that digits write behind those before them
 abbrev pub decimalFrom : ℕ → List ℕ → ℕ
@@ -39,6 +39,10 @@ decimalOf word = decimalFrom 0 word
 -- what a byte of the struct can hold: a larger number becomes 255, which no item of a unit's value allows
 abbrev pub byteOf : List ℕ → ℕ
 byteOf word = min (decimalOf word) 255
+
+-- what is told of z, which has no end in the struct: a larger number becomes 999,999,999, which no z may be
+abbrev pub cappedOf : List ℕ → ℕ
+cappedOf word = min (decimalOf word) 999999999
 
 abbrev pub choose : Bool → ℕ → ℕ → ℕ
 choose true a b = a
@@ -103,7 +107,7 @@ toldWords [] = unreadable
 toldWords (r ∷ []) = unreadable
 toldWords (r ∷ f ∷ []) = unreadable
 toldWords (r ∷ f ∷ z ∷ words) =
-    toldIf (isDecimal r && (isDecimal f && (isDecimal z && areRecords words))) (unitOf (byteOf r) (byteOf f) (decimalOf z) (recordsOf words))
+    toldIf (isDecimal r && (isDecimal f && (isDecimal z && areRecords words))) (unitOf (byteOf r) (byteOf f) (cappedOf z) (recordsOf words))
 
 abbrev pub toldOf : List ℕ → Told
 toldOf text = toldWords (wordsOf text)

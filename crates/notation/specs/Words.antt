@@ -1,12 +1,12 @@
--- The words of a text: its characters between spaces and line feeds.
+-- The words of a text: its characters between spaces, tabs and line feeds.
 use Prim.Native.Nat.{ℕ}
 use mathlib.Core.Bool.{Bool, true, false, _||_}
 use mathlib.Core.List.{List, [], _∷_}
 use lib.Dec.{eqb}
 
--- a space, a line feed
+-- a space, a tab, a line feed
 abbrev pub isSpace : ℕ → Bool
-isSpace c = eqb c 0x20 || eqb c 0x0A
+isSpace c = (eqb c 0x20 || eqb c 0x09) || eqb c 0x0A
 
 -- the word that a text begins in, and those behind it
 pub record Cut : Type 0 where

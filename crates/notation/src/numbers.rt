@@ -4,17 +4,18 @@ ghost use mathlib.Core.Bool.{false};
 ghost use Prim.Native.Nat.{_≤_, min};
 ghost use lib.ListN.{length};
 ghost use Rattle.notation.specs.Inside.{Reads, ReadsByte, Takes, TakesByte};
-ghost use Rattle.notation.specs.Value.{between, decimalOf, hexDigit, hexOf, isDecimal, isHex};
+ghost use Rattle.notation.specs.Value.{between, cappedOf, hexDigit, hexOf, isDecimal, isHex};
 use crate::Number;
 use crate::Taken;
 use crate::words;
 
-const MAX_DIGITS: usize = 9;
+// No number of a unit's value is as large: a larger one becomes this.
+const CAP: usize = 999_999_999;
 
 // The next word of a text from `at` on, in decimal.
 pub(crate) fn decimal_at(text: &[u8], at: usize) -> Taken
     requires { ⌜ at ≤ length (now text) ⌝ }
-    ensures { λ r. ⌜ Takes isDecimal decimalOf (now (text .entry)) at r ⌝ }
+    ensures { λ r. ⌜ Takes isDecimal cappedOf (now (text .entry)) at r ⌝ }
 {
     let word = words::next(text, at);
     let start = word.start;
@@ -50,14 +51,11 @@ pub(crate) fn byte(n: usize) -> u8
     if n < 255 { n as u8 } else { 255 }
 }
 
-// One to nine digits.
+// One digit or more.
 fn decimal(word: &[u8]) -> Number
-    ensures { λ r. ⌜ Reads (isDecimal (now (word .entry))) (decimalOf (now (word .entry))) r ⌝ }
+    ensures { λ r. ⌜ Reads (isDecimal (now (word .entry))) (cappedOf (now (word .entry))) r ⌝ }
 {
     if word.len() < 1 {
-        return unread();
-    }
-    if MAX_DIGITS < word.len() {
         return unread();
     }
     let mut value = 0;
@@ -67,13 +65,20 @@ fn decimal(word: &[u8]) -> Number
         if !between(b'0', b'9', c) {
             return unread();
         }
-        value = value * 10 + (c - b'0') as usize;
+        value = capped(value * 10 + (c - b'0') as usize);
         i += 1;
     }
     Number {
         is_readable: true,
         value,
     }
+}
+
+// What is held of a number: a larger one becomes the cap.
+fn capped(n: usize) -> usize
+    ensures { λ r. ⌜ r ≡ min n 999999999 ⌝ }
+{
+    if n < CAP { n } else { CAP }
 }
 
 // Two hex digits.

@@ -49,5 +49,5 @@ fn ended(text: &[u8], at: usize) -> usize
 fn is_space(c: u8) -> bool
     ensures { λ r. ⌜ r ≡ isSpace c ⌝ }
 {
-    c == b' ' || c == b'\n'
+    c == b' ' || c == b'\t' || c == b'\n'
 }

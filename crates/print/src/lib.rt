@@ -1,34 +1,33 @@
 // What the programs print, to standard output.
 //
-// Each function answers nothing, and a write that fails is not reported: a program that cannot print
-// has nowhere to say so.
+// Each function answers whether all of it was written, and stops at the first write that was not. Then `os::fail` called next says why.
 ghost use mathlib.Core.Path.{_≡_};
 ghost use Prim.Native.Nat.{_%_};
 ghost use Rattle.print.specs.Digits.{digitOf};
 use libc::STDOUT_FILENO;
 use refusal::Refusal;
 
-pub fn text(bytes: &[u8]) {
-    io::write_all(STDOUT_FILENO, bytes);
+pub fn text(bytes: &[u8]) -> bool {
+    io::write_all(STDOUT_FILENO, bytes)
 }
 
-pub fn decimal(n: u64) {
-    io::print_decimal(STDOUT_FILENO, n);
+pub fn decimal(n: u64) -> bool {
+    io::print_decimal(STDOUT_FILENO, n)
 }
 
 // A byte as two upper-case hex digits.
-pub fn hex(b: u8) {
+pub fn hex(b: u8) -> bool {
     let digits = [digit(b / 16), digit(b)];
-    text(&digits);
+    text(&digits)
 }
 
 // A refusal and a line feed.
-pub fn refused(r: Refusal) {
-    text(b"refused ");
-    decimal(r.number as u64);
-    text(b" at ");
-    decimal(r.place as u64);
-    text(b"\n");
+pub fn refused(r: Refusal) -> bool {
+    text(b"refused ")
+        && decimal(r.number as u64)
+        && text(b" at ")
+        && decimal(r.place as u64)
+        && text(b"\n")
 }
 
 // The character of the hex digit that d is, modulo 16.

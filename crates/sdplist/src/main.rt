@@ -2,7 +2,7 @@
 // one first.
 ghost use Prim.Native.Nat.{_≤_, _<_};
 ghost use lib.ListN.{length};
-use libc::STDIN_FILENO;
+use libc::STDERR_FILENO;
 use refusal::Item;
 use refusal::Reason;
 use refusal::Verdict;
@@ -16,15 +16,32 @@ use subtitling::MAX_WORDS;
 const ROOM: usize = MAX_WORDS + 1;
 
 fn main() {
-    let mut input = [0u8; 2 * ROOM];
-    let n = io::read_full(STDIN_FILENO, &mut input);
-    let words = words_of(&input[..n]);
-    let count = n / 2;
-    if n % 2 == 0 {
-        list(&words[..count]);
-    } else {
-        refuse_half(count);
+    if 1 < os::arg_count() {
+        io::write_all(STDERR_FILENO, b"usage: sdplist <PACKET\n");
+        return;
     }
+    let mut bytes = [0u8; 2 * ROOM];
+    let input = input::read(&mut bytes);
+    if !input.is_read {
+        os::fail(b"sdplist: standard input");
+        return;
+    }
+    let n = input.len;
+    if !list_bytes(&bytes[..n]) {
+        os::fail(b"sdplist: standard output");
+    }
+}
+
+// Answers whether all was written, as the other functions that list do.
+fn list_bytes(input: &[u8]) -> bool
+    requires { ⌜ length (now input) ≤ 492 ⌝ }
+{
+    let words = words_of(input);
+    let count = input.len() / 2;
+    if input.len() % 2 == 0 {
+        return list(&words[..count]);
+    }
+    refuse_half(count)
 }
 
 // The words that the bytes write, zeros after them.
@@ -41,9 +58,9 @@ fn words_of(input: &[u8]) -> [u16; ROOM]
 }
 
 // Half a word after the last whole one: the input ends before the next byte.
-fn refuse_half(count: usize) {
+fn refuse_half(count: usize) -> bool {
     let verdict = Verdict::Refused(Reason::Ends, Item::Length(count));
-    print::refused(refusal::told(verdict));
+    print::refused(refusal::told(verdict))
 }
 
 fn wide(b: u8) -> u16
@@ -52,57 +69,60 @@ fn wide(b: u8) -> u16
     b as u16
 }
 
-fn list(words: &[u16]) {
+fn list(words: &[u16]) -> bool {
     let answer = subtitling_reader::read(words);
     let refusal = answer.refusal;
     if refusal.number != 0 {
-        print::refused(refusal);
-        return;
+        return print::refused(refusal);
     }
     let packet = answer.packet;
-    print::text(b"counter ");
-    print::decimal(packet.counter as u64);
-    print::text(b"\nslot full line reserved field data\n");
-    list_slots(packet, subtitling_reader::read_rows(words));
+    print::text(b"counter ")
+        && print::decimal(packet.counter as u64)
+        && print::text(b"\nslot full line reserved field data\n")
+        && list_slots(packet, subtitling_reader::read_rows(words))
 }
 
-fn list_slots(packet: Packet, rows: [[u8; ROW_BYTES]; SLOTS]) {
+fn list_slots(packet: Packet, rows: [[u8; ROW_BYTES]; SLOTS]) -> bool {
     let mut i = 0;
     while i < SLOTS {
         let slot = packet.slots[i];
         let row = rows[i];
-        print::decimal(i as u64);
-        list_slot(slot, row);
+        if !print::decimal(i as u64) {
+            return false;
+        }
+        if !list_slot(slot, row) {
+            return false;
+        }
         i += 1;
     }
+    true
 }
 
 // An empty slot has no data to list.
-fn list_slot(slot: Slot, row: [u8; ROW_BYTES]) {
-    spaced(slot.full);
-    spaced(slot.line);
-    spaced(slot.reserved);
-    spaced(slot.field.0);
-    if slot.full != 0 {
-        list_row(row);
-    }
-    print::text(b"\n");
+fn list_slot(slot: Slot, row: [u8; ROW_BYTES]) -> bool {
+    spaced(slot.full)
+        && spaced(slot.line)
+        && spaced(slot.reserved)
+        && spaced(slot.field.0)
+        && (slot.full == 0 || list_row(row))
+        && print::text(b"\n")
 }
 
-fn list_row(row: [u8; ROW_BYTES]) {
+fn list_row(row: [u8; ROW_BYTES]) -> bool {
     let mut i = 0;
     while i < ROW_BYTES {
-        spaced_hex(row[i]);
+        if !spaced_hex(row[i]) {
+            return false;
+        }
         i += 1;
     }
+    true
 }
 
-fn spaced(n: u8) {
-    print::text(b" ");
-    print::decimal(n as u64);
+fn spaced(n: u8) -> bool {
+    print::text(b" ") && print::decimal(n as u64)
 }
 
-fn spaced_hex(b: u8) {
-    print::text(b" ");
-    print::hex(b);
+fn spaced_hex(b: u8) -> bool {
+    print::text(b" ") && print::hex(b)
 }

@@ -2,7 +2,7 @@
 -- Assumes nothing.
 use borrow.Author.Needs.{needs}
 use denote.Ref.{now}
-use Rattle.notation.specs.Value.{decimalOf, isDecimal}
+use Rattle.notation.specs.Value.{cappedOf, isDecimal}
 use Rattle.notation.proofs.Digits.{decimal-none}
 use Rattle.notation.proofs.Taking.{takes}
 use Rattle.notation.proofs.numbers.decimal_at.Statement.{statement}
@@ -12,7 +12,7 @@ returns : tie.Need-returns
 returns c =
     let found = c .before .before in
     let args = found .before .before .args in
-    takes (now (args .text)) (args .at) (found .next .result) (found .next .ensures) isDecimal decimalOf (c .decimal .result) (c .decimal .ensures) decimal-none
+    takes (now (args .text)) (args .at) (found .next .result) (found .next .ensures) isDecimal cappedOf (c .decimal .result) (c .decimal .ensures) decimal-none
 
 pub decimal-at-spec : {M : Type 1} → statement M
 decimal-at-spec =
