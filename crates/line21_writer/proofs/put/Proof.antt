@@ -75,7 +75,7 @@ module _ (c : tie.At-loop Inv-loop μ-loop) where
       let laid = front flags (now (start .args .units)) (c .loop .k) in
       let same = length-set out 0 flags in
       let h : length laid ≤ length (set out 0 flags) = omega (arith, sized, long start) in
-      ap length (c .loop .knv .1) ∙ length-over laid (set out 0 flags) h ∙ same
+      ap length (c .loop .inv .1) ∙ length-over laid (set out 0 flags) h ∙ same
 
 slice-write-out : tie.Need-slice-write-out Inv-loop μ-loop
 slice-write-out c = omega (arith, long (c .before))
@@ -133,10 +133,10 @@ loop-again c =
     c .before .before .put-unit .ensures
     ∙ ap₂ (λ (u : AccessUnit) (xs : List ℕ). over (layoutUnit u) (take (length xs - (1 + 5 * i)) (drop (1 + 5 * i) xs)))
     (c .before .before .before .before .unit-in .ensures)
-    (at .loop .knv .1)
+    (at .loop .inv .1)
     in (
       omega arith,
-      ap (λ (xs : List ℕ). putMid (1 + 5 * i) (length xs - (1 + 5 * i)) xs part) (at .loop .knv .1)
+      ap (λ (xs : List ℕ). putMid (1 + 5 * i) (length xs - (1 + 5 * i)) xs part) (at .loop .inv .1)
           ∙ over-more (front flags units i) piece begun part (1 + 5 * i) (sized at) laid
           ∙ ap (λ (bytes : List ℕ). over (flags ∷ bytes) begun) (sym (layoutUnits-more (unitsIn units) i inside)),
     )
@@ -151,7 +151,7 @@ returns c =
     let flags = start at .args .flags in
     let laid = layout (held (p (start at))) in
     let all : at .loop .k ≡ start at .args .m = omega arith in
-    at .loop .knv .1
+    at .loop .inv .1
     ∙ ap (λ (k : ℕ). over (front flags (now (start at .args .units)) k) (set out 0 flags)) all
     ∙ ap (λ (rest : List ℕ). laid ++ rest) (drop-set-lt (length laid) out 0 flags (omega arith))
 
