@@ -18,7 +18,7 @@ pub fn judge_record(last: Last, r: Record, at: u32) -> Verdict
     let at = at as usize;
     let before = last.field_number.0;
     let field = r.field_number.0;
-    if field == 0 {
+    if field < 1 {
         return Verdict::Refused(Reason::FieldNumberZero, Item::Bit(at + 2));
     }
     if field < before {

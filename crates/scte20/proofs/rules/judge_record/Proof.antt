@@ -1,9 +1,9 @@
 -- `scte20::rules::judge_record` meets its contract: at each return the tests that led there pick that check of `lastVerdict`.
 -- Assumes nothing.
-use Prim.Native.Nat.{_+_}
+use Prim.Native.Nat.{ℕ, _+_, _≤_, _<_}
 use native.Mathlib.Omega.{arith}
 use mathlib.Core.Path.{_≡_}
-use mathlib.Core.Bool.{not, _&&_, and-false}
+use mathlib.Core.Bool.{true, false, not, _&&_, and-false}
 use mathlib.Core.List.{[], _∷_}
 use borrow.Author.Tests.{eq-eqb, ne-eqb, lt-ltb, le-ltb}
 use lib.Dec.{eqb, ltb}
@@ -15,20 +15,27 @@ use Rattle.scte20.specs.Inside.{lastVerdict}
 use Rattle.scte20.proofs.rules.judge_record.Statement.{statement}
 use Rattle.scte20.proofs.rules.judge_record.Tie as tie
 
+-- a field below 1 is 0, and no other is
+none : (f : ℕ) → f < 1 → eqb f 0 ≡ true
+none f h = eq-eqb f 0 (omega arith)
+
+some : (f : ℕ) → 1 ≤ f → eqb f 0 ≡ false
+some f h = ne-eqb f 0 (λ e. omega arith)
+
 zero : tie.Need-returns
 unfolding lastVerdict
-zero c = simp (eq-eqb _ _ (c .if1 .taken))
+zero c = simp (none (fieldOf (c .before .args .r)) (c .if1 .taken))
 
 falls : tie.Need-returns-2
 unfolding lastVerdict
-falls c = simp (ne-eqb _ _ (c .before .if1 .left), lt-ltb _ _ (c .if2 .taken))
+falls c = let args = c .before .before .args in simp (some (fieldOf (args .r)) (c .before .if1 .left), lt-ltb _ _ (c .if2 .taken))
 
 rises : tie.Need-returns-3
 unfolding lastVerdict
 rises c =
     let args = c .before .before .before .args in
     let other : args .last .«field_number» .0 ≡ fieldOf (args .r) → ⊥ = λ e. omega arith in
-    simp (ne-eqb _ _ (c .before .before .if1 .left), le-ltb _ _ (c .before .if2 .left), ne-eqb _ _ other, and-false)
+    simp (some (fieldOf (args .r)) (c .before .before .if1 .left), le-ltb _ _ (c .before .if2 .left), ne-eqb _ _ other, and-false)
 
 -- past the tests of the field it is the same, and two checks are left
 same-field : (c : tie.Else3)
@@ -42,7 +49,7 @@ unfolding lastVerdict
 same-field c =
     let args = c .before .before .before .args in
     let same : args .last .«field_number» .0 ≡ fieldOf (args .r) = omega arith in
-    simp (ne-eqb _ _ (c .before .before .if1 .left), le-ltb _ _ (c .before .if2 .left), eq-eqb _ _ same)
+    simp (some (fieldOf (args .r)) (c .before .before .if1 .left), le-ltb _ _ (c .before .if2 .left), eq-eqb _ _ same)
 
 stays : tie.Need-returns-4
 stays c = simp (same-field (c .before .before .before), le-ltb _ _ (c .if4 .taken))
