@@ -1,11 +1,8 @@
 // SCTE 20 caption content: what a caption unit of a picture's user data holds behind its start code.
 //
 // Normative references: document 01, "Picture area"; document 001, 5.4 to 5.8.
-mod judging;
 mod lent;
-mod rules;
 
-pub use judging::judge_value;
 pub use lent::bytes_of;
 pub use lent::nothing;
 pub use lent::numbers_of;
@@ -13,9 +10,6 @@ pub use lent::put_record;
 pub use lent::record_in;
 pub use lent::unit_of;
 use refusal::Verdict;
-pub use rules::after;
-pub use rules::first;
-pub use rules::judge_record;
 
 pub const MAX_RECORDS: usize = 31;
 

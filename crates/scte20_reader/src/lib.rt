@@ -136,7 +136,7 @@ fn read_constructs(body: &[u8], n: usize, records: &mut [u8; LENT_RECORDS]) -> V
     requires { ⌜ length (now records) ≡ 155 ⌝ }
     ensures { λ r. ⌜ Runs (now (body .entry)) n (now (records .entry)) r (now (records .exit)) ⌝ }
 {
-    let mut last = scte20::first();
+    let mut last = scte20_rules::first();
     let mut i = 0;
     while i < n {
         let at = CONSTRUCTS + CONSTRUCT_BITS * i;
@@ -145,7 +145,7 @@ fn read_constructs(body: &[u8], n: usize, records: &mut [u8; LENT_RECORDS]) -> V
         }
         let construct = bits::peek(body, at, CONSTRUCT_BITS as u32);
         let record = record_of(construct);
-        let verdict = scte20::judge_record(last, record, at as u32);
+        let verdict = scte20_rules::judge_record(last, record, at as u32);
         if let Verdict::Refused(_, _) = verdict {
             return verdict;
         }
@@ -153,7 +153,7 @@ fn read_constructs(body: &[u8], n: usize, records: &mut [u8; LENT_RECORDS]) -> V
             return Verdict::Refused(Reason::Unfixed(Fixed::Marker), Item::Bit(at + 25));
         }
         scte20::put_record(record, i, records);
-        last = scte20::after(last, record);
+        last = scte20_rules::after(last, record);
         i += 1;
     }
     Verdict::Accepted

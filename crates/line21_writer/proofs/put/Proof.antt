@@ -109,7 +109,7 @@ put-unit-requires c κs =
     let at = c .before .before .before in
     let i = at .loop .k in
     let out = at .loop .out in (
-      ap unitVerdict (c .before .unit-in .ensures) ∙ passed (start at) i (c .before .before .loop-test .taken),
+      ap unitVerdict (c .before .unit-in .ensures) ∙ passed (start at) i (omega (arith, c .before .before .loop-test .taken)),
       omega (arith, ap length (rest-whole out (1 + 5 * i)), length-drop (1 + 5 * i) out, kept at, long (start at)),
     )
 

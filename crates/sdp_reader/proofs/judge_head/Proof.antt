@@ -114,7 +114,7 @@ number : tie.Need-returns-7
 number c =
     let user = user-of (c .before .before) in
     let u = map byteOf user in
-    let ne : length u ≡ userLength (structuresIn u) → ⊥ = λ e. c .if6 .taken (omega (arith, length-map user byteOf, c .before .structures .ensures)) in
+    let ne : length u ≡ userLength (structuresIn u) → ⊥ = λ e. omega (arith, c .if6 .taken, length-map user byteOf, c .before .structures .ensures) in
     sym (reached (c .before .before) ∙ simp (ne-eqb (length u) (userLength (structuresIn u)) ne))
 
 accepted : tie.Need-returns-8

@@ -2,21 +2,20 @@
 ghost use mathlib.Core.Path.{_≡_};
 ghost use Prim.Native.Nat.{_<_};
 ghost use mathlib.Core.List.{[]};
 ghost use Rattle.scte20.specs.Lent.{unitIn};
 ghost use Rattle.scte20.specs.Writing.{wholeVerdict, rangeVerdict, valueVerdict};
-use crate::CONSTRUCT_BITS;
-use crate::CONSTRUCTS;
-use crate::LENT_RECORDS;
-use crate::MAX_BYTES;
-use crate::MAX_RECORDS;
-use crate::Numbers;
-use crate::Record;
-use crate::lent;
 use crate::rules;
 use refusal::Excess;
 use refusal::Item;
 use refusal::Reason;
 use refusal::Verdict;
+use scte20::CONSTRUCT_BITS;
+use scte20::CONSTRUCTS;
+use scte20::LENT_RECORDS;
+use scte20::MAX_BYTES;
+use scte20::MAX_RECORDS;
+use scte20::Numbers;
+use scte20::Record;
 
 // The value's own checks: those of the whole value, then each record's before the next.
 pub fn judge_value(v: Numbers, records: &[u8; LENT_RECORDS]) -> Verdict
@@ -29,7 +28,7 @@ pub fn judge_value(v: Numbers, records: &[u8; LENT_RECORDS]) -> Verdict
     let mut last = rules::first();
     let mut i = 0;
     while i < v.n {
-        let record = lent::record_in(records, i);
+        let record = scte20::record_in(records, i);
         let at = CONSTRUCTS + CONSTRUCT_BITS * i;
         let range = judge_range(record, at);
         if let Verdict::Refused(_, _) = range {

@@ -2,14 +2,14 @@
 ghost use mathlib.Core.Path.{_≡_};
 ghost use Prim.Native.Nat.{_+_, min};
 ghost use mathlib.Core.List.{[]};
 ghost use Rattle.scte20.specs.Value.{one};
 ghost use Rattle.scte20.specs.Inside.{lastOf, lastAfter, lastVerdict};
-use crate::DisplayField;
-use crate::Last;
-use crate::Record;
 use refusal::Item;
 use refusal::Reason;
 use refusal::Verdict;
+use scte20::DisplayField;
+use scte20::Last;
+use scte20::Record;
 
 // 7, 8 and 9 of a record whose construct begins at bit `at`.
 pub fn judge_record(last: Last, r: Record, at: u32) -> Verdict

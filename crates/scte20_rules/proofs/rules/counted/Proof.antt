@@ -1,11 +1,11 @@
--- `scte20::rules::counted` meets its contract: the test of four, then that of one more, are those of `min`.
+-- `scte20_rules::rules::counted` meets its contract: the test of four, then that of one more, are those of `min`.
 -- Assumes nothing.
 use native.Mathlib.Omega.{arith}
 use mathlib.Core.Path.{ap}
 use borrow.Author.Needs.{needs}
 use Rattle.scte20.specs.Value.{one}
-use Rattle.scte20.proofs.rules.counted.Statement.{statement}
-use Rattle.scte20.proofs.rules.counted.Tie as tie
+use Rattle.scte20_rules.proofs.rules.counted.Statement.{statement}
+use Rattle.scte20_rules.proofs.rules.counted.Tie as tie
 
 more : tie.Need-returns-2
 more c = omega (arith, c .before .if1 .left, ap one (c .if2 .taken))

@@ -1,13 +1,13 @@
--- `scte20::judging::judge_whole` meets its contract: at each return the tests that led there pick that check of `wholeVerdict`.
+-- `scte20_rules::judging::judge_whole` meets its contract: at each return the tests that led there pick that check of `wholeVerdict`.
 -- Assumes nothing.
 use mathlib.Core.Path.{_≡_, ap, ap₂}
 use mathlib.Core.Logic.{⊎-elim}
 use mathlib.Core.Bool.{Bool, false, not, _&&_}
 use borrow.Author.Tests.{eq-eqb, ne-eqb, lt-ltb, le-ltb}
 use lib.Dec.{eqb}
 use Rattle.scte20.specs.Writing.{wholeVerdict}
-use Rattle.scte20.proofs.judging.judge_whole.Statement.{statement}
-use Rattle.scte20.proofs.judging.judge_whole.Tie as tie
+use Rattle.scte20_rules.proofs.judging.judge_whole.Statement.{statement}
+use Rattle.scte20_rules.proofs.judging.judge_whole.Tie as tie
 
 count : tie.Need-returns
 unfolding wholeVerdict

@@ -1,4 +1,4 @@
--- `scte20::judging::judge_value` meets its contract. The loop's invariant: i records are judged and accepted, and `last` is what counts of them.
+-- `scte20_rules::judging::judge_value` meets its contract. The loop's invariant: i records are judged and accepted, and `last` is what counts of them.
 -- Assumes nothing.
 use Prim.Native.Nat.{ℕ, _+_, _-_, _*_, _≤_, _<_}
 use native.Mathlib.Omega.{arith}
@@ -11,19 +11,19 @@ use lib.Seq.{getD-take}
 use Rattle.refusal.specs.declared.Verdict.the-variants.{Accepted}
 use Rattle.refusal.specs.Checks.{andThen}
 use Rattle.refusal.proofs.Checks.{refused-first, accepted-first}
 use Rattle.scte20.specs.declared.Record.{Record}
 use Rattle.scte20.specs.declared.Last.{Last}
 use Rattle.scte20.specs.declared.Numbers.{Numbers}
 use Rattle.scte20.specs.declared.CaptionUnit.{CaptionUnit}
 use Rattle.scte20.specs.Value.{blank, held}
 use Rattle.scte20.specs.Lent.{unitIn}
 use Rattle.scte20.specs.Inside.{lastVerdict}
 use Rattle.scte20.specs.Writing.{wholeVerdict, rangeVerdict, recordsVerdict, valueVerdict}
 use Rattle.scte20.proofs.Lending.{lent-length}
 use Rattle.scte20.proofs.Holding.{whole-accepted, length-held}
 use Rattle.scte20.proofs.Judged.{Judging, judging-first, records-here, judging-next, judging-accepted}
-use Rattle.scte20.proofs.judging.judge_value.Statement.{statement}
-use Rattle.scte20.proofs.judging.judge_value.Tie as tie
+use Rattle.scte20_rules.proofs.judging.judge_value.Statement.{statement}
+use Rattle.scte20_rules.proofs.judging.judge_value.Tie as tie
 
 abbrev Inv-loop : tie.InvT-loop
 Inv-loop v records last₀ i₀ last i = Judging (held (unitIn v records) .records) last i

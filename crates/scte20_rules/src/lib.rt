@@ -1,0 +1,10 @@
+// The rules over SCTE 20 records, which reading and writing share, and whether a value can be written.
+//
+// Normative references: document 01, "Picture area" and "Which refusal comes first"; document 001, 5.8.
+mod judging;
+mod rules;
+
+pub use judging::judge_value;
+pub use rules::after;
+pub use rules::first;
+pub use rules::judge_record;
