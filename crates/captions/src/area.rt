@@ -39,7 +39,7 @@ pub extern "C" fn captions_unit_write(
 ) -> Written
     ensures { λ r. ⌜ Writes (unitIn (numbersIn reserved «vbi_data_flag» n z) (now (records .entry))) (now (out .entry)) r (now (out .exit)) ⌝ }
 {
-    picture::write_from(numbers_of(reserved, vbi_data_flag, n, z), records, out)
+    picture_writer::write_from(numbers_of(reserved, vbi_data_flag, n, z), records, out)
 }
 
 // Writes an area with another caption unit at the front of out.
@@ -55,7 +55,7 @@ pub extern "C" fn captions_area_replace(
 ) -> Written
     ensures { λ r. ⌜ Replaces (now (area .entry)) (unitIn (numbersIn reserved «vbi_data_flag» n z) (now (records .entry))) (now (out .entry)) r (now (out .exit)) ⌝ }
 {
-    picture::replace_from(
+    picture_writer::replace_from(
         area,
         numbers_of(reserved, vbi_data_flag, n, z),
         records,

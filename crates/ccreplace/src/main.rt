@@ -61,7 +61,7 @@ fn gathered(words: &mut [u8]) -> usize
 // Answers whether all of the new area, or of the refusal, was written.
 fn replace(area: &[u8], unit: CaptionUnit) -> bool {
     let mut out = [0u8; MAX_BYTES];
-    let written = picture::replace(area, unit, &mut out);
+    let written = picture_writer::replace(area, unit, &mut out);
     let refusal = written.refusal;
     if refusal.number != 0 {
         return print::refused(refusal);

@@ -87,8 +87,8 @@ fn agrees(
 // A unit by itself has no use for the area.
 fn written_by(call: Call, unit: CaptionUnit, area: &[u8], out: &mut [u8]) -> Written {
     match call {
-        Call::Write => picture::write(unit, out),
-        Call::Replace => picture::replace(area, unit, out),
+        Call::Write => picture_writer::write(unit, out),
+        Call::Replace => picture_writer::replace(area, unit, out),
     }
 }
 

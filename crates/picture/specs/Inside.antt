@@ -1,5 +1,6 @@
--- What private functions promise each other. No theorem for a signer speaks of it.
+-- What functions promise each other on the way to an answer. No theorem for a signer speaks of it.
 use Prim.Native.Nat.{ℕ, _≤_}
+use mathlib.Core.Path.{_≡_}
 use mathlib.Core.List.{List}
 use lib.ListN.{length}
 use Rattle.refusal.specs.declared.Item.{Item}
@@ -12,6 +13,9 @@ use Rattle.scte20.specs.declared.CaptionUnit.{CaptionUnit}
 use Rattle.scte20.specs.Value.{held, Typed}
 use Rattle.scte20.specs.Writing.{writeVerdict}
 use Rattle.picture.specs.declared.Spot.{Spot}
+use Rattle.picture.specs.declared.Old.{Old}
+use Rattle.picture.specs.Reading.{captionsIn}
+use Rattle.picture.specs.Lent.{ReadsInto}
 use Rattle.picture.specs.Writing.{unitBytes, exchanged}
 
 -- an item that begins not far behind the end of a body, so that its bit in an area is a number that the code holds
@@ -28,6 +32,11 @@ spotOf (Refused reason item) len = record { start = len; end = len }
 spotOf Nowhere len = record { start = len; end = len }
 spotOf (At unit end) len = record { start = unit; end = end }
 spotOf (Many k) len = record { start = len; end = len }
+
+-- the promise of `read_old`: that of `read_into`, and the place of the new unit
+pub record ReadsOld (s lent : List ℕ) (r : Old) (exit : List ℕ) : Type 0 where
+  pub head : ReadsInto s lent (record { refusal = r .refusal; present = r .present; numbers = r .numbers }) exit
+  pub place : r .spot ≡ spotOf (captionsIn s) (length s)
 
 -- what `exchange` answers and leaves: the new area is judged as a whole
 pub record Exchanges (s : List ℕ) (start end : ℕ) (u : CaptionUnit) (out : List ℕ) (answer : Written) (exit : List ℕ) : Type 0 where

@@ -2,17 +2,13 @@
 //
 // Normative references: document 01, "Picture area"; document 001, 5.7.
 mod reading;
-mod writing;
 
 pub use reading::read;
 pub use reading::read_into;
+pub use reading::read_old;
 use refusal::Refusal;
 use scte20::CaptionUnit;
 use scte20::Numbers;
-pub use writing::replace;
-pub use writing::replace_from;
-pub use writing::write;
-pub use writing::write_from;
 
 // What `read` answers: whether a caption unit stands in the area, and its value; or a refusal. Where no caption
 // unit stands, and in a refusal, all else is zero.
@@ -30,7 +26,15 @@ pub struct Head {
 }
 
 // Which bytes of an area give way to a new unit: those from `start` up to `end`.
-struct Spot {
-    start: usize,
-    end: usize,
+pub struct Spot {
+    pub start: usize,
+    pub end: usize,
+}
+
+// What `read_old` answers: what `read_into` does, and where a new unit goes.
+pub struct Old {
+    pub refusal: Refusal,
+    pub present: bool,
+    pub numbers: Numbers,
+    pub spot: Spot,
 }

@@ -5,9 +5,11 @@ ghost use mathlib.Core.List.{[]};
 ghost use Rattle.units.specs.declared.Found.the-variants.{At};
 ghost use Rattle.picture.specs.Reading.{answerOf, captionsIn, placedItem, Reads};
 ghost use Rattle.picture.specs.Lent.{headOf, ReadsInto};
-ghost use Rattle.picture.specs.Inside.{Near};
+ghost use Rattle.picture.specs.Inside.{Near, spotOf, ReadsOld};
 use crate::Answer;
 use crate::Head;
+use crate::Old;
+use crate::Spot;
 use kind::Kind;
 use refusal::Item;
 use refusal::Reason;
@@ -40,8 +42,41 @@ pub fn read_into(s: &[u8], records: &mut [u8; LENT_RECORDS]) -> Head
     head_of(s, units::scan(s, Kind::Scte20), records)
 }
 
+// Reads an area for one who puts another caption unit into it: the old unit's numbers as `read_into` answers them, and which bytes give way.
+pub fn read_old(s: &[u8], records: &mut [u8; LENT_RECORDS]) -> Old
+    ensures { λ r. ⌜ ReadsOld (now (s .entry)) (now (records .entry)) r (now (records .exit)) ⌝ }
+{
+    let found = units::scan(s, Kind::Scte20);
+    let head = head_of(s, found, records);
+    let spot = spot_of(found, s.len());
+    let refusal = head.refusal;
+    let numbers = head.numbers;
+    Old {
+        refusal,
+        present: head.present,
+        numbers,
+        spot,
+    }
+}
+
+// Where the new unit goes: in the place of the only one that was found, else behind the last byte.
+fn spot_of(found: Found, len: usize) -> Spot
+    ensures { λ r. ⌜ r ≡ spotOf found len ⌝ }
+{
+    let behind = Spot {
+        start: len,
+        end: len,
+    };
+    match found {
+        Found::At { unit, end } => Spot { start: unit, end },
+        Found::Nowhere => behind,
+        Found::Refused(_, _) => behind,
+        Found::Many(_) => behind,
+    }
+}
+
 // The answer, from what the search for caption units found.
-pub(crate) fn head_of(s: &[u8], found: Found, records: &mut [u8; LENT_RECORDS]) -> Head
+fn head_of(s: &[u8], found: Found, records: &mut [u8; LENT_RECORDS]) -> Head
     requires { ⌜ captionsIn (now s) ≡ found ⌝ }
     ensures { λ r. ⌜ ReadsInto (now (s .entry)) (now (records .entry)) r (now (records .exit)) ⌝ }
 {

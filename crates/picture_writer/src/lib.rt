@@ -1,19 +1,17 @@
-// Writing a caption unit, and putting one into an area.
+// Writing a caption unit, and putting one into a picture's user data area.
+//
+// Normative references: document 01, "Picture area" and "Which refusal comes first"; document 001, 5.7.
 ghost use mathlib.Core.Path.{_≡_};
 ghost use Prim.Native.Nat.{_≤_};
 ghost use lib.ListN.{length};
 ghost use Rattle.lists.specs.Room.{over};
 ghost use Rattle.scte20.specs.Lent.{unitIn};
 ghost use Rattle.picture.specs.Writing.{Writes, Replaces};
-ghost use Rattle.picture.specs.Inside.{spotOf, Exchanges};
-use crate::Spot;
-use crate::reading;
-use kind::Kind;
+ghost use Rattle.picture.specs.Inside.{Exchanges};
 use refusal::Written;
 use scte20::CaptionUnit;
 use scte20::LENT_RECORDS;
 use scte20::Numbers;
-use units::Found;
 use units::START_BYTES;
 
 // Writes a unit, with its start code and its stuffing, at the front of out.
@@ -55,32 +53,15 @@ pub fn replace(s: &[u8], unit: CaptionUnit, out: &mut [u8]) -> Written
 pub fn replace_from(s: &[u8], v: Numbers, records: &[u8; LENT_RECORDS], out: &mut [u8]) -> Written
     ensures { λ r. ⌜ Replaces (now (s .entry)) (unitIn v (now (records .entry))) (now (out .entry)) r (now (out .exit)) ⌝ }
 {
-    let found = units::scan(s, Kind::Scte20);
     let mut kept = [0; LENT_RECORDS];
-    let old = reading::head_of(s, found, &mut kept);
+    let old = picture::read_old(s, &mut kept);
     let refusal = old.refusal;
     if refusal.number != 0 {
         lists::known(records);
         return Written { refusal, len: 0 };
     }
-    let spot = spot_of(found, s.len());
+    let spot = old.spot;
     exchange(s, spot.start, spot.end, v, records, out)
-}
-
-// Where the new unit goes: in the place of the only one that was found, else behind the last byte.
-fn spot_of(found: Found, len: usize) -> Spot
-    ensures { λ r. ⌜ r ≡ spotOf found len ⌝ }
-{
-    let behind = Spot {
-        start: len,
-        end: len,
-    };
-    match found {
-        Found::At { unit, end } => Spot { start: unit, end },
-        Found::Nowhere => behind,
-        Found::Refused(_, _) => behind,
-        Found::Many(_) => behind,
-    }
 }
 
 // Writes the area with the unit in place of the bytes from `start` up to `end`.

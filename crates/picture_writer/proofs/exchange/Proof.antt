@@ -1,4 +1,4 @@
--- `picture::writing::exchange` meets its contract: around the body that was written come the area's front, the start code and the area's rest.
+-- `picture_writer::exchange` meets its contract: around the body that was written come the area's front, the start code and the area's rest.
 -- Assumes nothing.
 use Prim.Native.Nat.{ℕ, _+_, _-_, _≤_}
 use native.Mathlib.Omega.{arith}
@@ -16,11 +16,11 @@ use Rattle.scte20.specs.declared.CaptionUnit.{CaptionUnit}
 use Rattle.scte20.specs.Value.{held}
 use Rattle.scte20.specs.Layout.{layout}
 use Rattle.scte20.specs.Lent.{unitIn}
 use Rattle.picture.specs.Writing.{unitBytes, exchanged}
 use Rattle.picture.proofs.Laying.{length-fronted, length-opened, opened, closed}
 use Rattle.picture.proofs.Wholes.{Judged, whole-refused, body-there, whole-fits, whole-laid}
-use Rattle.picture.proofs.writing.exchange.Statement.{statement}
-use Rattle.picture.proofs.writing.exchange.Tie as tie
+use Rattle.picture_writer.proofs.exchange.Statement.{statement}
+use Rattle.picture_writer.proofs.exchange.Tie as tie
 
 -- the new value, the area's front, the new body, the area's rest, and the output with the body in it
 abbrev unit : tie.Start → CaptionUnit

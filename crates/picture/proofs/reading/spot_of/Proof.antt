@@ -1,11 +1,11 @@
--- `picture::writing::spot_of` meets its contract: each arm is a case of `spotOf`.
+-- `picture::reading::spot_of` meets its contract: each arm is a case of `spotOf`.
 -- Assumes nothing.
 use mathlib.Core.Path.{ap, sym}
 use borrow.Author.Needs.{needs}
 use Rattle.units.specs.declared.Found.{Found}
 use Rattle.picture.specs.Inside.{spotOf}
-use Rattle.picture.proofs.writing.spot_of.Statement.{statement}
-use Rattle.picture.proofs.writing.spot_of.Tie as tie
+use Rattle.picture.proofs.reading.spot_of.Statement.{statement}
+use Rattle.picture.proofs.reading.spot_of.Tie as tie
 
 one : tie.Need-returns
 one c = let start = c .before .before .before in ap (λ (f : Found). spotOf f (start .args .len)) (sym (c .before .found .given .1))

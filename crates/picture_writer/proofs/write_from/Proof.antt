@@ -1,4 +1,4 @@
--- `picture::writing::write_from` meets its contract: before the body that was written the start code makes the unit.
+-- `picture_writer::write_from` meets its contract: before the body that was written the start code makes the unit.
 -- Assumes nothing.
 use Prim.Native.Nat.{_+_, _≤_}
 use native.Mathlib.Omega.{arith}
@@ -11,11 +11,11 @@ use Rattle.scte20.specs.declared.CaptionUnit.{CaptionUnit}
 use Rattle.scte20.specs.Value.{held}
 use Rattle.scte20.specs.Layout.{layout}
 use Rattle.scte20.specs.Lent.{unitIn}
 use Rattle.picture.specs.Writing.{unitBytes}
 use Rattle.picture.proofs.Laying.{started-over}
 use Rattle.picture.proofs.Wholes.{Judged, whole-refused, body-there, whole-fits, whole-laid}
-use Rattle.picture.proofs.writing.write_from.Statement.{statement}
-use Rattle.picture.proofs.writing.write_from.Tie as tie
+use Rattle.picture_writer.proofs.write_from.Statement.{statement}
+use Rattle.picture_writer.proofs.write_from.Tie as tie
 
 -- the value that is written
 abbrev unit : tie.Start → CaptionUnit
