@@ -1,0 +1,28 @@
+-- An order of checks as one list: what a list in parts means, and that a check is reached only where those before it accept.
+-- Assumes nothing.
+use mathlib.Core.Path.{_≡_, _∙_, ap, ap₂, sym, refl}
+use mathlib.Core.List.{List, [], _∷_, _++_, map}
+use Rattle.refusal.specs.declared.Verdict.{Verdict}
+use Rattle.refusal.specs.declared.Verdict.the-variants.{Accepted, Refused}
+use Rattle.refusal.specs.Checks.{andThen, first}
+use Rattle.refusal.specs.Order.{eachOf}
+use Rattle.refusal.proofs.Checks.{andThen-assoc}
+
+-- a list in two parts: the first part decides, unless it accepts
+pub first-append : (xs ys : List Verdict) → first (xs ++ ys) ≡ andThen (first xs) (first ys)
+first-append [] ys = refl
+first-append (x ∷ xs) ys = ap (λ (v : Verdict). andThen x v) (first-append xs ys) ∙ sym (andThen-assoc x (first xs) (first ys))
+
+-- one check of each element, made of several, is the list of all of them
+pub first-each : {A : Type 0} (checks : A → List Verdict) (xs : List A) → first (map (λ (x : A). first (checks x)) xs) ≡ first (eachOf checks xs)
+first-each checks [] = refl
+first-each checks (x ∷ xs) =
+    ap (λ (v : Verdict). andThen (first (checks x)) v) (first-each checks xs) ∙ sym (first-append (checks x) (eachOf checks xs))
+
+then-agree : (check next other : Verdict) → (check ≡ Accepted → next ≡ other) → andThen check next ≡ andThen check other
+then-agree Accepted next other h = h refl
+then-agree (Refused reason item) next other h = refl
+
+-- two ends of a list that agree wherever what stands before them accepts
+pub first-agree : (xs ys zs : List Verdict) → (first xs ≡ Accepted → first ys ≡ first zs) → first (xs ++ ys) ≡ first (xs ++ zs)
+first-agree xs ys zs h = first-append xs ys ∙ then-agree (first xs) (first ys) (first zs) h ∙ sym (first-append xs zs)
