@@ -1,6 +1,6 @@
 -- The theorems of the Line 21 payload (document 01, demands 1 to 3). What they speak of is defined in specs/: a value and when it is legal in
 -- Value; its bytes in Layout, without the reader; what reading answers in Reading; what writing answers and leaves in Writing; its units as bytes
--- in a lent array in Lent.
+-- in a lent array in Lent; all checks in 01's sequence, as one list for reading and one for writing, in Order.
 --
 -- The contracts of `read`, `read_head`, `read_unit`, `read_into` and `write` are the promises `Reads`, `ReadsHead`, `ReadsUnit`, `ReadsInto` and
 -- `Writes`. `Reads s r` says that r is the answer to the bytes s, and `Writes p out r exit` that writing p to an output that held `out` answers r
@@ -18,6 +18,8 @@ use Rattle.lists.specs.Room.{over}
 use Rattle.refusal.specs.declared.Refusal.{Refusal}
 use Rattle.refusal.specs.declared.Written.{Written}
 use Rattle.refusal.specs.declared.Verdict.{Verdict}
+use Rattle.refusal.specs.Checks.{first}
+use Rattle.refusal.specs.Numbers.{refusalOf}
 use Rattle.refusal.specs.Answers.{lentOf}
 use Rattle.refusal.proofs.Outputs.{wrote-accepted, accepted-wrote, wrote-refusal, success-left, refusal-left, wrote-determined}
 use Rattle.line21.specs.declared.AccessUnit.{AccessUnit}
@@ -30,11 +32,13 @@ use Rattle.line21.specs.Layout.{layout}
 use Rattle.line21.specs.Reading.{lengthVerdict, valueOf, readOf, headOf, Reads, ReadsHead, ReadsUnit}
 use Rattle.line21.specs.Writing.{valueVerdict, Writes}
 use Rattle.line21.specs.Lent.{unitsBytes, unitsIn, payloadIn, ReadsInto}
-use Rattle.line21.proofs.Answers.{held-stored, accepted-verdict, refused-nothing, shown-one}
+use Rattle.line21.specs.Order.{readingChecks, writingChecks}
+use Rattle.line21.proofs.Answers.{held-stored, told, accepted-verdict, refused-nothing, shown-one}
 use Rattle.line21.proofs.Back.{value-layout, length-layout, read-layout, read-legal, read-stored}
 use Rattle.line21.proofs.Numbers.{accepted-value, value-accepted, units-accepted, checked-legal, legal-writable}
 use Rattle.line21.proofs.Fifteen.{illegal-15}
 use Rattle.line21.proofs.LentUnits.{payload-held, refused-lent}
+use Rattle.line21.proofs.Order as order
 
 -- number and place 0
 abbrev accepted : Refusal
@@ -87,6 +91,14 @@ accepted-whole-units s r p some within whole =
     ap (λ (a : Answer). a .refusal) (p .answer)
     ∙ simp (ne-eqb (length s) 0 (omega arith), le-ltb 1456 (length s) within, eq-eqb ((length s - 1) % 5) 0 whole)
 
+-- The checks stand in 01's sequence, 2, 1, 13, one line of `readingChecks` each: the first that finds a fault decides,
+pub reading-order : (s : List ℕ) → lengthVerdict (length s) ≡ first (readingChecks s)
+reading-order = order.reading-order
+
+-- and the answer tells its number.
+pub read-first : (s : List ℕ) (r : Answer) → Reads s r → r .refusal ≡ refusalOf (first (readingChecks s))
+read-first s r p = ap (λ (a : Answer). a .refusal) (p .answer) ∙ told (lengthVerdict (length s)) (valueOf s) ∙ ap refusalOf (reading-order s)
+
 -- A refusal holds no units.
 pub refused-zero : (s : List ℕ) (r : Answer) → Reads s r → (r .refusal .number ≡ 0 → ⊥) → r .payload ≡ stored none
 refused-zero s r p h =
@@ -126,6 +138,15 @@ writes-exactly p out r exit w = (
 pub written-front : (p : Payload) (out : List ℕ) (r : Written) (exit : List ℕ) → Writes p out r exit → r .refusal .number ≡ 0
     → (r ≡ record { refusal = accepted; len = length (layout (held p)) }) × (exit ≡ over (layout (held p)) out)
 written-front p out r exit w e = success-left _ _ _ _ _ (w .wrote) (wrote-accepted _ _ _ _ _ (w .wrote) e)
+
+-- The checks stand in 01's sequence: 15 of the whole value, 15 of each access unit in order, 1, 14. The first in `writingChecks` that finds a fault
+-- decides,
+pub writing-order : (p : Payload) (room : ℕ) → valueVerdict p room ≡ first (writingChecks p room)
+writing-order = order.writing-order
+
+-- and the answer tells its number.
+pub write-first : (p : Payload) (out : List ℕ) (r : Written) (exit : List ℕ) → Writes p out r exit → r .refusal ≡ refusalOf (first (writingChecks p (length out)))
+write-first p out r exit w = wrote-refusal _ _ _ _ _ (w .wrote) ∙ ap refusalOf (writing-order p (length out))
 
 -- A value that is not legal is refused with 15.
 pub illegal-refused : (p : Payload) (out : List ℕ) (r : Written) (exit : List ℕ) → Writes p out r exit → (LegalPayload p → ⊥) → r .refusal ≡ refused 15
