@@ -9,4 +9,5 @@ pub mod Rules
 pub mod Beside
 pub mod Types
 pub mod Blank
+pub mod Order
 pub mod Theorems
