@@ -19,10 +19,11 @@ first-each checks [] = refl
 first-each checks (x ∷ xs) =
     ap (λ (v : Verdict). andThen (first (checks x)) v) (first-each checks xs) ∙ sym (first-append (checks x) (eachOf checks xs))
 
-then-agree : (check next other : Verdict) → (check ≡ Accepted → next ≡ other) → andThen check next ≡ andThen check other
-then-agree Accepted next other h = h refl
-then-agree (Refused reason item) next other h = refl
+-- what comes after a check matters only where it accepts
+pub andThen-agree : (check next other : Verdict) → (check ≡ Accepted → next ≡ other) → andThen check next ≡ andThen check other
+andThen-agree Accepted next other h = h refl
+andThen-agree (Refused reason item) next other h = refl
 
 -- two ends of a list that agree wherever what stands before them accepts
 pub first-agree : (xs ys zs : List Verdict) → (first xs ≡ Accepted → first ys ≡ first zs) → first (xs ++ ys) ≡ first (xs ++ zs)
-first-agree xs ys zs h = first-append xs ys ∙ then-agree (first xs) (first ys) (first zs) h ∙ sym (first-append xs zs)
+first-agree xs ys zs h = first-append xs ys ∙ andThen-agree (first xs) (first ys) (first zs) h ∙ sym (first-append xs zs)

@@ -10,4 +10,5 @@ pub mod Beside
 pub mod Types
 pub mod Blank
 pub mod Order
+pub mod Fifteen
 pub mod Theorems

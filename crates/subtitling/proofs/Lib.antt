@@ -7,4 +7,5 @@ pub mod Held
 pub mod HeldStructures
 pub mod Pieces
 pub mod Illegal
+pub mod Order
 pub mod Theorems
