@@ -1,11 +1,11 @@
 pub mod Numbers
 pub mod Rows
 pub mod Accepted
+pub mod Order
 pub mod Packets
 pub mod Back
 pub mod Held
 pub mod HeldStructures
 pub mod Pieces
 pub mod Illegal
-pub mod Order
 pub mod Theorems

@@ -44,7 +44,7 @@ outerChecks s =
     ∷ refuseIf (not (eqb (byteOf (getD s 5 0)) (length s - 7))) (Unfit DataCount) (Word 5)
     ∷ [])))
 
--- the user words, which are the sixth and all that follow it before CS, and CS
+-- the user words, which begin at word 6, and CS
 abbrev pub innerChecks : List ℕ → List Verdict
 innerChecks s =
     -- 6: 51, 15
