@@ -1,5 +1,5 @@
 pub mod Folds
 pub mod Words
 pub mod Judged
-pub mod Order
+pub mod Sequence
 pub mod Theorems

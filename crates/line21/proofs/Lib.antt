@@ -7,5 +7,5 @@ pub mod Fifteen
 pub mod Answers
 pub mod LentUnits
 pub mod Back
-pub mod Order
+pub mod Sequence
 pub mod Theorems

@@ -38,7 +38,7 @@ use Rattle.line21.proofs.Back.{value-layout, length-layout, read-layout
 use Rattle.line21.proofs.Numbers.{accepted-value, value-accepted, units-accepted, checked-legal, legal-writable}
 use Rattle.line21.proofs.Fifteen.{illegal-15}
 use Rattle.line21.proofs.LentUnits.{payload-held, refused-lent}
-use Rattle.line21.proofs.Order as order
+use Rattle.line21.proofs.Sequence as sequence
 
 -- number and place 0
 abbrev accepted : Refusal
@@ -93,7 +93,7 @@ accepted-whole-units s r p some within whole =
 
 -- The checks stand in 01's sequence, 2, 1, 13, one line of `readingChecks` each: the first that finds a fault decides,
 pub reading-order : (s : List ℕ) → lengthVerdict (length s) ≡ first (readingChecks s)
-reading-order = order.reading-order
+reading-order = sequence.reading-order
 
 -- and the answer tells its number.
 pub read-first : (s : List ℕ) (r : Answer) → Reads s r → r .refusal ≡ refusalOf (first (readingChecks s))
@@ -142,7 +142,7 @@ written-front p out r exit w e = success-left _ _ _ _ _ (w .wrote) (wrote-accept
 -- The checks stand in 01's sequence: 15 of the whole value, 15 of each access unit in order, 1, 14. The first in `writingChecks` that finds a fault
 -- decides,
 pub writing-order : (p : Payload) (room : ℕ) → valueVerdict p room ≡ first (writingChecks p room)
-writing-order = order.writing-order
+writing-order = sequence.writing-order
 
 -- and the answer tells its number.
 pub write-first : (p : Payload) (out : List ℕ) (r : Written) (exit : List ℕ) → Writes p out r exit → r .refusal ≡ refusalOf (first (writingChecks p (length out)))

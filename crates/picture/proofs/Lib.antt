@@ -7,4 +7,5 @@ pub mod Laying
 pub mod Wholes
 pub mod Spots
 pub mod Replaced
+pub mod Sequence
 pub mod Theorems

@@ -30,7 +30,7 @@ use Rattle.sdp.proofs.Accepted.{accepted-head, accepted-tail}
 use Rattle.sdp.proofs.Rules.{Users, sum-user, user-accepted, value-user, user-back}
 use Rattle.sdp.proofs.Fifteen.{Holdable, NoLine}
 use Rattle.sdp.proofs.Fifteen as fifteen
-use Rattle.sdp.proofs.Order as order
+use Rattle.sdp.proofs.Sequence as sequence
 
 -- a number of 01, and no place
 abbrev refused : ℕ → Refusal
@@ -80,7 +80,7 @@ holdable-exactly x row = (accepted-slot x row, slot-accepted x)
 
 -- Its checks stand in 01's sequence: the first in `slotChecks` (specs/Order) that finds a fault decides.
 pub slot-order : (x : SlotRow) → slotVerdict x ≡ first (slotChecks x)
-slot-order = order.slot-order
+slot-order = sequence.slot-order
 
 -- A slot gets 15 exactly where one of its numbers cannot be held or it is unwritable,
 pub slot-15 : (x : SlotRow) → refusalOf (slotVerdict x) ≡ refused 15 ↔ (Holdable x → ⊥)

@@ -1,7 +1,7 @@
 pub mod Numbers
 pub mod Rows
 pub mod Accepted
-pub mod Order
+pub mod Sequence
 pub mod Packets
 pub mod Back
 pub mod Held

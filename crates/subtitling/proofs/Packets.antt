@@ -18,7 +18,7 @@ use Rattle.sdp.specs.User.{userVerdict}
 use Rattle.subtitling.specs.Reading.{coveredIn, userIn, lastOf, formVerdict, headerVerdict, checksumVerdict, packetVerdict}
 use Rattle.subtitling.proofs.Numbers.{length-packet}
 use Rattle.subtitling.proofs.Accepted.{Whole}
-use Rattle.subtitling.proofs.Order.{length-user}
+use Rattle.subtitling.proofs.Sequence.{length-user}
 
 -- LAID, THEN READ
 

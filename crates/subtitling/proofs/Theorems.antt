@@ -48,7 +48,7 @@ use Rattle.sdp.proofs.Theorems as sdp
 use Rattle.subtitling.proofs.Numbers.{length-layout, accepted-value, value-accepted}
 use Rattle.subtitling.proofs.Back.{layout-accepted, value-layout, packet-legal}
 use Rattle.subtitling.proofs.Illegal.{Is15or7, illegal-15-or-7}
-use Rattle.subtitling.proofs.Order as order
+use Rattle.subtitling.proofs.Sequence as sequence
 
 -- number and place 0
 abbrev accepted : Refusal
@@ -103,7 +103,7 @@ refused-in-order s r p = ap (λ (a : Answer). a .refusal) p
 -- LENGTH 13; format 6; each descriptor 7; DC against k 13; the structures' fixed bytes and the footer 6; SDP checksum 12; CS 12. The first that finds a
 -- fault decides,
 pub reading-order : (s : List ℕ) → packetVerdict s ≡ first (readingChecks s)
-reading-order = order.reading-order
+reading-order = sequence.reading-order
 
 -- and the answer tells its number.
 pub read-first : (s : List ℕ) (r : Answer) → Reads s r → r .refusal ≡ refusalOf (first (readingChecks s))
@@ -201,7 +201,7 @@ written-front p rows out r exit w e = success-left _ _ _ _ _ (w .wrote) (wrote-a
 -- The checks stand in 01's sequence: 15 of the counter; each slot in order 15, 15 for an unwritable one, 7; 1; 14. The first in `writingChecks` that
 -- finds a fault decides,
 pub writing-order : (v : Sdp) (room : ℕ) → valueVerdict v room ≡ first (writingChecks v room)
-writing-order = order.writing-order
+writing-order = sequence.writing-order
 
 -- and the answer tells its number.
 pub write-first : (p : Packet) (rows : List (List ℕ)) (out : List ℕ) (r : Written) (exit : List ℕ) → Writes p rows out r exit
@@ -212,7 +212,7 @@ write-first p rows out r exit w = wrote-refusal _ _ _ _ _ (w .wrote) ∙ ap refu
 module _ (p : Packet) (rows : List (List ℕ)) (out : List ℕ) (r : Written) (exit : List ℕ) (w : Writes p rows out r exit) (few : p .counter ≤ 65535)
     (before : List SlotRow) (x : SlotRow) (after : List SlotRow) (here : held p rows .slots ≡ before ++ (x ∷ after)) (passed : Each LegalSlot before) where
   pub slot-decides : (slotVerdict x ≡ Accepted → ⊥) → r .refusal ≡ refusalOf (slotVerdict x)
-  slot-decides refused = wrote-refusal _ _ _ _ _ (w .wrote) ∙ ap refusalOf (order.slot-next (held p rows) (length out) few before x after here passed refused)
+  slot-decides refused = wrote-refusal _ _ _ _ _ (w .wrote) ∙ ap refusalOf (sequence.slot-next (held p rows) (length out) few before x after here passed refused)
 
   -- 15 where one of its numbers cannot be held or it is unwritable,
   pub slot-15 : (Holdable x → ⊥) → r .refusal ≡ refused 15
@@ -220,7 +220,7 @@ module _ (p : Packet) (rows : List (List ℕ)) (out : List ℕ) (r : Written) (e
 
   -- so for a full one with line 0, reserved 0, even field, and for an empty one that holds anything else,
   pub unwritable-15 : ((x .slot .full ≡ 1) × (descriptor (x .slot) ≡ 0)) ⊎ ((x .slot .full ≡ 0) × (x ≡ emptyRow → ⊥)) → r .refusal ≡ refused 15
-  unwritable-15 h = slot-15 (sdp.slot-15 x .0 (sdp.unwritable-15 x (order.slot-row p rows (w .typed) before x after here) h))
+  unwritable-15 h = slot-15 (sdp.slot-15 x .0 (sdp.unwritable-15 x (sequence.slot-row p rows (w .typed) before x after here) h))
 
   -- and else 7 where its line is 1 to 5 or 23 to 31.
   pub slot-7 : Holdable x → NoLine (x .slot .line) → r .refusal ≡ refused 7

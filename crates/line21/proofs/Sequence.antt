@@ -6,7 +6,7 @@ use mathlib.Core.List.{List, []}
 use lib.ListN.{length}
 use Rattle.refusal.specs.Checks.{first}
 use Rattle.refusal.proofs.Checks.{andThen-last}
-use Rattle.refusal.proofs.Order.{first-append, first-each}
+use Rattle.refusal.proofs.Sequence.{first-append, first-each}
 use Rattle.line21.specs.declared.Payload.{Payload}
 use Rattle.line21.specs.Value.{held}
 use Rattle.line21.specs.Reading.{lengthVerdict}

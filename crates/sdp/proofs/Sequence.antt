@@ -6,7 +6,7 @@ use mathlib.Core.List.{List, [], _∷_}
 use lib.ListN.{drop}
 use Rattle.refusal.specs.Checks.{first}
 use Rattle.refusal.proofs.Checks.{andThen-assoc}
-use Rattle.refusal.proofs.Order.{first-each}
+use Rattle.refusal.proofs.Sequence.{first-each}
 use Rattle.sdp.specs.Value.{SlotRow}
 use Rattle.sdp.specs.User.{lineVerdict, descriptorsVerdict, structureVerdict, structuresVerdict}
 use Rattle.sdp.specs.Holdable.{slotVerdict, slotsVerdict}

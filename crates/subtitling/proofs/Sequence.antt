@@ -14,15 +14,15 @@ use Rattle.refusal.specs.declared.Verdict.{Verdict}
 use Rattle.refusal.specs.declared.Verdict.the-variants.{Accepted}
 use Rattle.refusal.specs.Checks.{andThen, first}
 use Rattle.refusal.proofs.Checks.{andThen-assoc, andThen-last, andThen-accepted, andThen-refused}
-use Rattle.refusal.proofs.Order.{first-append, andThen-agree, first-refused}
+use Rattle.refusal.proofs.Sequence.{first-append, andThen-agree, first-refused}
 use Rattle.anc.specs.Words.{byteOf}
-use Rattle.anc.proofs.Order.{words-order, sum-order}
+use Rattle.anc.proofs.Sequence.{words-order, sum-order}
 use Rattle.sdp.specs.declared.Packet.{Packet}
 use Rattle.sdp.specs.Value.{SlotRow, Sdp, LegalSlot, held, Row, Typed}
 use Rattle.sdp.specs.User.{headVerdict, tailVerdict, userVerdict}
 use Rattle.sdp.specs.Holdable.{slotVerdict, slotsVerdict}
 use Rattle.sdp.proofs.Numbers.{slot-accepted, RowSlot, each-beside}
-use Rattle.sdp.proofs.Order.{descriptors-order, structures-order, slots-order}
+use Rattle.sdp.proofs.Sequence.{descriptors-order, structures-order, slots-order}
 use Rattle.subtitling.specs.Reading.{userIn, formVerdict, headerVerdict, checksumVerdict, packetVerdict}
 use Rattle.subtitling.specs.Writing.{valueVerdict}
 use Rattle.subtitling.specs.Order.{outerChecks, innerChecks, readingChecks, writingChecks}
