@@ -1,19 +1,16 @@
 -- The definitions of reading, writing and replacing check in 01's sequence.
 -- Assumes nothing.
-use Prim.Native.Nat.{ℕ, suc, _+_, _≤_}
+use Prim.Native.Nat.{ℕ, _+_, _≤_, _<_}
 use native.Mathlib.Omega.{arith}
 use mathlib.Core.Path.{_≡_, _∙_, ap, ap₂, sym, subst, refl}
 use mathlib.Core.Bool.{Bool, true, false}
 use mathlib.Core.List.{List, [], _∷_, _++_, map, append-nil}
-use borrow.Author.Tests.{lt-ltb, le-ltb}
+use borrow.Author.Tests.{lt-ltb}
 use lib.Dec.{ltb}
 use lib.ListN.{length, length-append}
 use Rattle.lists.specs.Each.{Each}
-use Rattle.lists.specs.Part.{part}
 use Rattle.lists.proofs.Each.{each-append}
-use Rattle.refusal.specs.declared.Reason.{Reason}
 use Rattle.refusal.specs.declared.Reason.the-variants.{SecondUnit}
-use Rattle.refusal.specs.declared.Item.{Item}
 use Rattle.refusal.specs.declared.Item.the-variants.{Whole}
 use Rattle.refusal.specs.declared.Verdict.{Verdict}
 use Rattle.refusal.specs.declared.Verdict.the-variants.{Accepted, Refused}
@@ -28,7 +25,7 @@ use Rattle.units.specs.declared.Found.the-variants as found
 use Rattle.units.specs.Layout.{Clean, layoutUnit}
 use Rattle.units.specs.Layout as units
 use Rattle.units.specs.Split.{Cut, cutOf, frontVerdict, splitVerdict, bodiesOf}
-use Rattle.units.proofs.Splits.{split-layout, split-clean, layout-pieces, layout-accepted}
+use Rattle.units.proofs.Splits.{split-short, split-layout, split-clean, layout-pieces, layout-accepted}
 use Rattle.units.proofs.Spans.{tally, count, Alone, nowhere-exactly, found-at, many-second, refused-split}
 use Rattle.scte20.specs.declared.CaptionUnit.{CaptionUnit}
 use Rattle.scte20.specs.Value.{held}
@@ -128,8 +125,11 @@ found-order s (found.At unit end) e =
     ∙ ap (λ (body : List ℕ). placed unit (contentVerdict body)) (sym (w .lies)))
 found-order s (found.Many k) e =
     let w = many-second (ours Scte20) s k e in
-    let two : 1 < length (captionsOf 0 (cutOf s .pieces)) = ? in
-    ?
+    let cs = captionsOf 0 (map layoutUnit (bodiesOf s)) in
+    let two : 1 < length cs = omega (arith, length-captions 0 (bodiesOf s), w .0, w .1) in
+    sym
+    (layout-order s (bodiesOf s) (split-clean s (w .2)) (split-short s (w .2)) (split-layout s (w .2))
+    ∙ ap (λ (t : Bool). andThen (refuseIf t SecondUnit Whole) (first (eachOf captionChecks cs))) (lt-ltb 1 (length cs) two))
 
 pub reading-order : (s : List ℕ) → areaVerdict s ≡ first (readingChecks s)
 reading-order s = found-order s (captionsIn s) refl

@@ -1,6 +1,6 @@
 -- The theorems of the picture area (document 01, demands 1 to 3). What they speak of is defined in specs/: an area's value, when it is legal, its
 -- bytes, and the value with another caption unit in Value, without the reader; what reading answers in Reading, and in a lent array in Lent; what
--- writing and replacing answer and leave in Writing. Which units are ours stands in crate `kind`; units and start codes in `units`; the caption content in `scte20`, whose page has
+-- writing and replacing answer and leave in Writing; all checks in 01's sequence, as one list for each of the three, in Order. Which units are ours stands in crate `kind`; units and start codes in `units`; the caption content in `scte20`, whose page has
 -- the sizes and the zero run.
 --
 -- The contracts of `read`, `write` and `replace` are the promises `Reads`, `Writes` and `Replaces`. `Reads s r` says that r is the answer to the bytes s,
@@ -25,6 +25,7 @@ use Rattle.refusal.specs.declared.Verdict.{Verdict}
 use Rattle.refusal.specs.declared.Verdict.the-variants.{Accepted, Refused}
 use Rattle.refusal.specs.declared.Written.{Written}
 use Rattle.refusal.specs.Numbers.{numberOf, refusalOf}
+use Rattle.refusal.specs.Checks.{first}
 use Rattle.refusal.specs.Answers.{lentOf}
 use Rattle.refusal.proofs.Acceptance.{told-accepted}
 use Rattle.refusal.proofs.Checks.{andThen-accepted, accepted-andThen, andThen-refused}
@@ -40,6 +41,7 @@ use Rattle.units.proofs.Spans.{count, at-found, part-body, second-many, refused
 use Rattle.units.proofs.Refusals.{start, split-1, split-2, split-3}
 use Rattle.scte20.specs.declared.CaptionUnit.{CaptionUnit}
 use Rattle.scte20.specs.Value.{Content, LegalUnit, none, stored, held}
+use Rattle.scte20.specs.Value as scte20
 use Rattle.scte20.specs.Layout as content
 use Rattle.scte20.specs.Reading.{contentVerdict}
 use Rattle.scte20.specs.Writing.{wholeVerdict, writeVerdict}
@@ -53,8 +55,11 @@ use Rattle.picture.specs.Value.{Area, bare, captioned, bodies, layout, F
 use Rattle.picture.specs.Reading.{placedItem, placed, captionsIn, foundVerdict, areaVerdict, foundContent, answerOf, readOf, shown, Reads}
 use Rattle.picture.specs.Lent.{headOf, ReadsInto}
 use Rattle.picture.specs.Writing.{unitBytes, replacedOf, replaceVerdict, Writes, Replaces}
+use Rattle.picture.specs.Order.{readingChecks, writingChecks, replacingChecks}
+use Rattle.picture.proofs.CleanBody as clean
 use Rattle.picture.proofs.Areas.{foreign-clean, foreign-other, accepted-back, legal-verdict, legal-read, caption-short}
 use Rattle.picture.proofs.Unique.{bodies-clean, same-layout}
+use Rattle.picture.proofs.Sequence as sequence
 use Rattle.picture.proofs.Replaced.{replaced-layout, replaced-legal, replaced-long, foreign-same, value-next, written-bytes}
 
 -- an answer of number and place 0 that counts n bytes
@@ -102,9 +107,18 @@ the-value s r p e = let back = accepted-back s (p .bytes) (accepts s r p e) in (
 
 -- WHICH REFUSAL
 
--- A refusal is that of the first check, in 01's order, that finds a fault,
+-- A refusal tells the verdict of all checks,
 pub refused-in-order : (s : List ℕ) (r : Answer) → Reads s r → r .refusal ≡ refusalOf (areaVerdict s)
 refused-in-order = told
+
+-- which stand in 01's sequence, one line of `readingChecks` (specs/Order) each: 1, 2, 3, 4, then the caption content from left to right, whose checks
+-- stand on the page of `scte20`. The first that finds a fault decides,
+pub reading-order : (s : List ℕ) → areaVerdict s ≡ first (readingChecks s)
+reading-order = sequence.reading-order
+
+-- the answer tells its number and place,
+pub read-first : (s : List ℕ) (r : Answer) → Reads s r → r .refusal ≡ refusalOf (first (readingChecks s))
+read-first s r p = told s r p ∙ ap refusalOf (reading-order s)
 
 -- and comes without records: all else in it is zero.
 pub refused-zero : (s : List ℕ) (r : Answer) → Reads s r → (r .refusal .number ≡ 0 → ⊥) → (r .present ≡ false) × (r .unit ≡ stored none)
@@ -162,6 +176,12 @@ refused-content before body after r p fb clean mine fa short reason item e =
       bit .most,
     )
 
+-- NO START CODE IS MADE
+
+-- No legal caption unit's body, stuffing too, holds 00 00 01, so that in an area it is one unit and the units around it are what they were.
+pub legal-clean : (c : Content) → scte20.Legal c → Clean (content.layout c)
+legal-clean = clean.legal-clean
+
 -- READING INTO A LENT ARRAY
 
 -- What `read_into` answers is what `read` does, and the array then holds all records of that answer, zeros beyond n and where no caption unit stands; in a
@@ -193,10 +213,18 @@ pub written-front : (u : CaptionUnit) (out : List ℕ) (r : Written) (exit : Lis
     → (r ≡ written (length (unitBytes (held u)))) × (exit ≡ over (unitBytes (held u)) out)
 written-front u out r exit w e = success-left _ _ _ _ _ (w .wrote) (wrote-accepted _ _ _ _ _ (w .wrote) e)
 
--- A refusal is that of the first check, in 01's order, that finds a fault, and has place 0:
+-- A refusal tells the verdict of all checks.
 pub write-in-order : (u : CaptionUnit) (out : List ℕ) (r : Written) (exit : List ℕ) → Writes u out r exit
     → r .refusal ≡ refusalOf (writeVerdict u (length (unitBytes (held u))) (length out))
 write-in-order u out r exit w = wrote-refusal _ _ _ _ _ (w .wrote)
+
+-- These stand in 01's sequence: 15 of the whole value; each record in order 15, 7, 8, 9; 1; 14. The first in `writingChecks` that finds a fault decides,
+pub writing-order : (u : CaptionUnit) (room : ℕ) → writeVerdict u (length (unitBytes (held u))) room ≡ first (writingChecks u room)
+writing-order = sequence.writing-order
+
+-- and the answer tells its number, with place 0:
+pub write-first : (u : CaptionUnit) (out : List ℕ) (r : Written) (exit : List ℕ) → Writes u out r exit → r .refusal ≡ refusalOf (first (writingChecks u (length out)))
+write-first u out r exit w = write-in-order u out r exit w ∙ ap refusalOf (writing-order u (length out))
 
 -- 15 for a fault of the whole value, whatever the records;
 pub write-15 : (u : CaptionUnit) (out : List ℕ) (r : Written) (exit : List ℕ) → Writes u out r exit → (wholeVerdict u ≡ Accepted → ⊥) → r .refusal ≡ refused 15 0
@@ -339,9 +367,18 @@ put-back before c after h a read u out r exit p e room again end q fits =
     let done = the-new-area w (new .2) (stored c) room again end second ok in
     (done .0 ∙ ap (λ (t : List ℕ). written (length t)) back, done .1 ∙ ap (λ (t : List ℕ). over t room) back)
 
--- A refusal is that of the first check, in 01's order, that finds a fault:
+-- A refusal tells the verdict of all checks.
 pub replace-in-order : (s : List ℕ) (u : CaptionUnit) (out : List ℕ) (r : Written) (exit : List ℕ) → Replaces s u out r exit → r .refusal ≡ refusalOf (replaceVerdict s u (length out))
 replace-in-order s u out r exit p = wrote-refusal _ _ _ _ _ (p .wrote)
+
+-- These stand in 01's sequence: all checks of reading the area, then all of writing, with 1 and 14 on the whole new area. The first in `replacingChecks`
+-- that finds a fault decides,
+pub replacing-order : (s : List ℕ) (u : CaptionUnit) (room : ℕ) → replaceVerdict s u room ≡ first (replacingChecks s u room)
+replacing-order = sequence.replacing-order
+
+-- and the answer tells its number and place:
+pub replace-first : (s : List ℕ) (u : CaptionUnit) (out : List ℕ) (r : Written) (exit : List ℕ) → Replaces s u out r exit → r .refusal ≡ refusalOf (first (replacingChecks s u (length out)))
+replace-first s u out r exit p = replace-in-order s u out r exit p ∙ ap refusalOf (replacing-order s u (length out))
 
 -- the one of reading the area, with its place, whatever the new value;
 pub refused-as-read : (s : List ℕ) (u : CaptionUnit) (out : List ℕ) (r : Written) (exit : List ℕ) → Replaces s u out r exit
@@ -350,7 +387,13 @@ refused-as-read s u out r exit p a read h =
     let refuses : areaVerdict s ≡ Accepted → ⊥ = λ e. h (ap (λ (x : Refusal). x .number) (told s a read ∙ ap refusalOf e)) in
     replace-in-order s u out r exit p ∙ ap refusalOf (andThen-refused (areaVerdict s) _ refuses) ∙ sym (told s a read)
 
--- then 15, 7, 8 or 9 for a value that is not legal;
+-- then 15 for a fault of the whole value, whatever the records;
+pub replace-15 : (v : Area) → Legal v → (u : CaptionUnit) (out : List ℕ) (r : Written) (exit : List ℕ) → Replaces (layout v) u out r exit → (wholeVerdict u ≡ Accepted → ⊥)
+    → r .refusal ≡ refused 15 0
+replace-15 v h u out r exit p illegal =
+    replace-in-order (layout v) u out r exit p ∙ ap refusalOf (value-next v h u (length out)) ∙ whole-15 u (length (layout (replaced v (held u)))) (length out) illegal
+
+-- 15, 7, 8 or 9 for a value that is not legal;
 pub replace-illegal : (v : Area) → Legal v → (u : CaptionUnit) (out : List ℕ) (r : Written) (exit : List ℕ) → Replaces (layout v) u out r exit → (LegalUnit u → ⊥) → ForValue (r .refusal)
 replace-illegal v h u out r exit p illegal =
     subst ForValue (sym (replace-in-order (layout v) u out r exit p ∙ ap refusalOf (value-next v h u (length out)))) (value-refused u (length (layout (replaced v (held u)))) (length out) (λ e. illegal (accepted-unit u (p .typed) e)))
