@@ -6,15 +6,15 @@
 -- `Writes`. `Reads s r` says that r is the answer to the bytes s, and `Writes p out r exit` that writing p to an output that held `out` answers r
 -- and leaves `exit`. The contract of `write_from` is `Writes` too, of the struct that its arguments tell. So each theorem speaks of every call.
 -- Assumes nothing.
-use Prim.Native.Nat.{ℕ, _-_, _%_, _≤_, _<_}
+use Prim.Native.Nat.{ℕ, _-_, _*_, _%_, _≤_, _<_}
 use native.Mathlib.Omega.{arith}
-use mathlib.Core.Path.{_≡_, _∙_, ap, ap₂, sym, subst}
+use mathlib.Core.Path.{_≡_, _∙_, ap, ap₂, sym, subst, refl}
 use mathlib.Core.Logic.{_↔_}
 use mathlib.Core.List.{List}
 use borrow.Author.Tests.{eq-eqb, ne-eqb, lt-ltb, le-ltb}
 use lib.ListN.{length, take, drop, getD}
 use lib.Seq.{take-append-seam}
-use Rattle.lists.specs.Room.{over}
+use Rattle.lists.specs.Room.{filled, over}
 use Rattle.refusal.specs.declared.Refusal.{Refusal}
 use Rattle.refusal.specs.declared.Written.{Written}
 use Rattle.refusal.specs.declared.Verdict.{Verdict}
@@ -38,6 +38,7 @@ use Rattle.line21.proofs.Back.{value-layout, length-layout, read-layout
 use Rattle.line21.proofs.Numbers.{accepted-value, value-accepted, units-accepted, checked-legal, legal-writable}
 use Rattle.line21.proofs.Fifteen.{illegal-15}
 use Rattle.line21.proofs.LentUnits.{payload-held, refused-lent}
+use Rattle.line21.proofs.LentBack.{lent-count, lent-front, into-told}
 use Rattle.line21.proofs.Sequence as sequence
 
 -- number and place 0
@@ -197,6 +198,38 @@ written-read s a read e out r exit w fits =
   where
     counted : ℕ → Written
     counted n = record { refusal = accepted; len = n }
+
+-- LENT UNITS
+
+-- The same of the functions that C calls, of the bytes in lent arrays. Such an array has 2,037 bytes by its type.
+
+-- `read_into` accepts the same bytes.
+pub into-exactly : (s lent : List ℕ) (r : Head) (exit : List ℕ) → ReadsInto s lent r exit → r .refusal .number ≡ 0 ↔ ((v : Line21) × Legal v × (layout v ≡ s))
+into-exactly s lent r exit p =
+    subst (λ (h : Head). h .refusal .number ≡ 0 ↔ ((v : Line21) × Legal v × (layout v ≡ s))) (sym (p .answer)) (accepted-exactly s (readOf s) (record { bytes = p .bytes; answer = refl }))
+
+-- Reading into a lent array what `write_from` wrote gives the same numbers and the same bytes, with zeros behind the m units.
+pub read-into-written : (flags m : ℕ) (units out : List ℕ) (w : Written) (end : List ℕ) → Writes (payloadIn flags m units) out w end → w .refusal .number ≡ 0
+    → length units ≡ 2037 → (lent : List ℕ) (r : Head) (exit : List ℕ) → ReadsInto (take (w .len) end) lent r exit
+    → (r ≡ record { refusal = accepted; flags = flags; m = m }) × (exit ≡ filled (take (7 * m) units) 2037 0)
+read-into-written flags m units out w end wrote e long lent r exit into =
+    let s = take (w .len) end in
+    let read : Reads s (readOf s) = record { bytes = into .bytes; answer = refl } in
+    let same = read-written (payloadIn flags m units) out w end wrote e (readOf s) read in
+    let few = writes-exactly (payloadIn flags m units) out w end wrote .0 e .0 .few in
+    let all = read-into-as-read s lent r exit into (readOf s) read in (
+      all .0 ∙ ap headOf same ∙ ap (λ (k : ℕ). record { refusal = accepted; flags = flags; m = k }) (lent-count flags m units few),
+      all .1 (ap (λ (a : Answer). a .refusal .number) same) ∙ ap (λ (a : Answer). unitsBytes (a .payload .units)) same ∙ lent-front flags m units few long,
+    )
+
+-- `write_from` of what was read into a lent array gives the bytes back.
+pub written-read-into : (s lent : List ℕ) (a : Head) (exit : List ℕ) → ReadsInto s lent a exit → a .refusal .number ≡ 0
+    → (out : List ℕ) (r : Written) (end : List ℕ) → Writes (payloadIn (a .flags) (a .m) exit) out r end → length s ≤ length out
+    → (r ≡ record { refusal = accepted; len = length s }) × (end ≡ over s out)
+written-read-into s lent a exit into e out r end w fits =
+    let zero : readOf s .refusal .number ≡ 0 = sym (ap (λ (h : Head). h .refusal .number) (into .answer)) ∙ e in
+    written-read s (readOf s) (record { bytes = into .bytes; answer = refl }) zero out r end
+    (subst (λ (p : Payload). Writes p out r end) (into-told s lent a exit into e) w) fits
 
 -- ONE ANSWER
 

@@ -8,7 +8,7 @@
 -- putting u into the area s. So each theorem speaks of every call. `ReadsInto`, the promise of `read_into`, gives what `read` answers
 -- (`read-into-as-read`), and `write_from` and `replace_from` promise `Writes` and `Replaces` of the value that they are lent, `unitIn` of crate `scte20`:
 -- the theorems speak of them too. Assumes nothing.
-use Prim.Native.Nat.{ℕ, _+_, _≤_, _<_}
+use Prim.Native.Nat.{ℕ, _+_, _*_, _≤_, _<_}
 use native.Mathlib.Omega.{arith}
 use mathlib.Core.Path.{_≡_, _∙_, ap, ap₂, sym, subst, refl}
 use mathlib.Core.Logic.{_↔_}
@@ -17,7 +17,7 @@ use mathlib.Core.List.{List, [], _∷_, _++_, append-nil}
 use lib.ListN.{length, take}
 use Rattle.lists.specs.Each.{Each}
 use Rattle.lists.specs.Part.{part}
-use Rattle.lists.specs.Room.{over}
+use Rattle.lists.specs.Room.{filled, over}
 use Rattle.refusal.specs.declared.Refusal.{Refusal}
 use Rattle.refusal.specs.declared.Reason.{Reason}
 use Rattle.refusal.specs.declared.Item.{Item}
@@ -40,12 +40,13 @@ use Rattle.units.proofs.Splits.{length-around, layout-bodies, layout-accepted}
 use Rattle.units.proofs.Spans.{count, at-found, part-body, second-many, refused-split}
 use Rattle.units.proofs.Refusals.{start, split-1, split-2, split-3}
 use Rattle.scte20.specs.declared.CaptionUnit.{CaptionUnit}
+use Rattle.scte20.specs.declared.Numbers.{Numbers}
 use Rattle.scte20.specs.Value.{Content, LegalUnit, none, stored, held}
 use Rattle.scte20.specs.Value as scte20
 use Rattle.scte20.specs.Layout as content
 use Rattle.scte20.specs.Reading.{contentVerdict}
 use Rattle.scte20.specs.Writing.{wholeVerdict, writeVerdict}
-use Rattle.scte20.specs.Lent.{recordsBytes}
+use Rattle.scte20.specs.Lent.{recordsBytes, unitIn}
 use Rattle.scte20.proofs.Numbered.{AtBit, content-placed}
 use Rattle.scte20.proofs.Writable.{ForValue, accepted-unit, unit-accepted, write-accepted, accepted-write, z-within, whole-15, value-refused, long-refused, no-room-refused}
 use Rattle.scte20.proofs.Theorems.{stored-held, stored-legal}
@@ -59,6 +60,7 @@ use Rattle.picture.specs.Order.{readingChecks, writingChecks, replacingC
 use Rattle.picture.proofs.CleanBody as clean
 use Rattle.picture.proofs.Areas.{foreign-clean, foreign-other, accepted-back, legal-verdict, legal-read, caption-short}
 use Rattle.picture.proofs.Unique.{bodies-clean, same-layout}
+use Rattle.picture.proofs.LentBack.{into-told, into-back}
 use Rattle.picture.proofs.Sequence as sequence
 use Rattle.picture.proofs.Replaced.{replaced-layout, replaced-legal, replaced-long, foreign-same, value-next, written-bytes}
 
@@ -414,6 +416,59 @@ replace-14 v h u out r exit p legal short room =
 -- A refused call counted nothing and changed nothing.
 pub replace-untouched : (s : List ℕ) (u : CaptionUnit) (out : List ℕ) (r : Written) (exit : List ℕ) → Replaces s u out r exit → (r .refusal .number ≡ 0 → ⊥) → (r .len ≡ 0) × (exit ≡ out)
 replace-untouched s u out r exit p h = refusal-left _ _ _ _ _ (p .wrote) h
+
+-- LENT RECORDS
+
+-- The same of the functions that C calls, of the bytes in lent arrays. Such an array has 155 bytes by its type.
+
+-- `read_into` accepts the same bytes.
+pub into-exactly : (s lent : List ℕ) (r : Head) (exit : List ℕ) → ReadsInto s lent r exit → r .refusal .number ≡ 0 ↔ ((v : Area) × Legal v × (layout v ≡ s))
+into-exactly s lent r exit p =
+    subst (λ (h : Head). h .refusal .number ≡ 0 ↔ ((v : Area) × Legal v × (layout v ≡ s))) (sym (p .answer)) (accepted-exactly s (readOf s) (record { bytes = p .bytes; answer = refl }))
+
+-- Reading into a lent array what `write_from` wrote gives the same numbers and the same bytes, with zeros behind the n records.
+pub read-into-written : (v : Numbers) (records out : List ℕ) (w : Written) (end : List ℕ) → Writes (unitIn v records) out w end → w .refusal .number ≡ 0 → length records ≡ 155
+    → (lent : List ℕ) (r : Head) (exit : List ℕ) → ReadsInto (take (w .len) end) lent r exit
+    → (r ≡ record { refusal = refused 0 0; present = true; numbers = v }) × (exit ≡ filled (take (5 * v .n) records) 155 0)
+read-into-written v records out w end wrote e long lent r exit into =
+    let s = take (w .len) end in
+    let read : Reads s (readOf s) = record { bytes = into .bytes; answer = refl } in
+    let same = read-written (unitIn v records) out w end wrote e (readOf s) read in
+    let few = writes-exactly (unitIn v records) out w end wrote .0 e .0 .few in
+    into-back s lent r exit into v records few long (accepts s (readOf s) read (ap (λ (a : Answer). a .refusal .number) same)) same
+
+-- `write_from` of what was read into a lent array gives the unit's bytes.
+pub written-read-into : (before : List (List ℕ)) (c : Content) (after : List (List ℕ)) → Legal (captioned before c after)
+    → (lent : List ℕ) (a : Head) (kept : List ℕ) → ReadsInto (layout (captioned before c after)) lent a kept
+    → (out : List ℕ) (r : Written) (exit : List ℕ) → Writes (unitIn (a .numbers) kept) out r exit → length (unitBytes c) ≤ length out
+    → (r ≡ written (length (unitBytes c))) × (exit ≡ over (unitBytes c) out)
+written-read-into before c after h lent a kept into out r exit w =
+    let v = captioned before c after in
+    written-read before c after h (readOf (layout v)) (record { bytes = into .bytes; answer = refl }) out r exit
+    (subst (λ (u : CaptionUnit). Writes u out r exit) (into-told (layout v) lent a kept into (legal-verdict v h)) w)
+
+-- Reading into a lent array what `replace_from` wrote gives the new unit's numbers and bytes.
+pub read-into-replaced : (v : Area) → Legal v → (x : Numbers) (records out : List ℕ) (w : Written) (end : List ℕ) → Replaces (layout v) (unitIn x records) out w end
+    → w .refusal .number ≡ 0 → length records ≡ 155 → (lent : List ℕ) (r : Head) (exit : List ℕ) → ReadsInto (take (w .len) end) lent r exit
+    → (r ≡ record { refusal = refused 0 0; present = true; numbers = x }) × (exit ≡ filled (take (5 * x .n) records) 155 0)
+read-into-replaced v h x records out w end p e long lent r exit into =
+    let s = take (w .len) end in
+    let read : Reads s (readOf s) = record { bytes = into .bytes; answer = refl } in
+    let same = read-replaced v h (unitIn x records) out w end p e (readOf s) read in
+    let few = replaces-exactly (layout v) (unitIn x records) out w end p .0 e .3 .few in
+    into-back s lent r exit into x records few long (accepts s (readOf s) read (ap (λ (a : Answer). a .refusal .number) same)) same
+
+-- Replacing, and putting back what was read into a lent array before, gives the area byte for byte.
+pub put-back-into : (before : List (List ℕ)) (c : Content) (after : List (List ℕ)) → Legal (captioned before c after)
+    → (lent : List ℕ) (a : Head) (kept : List ℕ) → ReadsInto (layout (captioned before c after)) lent a kept
+    → (u : CaptionUnit) (out : List ℕ) (r : Written) (exit : List ℕ) → Replaces (layout (captioned before c after)) u out r exit → r .refusal .number ≡ 0
+    → (room : List ℕ) (again : Written) (end : List ℕ) → Replaces (take (r .len) exit) (unitIn (a .numbers) kept) room again end
+    → length (layout (captioned before c after)) ≤ length room
+    → (again ≡ written (length (layout (captioned before c after)))) × (end ≡ over (layout (captioned before c after)) room)
+put-back-into before c after h lent a kept into u out r exit p e room again end q =
+    let v = captioned before c after in
+    put-back before c after h (readOf (layout v)) (record { bytes = into .bytes; answer = refl }) u out r exit p e room again end
+    (subst (λ (x : CaptionUnit). Replaces (take (r .len) exit) x room again end) (into-told (layout v) lent a kept into (legal-verdict v h)) q)
 
 -- ONE ANSWER
 

@@ -294,6 +294,32 @@ written-read s a rows read readRows e out r exit w fits =
     counted : ℕ → Written
     counted n = record { refusal = accepted; len = n }
 
+-- LENT ROWS
+
+-- The same of the functions that C calls, of the rows in lent arrays.
+
+-- `read_into` accepts the same words.
+pub into-exactly : (s : List ℕ) (lent : List (List ℕ)) (r : Answer) (exit : List (List ℕ)) → ReadsInto s lent r exit
+    → r .refusal .number ≡ 0 ↔ ((v : Sdp) × Legal v × (layout v ≡ s))
+into-exactly s lent r exit i = accepted-exactly s r (i .answer)
+
+-- Reading into lent rows what was written gives the same numbers and the same rows.
+pub read-into-written : (p : Packet) (rows : List (List ℕ)) (out : List ℕ) (w : Written) (end : List ℕ) → Writes p rows out w end → w .refusal .number ≡ 0
+    → (lent : List (List ℕ)) (r : Answer) (exit : List (List ℕ)) → ReadsInto (take (w .len) end) lent r exit
+    → (r ≡ record { refusal = accepted; packet = p }) × (exit ≡ rows)
+read-into-written p rows out w end wrote e lent r exit i =
+    let s = take (w .len) end in
+    let same = read-written p rows out w end wrote e r (readRowsOf s) (i .answer) refl in
+    let all = read-into-as-read s lent r exit i r (readRowsOf s) (i .answer) refl in
+    (same .0, all .1 (ap (λ (a : Answer). a .refusal .number) (same .0)) ∙ same .1)
+
+-- Writing what was read into lent rows gives the words back.
+pub written-read-into : (s : List ℕ) (lent : List (List ℕ)) (a : Answer) (exit : List (List ℕ)) → ReadsInto s lent a exit → a .refusal .number ≡ 0
+    → (out : List ℕ) (r : Written) (end : List ℕ) → Writes (a .packet) exit out r end → length s ≤ length out
+    → (r ≡ record { refusal = accepted; len = length s }) × (end ≡ over s out)
+written-read-into s lent a exit i e =
+    written-read s a exit (i .answer) (read-into-as-read s lent a exit i a (readRowsOf s) (i .answer) refl .1 e) e
+
 -- ONE ANSWER
 
 -- For each function, two answers that keep its promise are equal, lent memory too.
