@@ -5,7 +5,7 @@ use mathlib.Core.Path.{_≡_}
 use mathlib.Core.List.{List, [], _∷_, _++_}
 use lib.ListN.{length, replicate, take}
 use Rattle.refusal.specs.declared.Reason.{Reason}
-use Rattle.refusal.specs.declared.Reason.the-variants.{TooLong, NoStart, StartCode, SecondUnit, Ends, Unfixed, FieldNumberZero, DescriptorLine, FieldFalls, LineDoesNotRise, FifthPriority, SampledVideo, WordRange, WordParity, SdpChecksum, Unfit, NoRoom, Unholdable}
+use Rattle.refusal.specs.declared.Reason.the-variants.{TooLong, NoStart, StartCode, SecondUnit, Ends, Unfixed, FieldNumberZero, DescriptorLine, FieldFalls, LineDoesNotRise, FifthPriority, SampledVideo, WordRange, WordParity, SdpChecksum, Unfit, Unholdable}
 use Rattle.refusal.specs.declared.Fixed.the-variants as fixed
 use Rattle.refusal.specs.declared.Misfit.the-variants as misfit
 use Rattle.refusal.specs.declared.Excess.the-variants as excess

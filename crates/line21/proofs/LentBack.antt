@@ -14,7 +14,7 @@ use Rattle.refusal.specs.Answers.{lentOf}
 use Rattle.line21.specs.declared.Answer.{Answer}
 use Rattle.line21.specs.declared.Head.{Head}
 use Rattle.line21.specs.Value.{blank, stored, held}
-use Rattle.line21.specs.Reading.{valueOf, readOf, headOf}
+use Rattle.line21.specs.Reading.{valueOf, readOf}
 use Rattle.line21.specs.Lent.{unitBytes, unitsBytes, unitIn, unitsIn, payloadIn, ReadsInto}
 use Rattle.line21.proofs.Answers.{accepted-verdict, accepted-answer}
 use Rattle.line21.proofs.Back.{read-legal}

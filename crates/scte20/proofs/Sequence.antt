@@ -1,19 +1,16 @@
 -- The definitions of reading and writing check in 01's sequence.
 -- Assumes nothing.
-use Prim.Native.Nat.{ℕ, zero, suc, _+_, _*_}
-use mathlib.Core.Path.{_≡_, _∙_, ap, sym, refl}
-use mathlib.Core.List.{List, [], _∷_, _++_}
-use Rattle.refusal.specs.declared.Verdict.{Verdict}
+use Prim.Native.Nat.{ℕ, zero, suc, _+_}
+use mathlib.Core.Path.{_≡_, refl}
+use mathlib.Core.List.{List, [], _∷_}
 use Rattle.refusal.specs.declared.Fixed.{Fixed}
-use Rattle.refusal.specs.Checks.{andThen, first}
+use Rattle.refusal.specs.Checks.{first}
 use Rattle.refusal.proofs.Checks.{andThen-assoc, andThen-last}
 use Rattle.refusal.proofs.Sequence.{first-append}
-use Rattle.bits.specs.Bits.{bitsOf}
 use Rattle.scte20.specs.declared.Record.{Record}
 use Rattle.scte20.specs.declared.CaptionUnit.{CaptionUnit}
-use Rattle.scte20.specs.Value.{held}
 use Rattle.scte20.specs.Rules.{recordVerdict}
-use Rattle.scte20.specs.Reading.{missing, zeroVerdict, constructAt, markerVerdict, constructsVerdict, sampledVerdict, restVerdict, headVerdict, flagIn, countIn, flagVerdict, contentVerdict}
+use Rattle.scte20.specs.Reading.{missing, zeroVerdict, constructAt, markerVerdict, constructsVerdict, sampledVerdict, restVerdict, headVerdict, flagVerdict, contentVerdict}
 use Rattle.scte20.specs.Writing.{wholeVerdict, rangeVerdict, recordsVerdict, valueVerdict, writeVerdict}
 use Rattle.scte20.specs.Order.{constructsChecks, zeroChecks, restChecks, flagChecks, readingChecks, recordsChecks, writingChecks}
 
