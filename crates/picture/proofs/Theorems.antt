@@ -1,7 +1,7 @@
 -- The theorems of the picture area (document 01, demands 1 to 3). What they speak of is defined in specs/: an area's value, when it is legal, its
 -- bytes, and the value with another caption unit in Value, without the reader; what reading answers in Reading, and in a lent array in Lent; what
--- writing and replacing answer and leave in Writing; all checks in 01's sequence, as one list for each of the three, in Order. Which units are ours stands in crate `kind`; units and start codes in `units`; the caption content in `scte20`, whose page has
--- the sizes and the zero run.
+-- writing and replacing answer and leave in Writing; all checks in 01's sequence, as one list for each of the three, in Order. Which units are ours
+-- stands in crate `kind`; units and start codes in `units`; the caption content in `scte20`, whose page has the sizes and the zero run.
 --
 -- The contracts of `read`, `write` and `replace` are the promises `Reads`, `Writes` and `Replaces`. `Reads s r` says that r is the answer to the bytes s,
 -- `Writes u out r exit` that writing the unit u to an output that held `out` answers r and leaves `exit`, and `Replaces s u out r exit` the same of

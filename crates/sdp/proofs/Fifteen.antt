@@ -22,20 +22,9 @@ use Rattle.refusal.proofs.Gives.{Gives, refuseIf-gives, andThen-gives, refused-
 use Rattle.sdp.specs.Value.{SlotRow, descriptor, emptyRow, LegalLine, Row}
 use Rattle.sdp.specs.User.{lineVerdict}
 use Rattle.sdp.specs.Holdable.{allZero, unwritable, slotVerdict}
+use Rattle.sdp.specs.SlotFaults.{Holdable, Unwritable, NoLine}
 use Rattle.sdp.proofs.Slots.{line-accepted}
 use Rattle.sdp.proofs.Numbers.{accepted-slot}
-
--- a slot that the layout can hold: each number is in its range, and the slot is not unwritable
-pub record Holdable (x : SlotRow) : Type 0 where
-  pub mark : x .slot .full ≤ 1
-  pub line : x .slot .line ≤ 31
-  pub reserved : x .slot .reserved ≤ 3
-  pub field : x .slot .field .0 ≤ 1
-  pub writable : unwritable (x .slot .full) (descriptor (x .slot)) (allZero (x .row)) ≡ false
-
--- a line that a descriptor holds and no line of teletext is
-abbrev pub NoLine : ℕ → Type 0
-NoLine l = ((1 ≤ l) × (l ≤ 5)) ⊎ ((23 ≤ l) × (l ≤ 31))
 
 abbrev is : ℕ → Refusal → Type 0
 is number r = r ≡ record { number = number; place = 0 }
@@ -144,10 +133,8 @@ both-true : (a b : Bool) → not (a && b) ≡ false → a ≡ true
 both-true true b e = refl
 both-true false b e = absurd (true≢false e)
 
--- A full slot with line 0, reserved 0, even field, or an empty one that holds anything else, cannot be written: 15.
-pub unwritable-15 : (x : SlotRow) → Row (x .row)
-    → ((x .slot .full ≡ 1) × (descriptor (x .slot) ≡ 0)) ⊎ ((x .slot .full ≡ 0) × (x ≡ emptyRow → ⊥))
-    → refusalOf (slotVerdict x) ≡ record { number = 15; place = 0 }
+-- an unwritable slot gives 15
+pub unwritable-15 : (x : SlotRow) → Row (x .row) → Unwritable x → refusalOf (slotVerdict x) ≡ record { number = 15; place = 0 }
 unwritable-15 x row w = slot-15 x .1 (λ h. ⊎-elim (full h) (empty h) w)
   where
     full : Holdable x → (x .slot .full ≡ 1) × (descriptor (x .slot) ≡ 0) → ⊥

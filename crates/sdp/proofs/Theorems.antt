@@ -1,11 +1,12 @@
 -- The theorems of the user words of a subtitling packet (document 01, demands 1 to 3), apart from the header and CS around them. What they speak
 -- of is defined in specs/: a value and when it is legal in Value; its user bytes in Layout, without the reader; the rules over user bytes and the
--- value that they hold in User; which slots can be written in Holdable; the checks in 01's sequence, as lists, in Order. The packet that carries the
--- user words puts all checks of reading into one list (`reading-order` of crate `subtitling`). Assumes nothing.
+-- value that they hold in User; which slots can be written in Holdable and, in 01's words, in SlotFaults; the checks of a slot in 01's sequence, as
+-- a list, in Order. The packet that carries the user words has all checks of reading in one list (`reading-order` of crate `subtitling`).
+-- Assumes nothing.
 use Prim.Native.Nat.{ℕ, _%_}
 use native.Mathlib.Omega.{arith}
 use mathlib.Core.Path.{_≡_, _∙_, ap, sym, subst}
-use mathlib.Core.Logic.{_↔_, _⊎_, ⊎-elim}
+use mathlib.Core.Logic.{_↔_, ⊎-elim}
 use mathlib.Core.List.{List, map}
 use lib.ListN.{length}
 use Rattle.lists.specs.Bytes.{Bytes}
@@ -20,15 +21,15 @@ use Rattle.refusal.proofs.Checks.{andThen-accepted}
 use Rattle.anc.specs.Words.{byteOf}
 use Rattle.sdp.specs.declared.Slot.{Slot}
 use Rattle.sdp.specs.declared.Packet.{Packet}
-use Rattle.sdp.specs.Value.{SlotRow, Sdp, LegalSlot, Legal, Row, descriptor, together, emptyRow}
+use Rattle.sdp.specs.Value.{SlotRow, Sdp, LegalSlot, Legal, Row, descriptor, together}
 use Rattle.sdp.specs.Layout.{descriptorsOf, count, userLength, userBytes}
 use Rattle.sdp.specs.User.{lineVerdict, headVerdict, tailVerdict, userVerdict, slotOf, userValue}
 use Rattle.sdp.specs.Holdable.{slotVerdict}
+use Rattle.sdp.specs.SlotFaults.{Holdable, Unwritable, NoLine}
 use Rattle.sdp.specs.Order.{slotChecks}
 use Rattle.sdp.proofs.Numbers.{accepted-slot, slot-accepted, length-user}
 use Rattle.sdp.proofs.Accepted.{accepted-head, accepted-tail}
 use Rattle.sdp.proofs.Rules.{Users, sum-user, user-accepted, value-user, user-back}
-use Rattle.sdp.proofs.Fifteen.{Holdable, NoLine}
 use Rattle.sdp.proofs.Fifteen as fifteen
 use Rattle.sdp.proofs.Sequence as sequence
 
@@ -91,8 +92,7 @@ pub slot-7 : (x : SlotRow) → refusalOf (slotVerdict x) ≡ refused 7 ↔ (Hold
 slot-7 = fifteen.slot-7
 
 -- An unwritable slot gives 15: a full one with line 0, reserved 0, even field, or an empty one that holds anything else.
-pub unwritable-15 : (x : SlotRow) → Row (x .row) → ((x .slot .full ≡ 1) × (descriptor (x .slot) ≡ 0)) ⊎ ((x .slot .full ≡ 0) × (x ≡ emptyRow → ⊥))
-    → refusalOf (slotVerdict x) ≡ refused 15
+pub unwritable-15 : (x : SlotRow) → Row (x .row) → Unwritable x → refusalOf (slotVerdict x) ≡ refused 15
 unwritable-15 = fifteen.unwritable-15
 
 -- ONE ANSWER

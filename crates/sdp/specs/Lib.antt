@@ -3,3 +3,4 @@ pub mod Layout
 pub mod User
 pub mod Holdable
 pub mod Order
+pub mod SlotFaults

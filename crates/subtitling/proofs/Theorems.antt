@@ -1,7 +1,6 @@
 -- The theorems of the subtitling packet (document 01, demands 1 to 3). What they speak of is defined in specs/: its words in Layout, without the
--- reader; what reading answers in Reading; what writing answers and leaves in Writing; all checks in 01's sequence, as one list for reading and one for
--- writing, in Order. A value, when it is legal, its user bytes and the rules over
--- them are those of `sdp`, which has a page of theorems too.
+-- reader; what reading answers in Reading; what writing answers and leaves in Writing; all checks in 01's sequence, as one list for reading and one
+-- for writing, in Order. A value, when it is legal, its user bytes and the rules over them are those of `sdp`, which has a page of theorems too.
 --
 -- The contracts of `read`, `read_rows` and `read_into` are the promises `Reads`, `ReadsRows` and `ReadsInto`, and `Writes` is that of `write` and of
 -- `write_from`. `Reads s r` says that r is the answer to the words s, `ReadsRows s rows` that these are the rows in it, `ReadsInto s lent r exit` that
@@ -10,7 +9,7 @@
 use Prim.Native.Nat.{ℕ, _+_, _*_, _≤_, _<_}
 use native.Mathlib.Omega.{arith}
 use mathlib.Core.Path.{_≡_, _∙_, ap, ap₂, sym, subst, refl}
-use mathlib.Core.Logic.{_↔_, _⊎_}
+use mathlib.Core.Logic.{_↔_}
 use mathlib.Core.Bool.{Bool, true, false, not}
 use mathlib.Core.List.{List, _∷_, _++_}
 use borrow.Author.Tests.{eqb-true, lt-ltb, le-ltb}
@@ -33,9 +32,10 @@ use Rattle.refusal.proofs.Acceptance.{told-accepted}
 use Rattle.refusal.proofs.Outputs.{wrote-accepted, accepted-wrote, wrote-refusal, success-left, refusal-left, wrote-determined}
 use Rattle.sdp.specs.declared.Packet.{Packet}
 use Rattle.subtitling.specs.declared.Answer.{Answer}
-use Rattle.sdp.specs.Value.{SlotRow, Sdp, LegalSlot, Legal, descriptor, emptyRow, none, held, numbersOf, rowsOf}
+use Rattle.sdp.specs.Value.{SlotRow, Sdp, LegalSlot, Legal, none, held, numbersOf, rowsOf}
 use Rattle.sdp.specs.Layout.{descriptorsOf, count}
 use Rattle.sdp.specs.Holdable.{slotVerdict}
+use Rattle.sdp.specs.SlotFaults.{Holdable, Unwritable, NoLine}
 use Rattle.subtitling.specs.Layout.{layout}
 use Rattle.subtitling.specs.Reading.{formVerdict, packetVerdict, valueOf, found, readRowsOf, Reads, ReadsRows, ReadsInto}
 use Rattle.subtitling.specs.Writing.{valueVerdict, Writes}
@@ -43,7 +43,6 @@ use Rattle.subtitling.specs.Order.{readingChecks, writingChecks}
 use Rattle.sdp.proofs.Beside.{held-apart, numbers-held, rows-held}
 use Rattle.sdp.proofs.Numbers.{slots-accepted, legal-held}
 use Rattle.sdp.proofs.LegalBytes.{few}
-use Rattle.sdp.proofs.Fifteen.{Holdable, NoLine}
 use Rattle.sdp.proofs.Theorems as sdp
 use Rattle.subtitling.proofs.Numbers.{length-layout, accepted-value, value-accepted}
 use Rattle.subtitling.proofs.Back.{layout-accepted, value-layout, packet-legal}
@@ -219,7 +218,7 @@ module _ (p : Packet) (rows : List (List ℕ)) (out : List ℕ) (r : Written) (e
   slot-15 h = let told = sdp.slot-15 x .1 h in slot-decides (refused-told (slotVerdict x) 15 (omega arith) told) ∙ told
 
   -- so for a full one with line 0, reserved 0, even field, and for an empty one that holds anything else,
-  pub unwritable-15 : ((x .slot .full ≡ 1) × (descriptor (x .slot) ≡ 0)) ⊎ ((x .slot .full ≡ 0) × (x ≡ emptyRow → ⊥)) → r .refusal ≡ refused 15
+  pub unwritable-15 : Unwritable x → r .refusal ≡ refused 15
   unwritable-15 h = slot-15 (sdp.slot-15 x .0 (sdp.unwritable-15 x (sequence.slot-row p rows (w .typed) before x after here) h))
 
   -- and else 7 where its line is 1 to 5 or 23 to 31.
