@@ -1,4 +1,5 @@
 pub mod Folds
 pub mod Words
 pub mod Judged
+pub mod Sequence
 pub mod Theorems

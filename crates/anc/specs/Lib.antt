@@ -1,2 +1,3 @@
 pub mod Words
 pub mod Inside
+pub mod Order

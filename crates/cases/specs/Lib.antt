@@ -1,1 +1,2 @@
 pub mod Table
+pub mod TwoFaults

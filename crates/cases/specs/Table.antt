@@ -52,10 +52,10 @@ abbrev refused : ℕ → Refusal
 refused number = record { number = number; place = 0 }
 
 -- A's bytes, with the byte in which the marker stands
-abbrev marked : ℕ → List ℕ
+abbrev pub marked : ℕ → List ℕ
 marked b = 0x00 ∷ 0x00 ∷ 0x01 ∷ 0xB2 ∷ 0x03 ∷ 0x81 ∷ 0x08 ∷ 0xAC ∷ 0xA4 ∷ b ∷ 0x00 ∷ []
 
-abbrev start : List ℕ → List ℕ
+abbrev pub start : List ℕ → List ℕ
 start body = 0x00 ∷ 0x00 ∷ 0x01 ∷ 0xB2 ∷ body
 
 -- reserved 64, flag 1, A's record: priority 0, field 1, line 11, bytes 94 2C; and z
@@ -74,7 +74,7 @@ abbrev units : ℕ → List AccessUnit → line21.Line21
 units flags us = record { flags = flags; units = us }
 
 -- valid flags, padding, the bytes of field 1, the bytes of field 2
-abbrev unit : ℕ → ℕ → ℕ → ℕ → ℕ → ℕ → ℕ → AccessUnit
+abbrev pub unit : ℕ → ℕ → ℕ → ℕ → ℕ → ℕ → ℕ → AccessUnit
 unit v1 v2 pad a b c d =
     record { «cc_valid_1» = v1; «cc_valid_2» = v2; padding = pad; «field1_data1» = a; «field1_data2» = b; «field2_data1» = c; «field2_data2» = d }
 

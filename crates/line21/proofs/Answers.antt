@@ -50,7 +50,7 @@ pub one-refused : (v : Line21) (i : ℕ) (reason : Reason) (item : Item) → one
 one-refused v i reason item = ap (λ (rest : List AccessUnit). (refusalOf (Refused reason item), take 1 rest)) (drop-nil i)
 
 -- the refusal in an answer is what the verdict tells
-told : (verdict : Verdict) (v : Line21) → answerOf verdict v .refusal ≡ refusalOf verdict
+pub told : (verdict : Verdict) (v : Line21) → answerOf verdict v .refusal ≡ refusalOf verdict
 told Accepted v = refl
 told (Refused reason item) v = refl
 

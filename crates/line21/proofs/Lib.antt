@@ -7,4 +7,6 @@ pub mod Fifteen
 pub mod Answers
 pub mod LentUnits
 pub mod Back
+pub mod LentBack
+pub mod Sequence
 pub mod Theorems

@@ -1,23 +1,25 @@
 -- The theorems of the Line 21 payload (document 01, demands 1 to 3). What they speak of is defined in specs/: a value and when it is legal in
 -- Value; its bytes in Layout, without the reader; what reading answers in Reading; what writing answers and leaves in Writing; its units as bytes
--- in a lent array in Lent.
+-- in a lent array in Lent; all checks in 01's sequence, as one list for reading and one for writing, in Order.
 --
 -- The contracts of `read`, `read_head`, `read_unit`, `read_into` and `write` are the promises `Reads`, `ReadsHead`, `ReadsUnit`, `ReadsInto` and
 -- `Writes`. `Reads s r` says that r is the answer to the bytes s, and `Writes p out r exit` that writing p to an output that held `out` answers r
 -- and leaves `exit`. The contract of `write_from` is `Writes` too, of the struct that its arguments tell. So each theorem speaks of every call.
 -- Assumes nothing.
-use Prim.Native.Nat.{ℕ, _-_, _%_, _≤_, _<_}
+use Prim.Native.Nat.{ℕ, _-_, _*_, _%_, _≤_, _<_}
 use native.Mathlib.Omega.{arith}
-use mathlib.Core.Path.{_≡_, _∙_, ap, ap₂, sym, subst}
+use mathlib.Core.Path.{_≡_, _∙_, ap, ap₂, sym, subst, refl}
 use mathlib.Core.Logic.{_↔_}
 use mathlib.Core.List.{List}
 use borrow.Author.Tests.{eq-eqb, ne-eqb, lt-ltb, le-ltb}
 use lib.ListN.{length, take, drop, getD}
 use lib.Seq.{take-append-seam}
-use Rattle.lists.specs.Room.{over}
+use Rattle.lists.specs.Room.{filled, over}
 use Rattle.refusal.specs.declared.Refusal.{Refusal}
 use Rattle.refusal.specs.declared.Written.{Written}
 use Rattle.refusal.specs.declared.Verdict.{Verdict}
+use Rattle.refusal.specs.Checks.{first}
+use Rattle.refusal.specs.Numbers.{refusalOf}
 use Rattle.refusal.specs.Answers.{lentOf}
 use Rattle.refusal.proofs.Outputs.{wrote-accepted, accepted-wrote, wrote-refusal, success-left, refusal-left, wrote-determined}
 use Rattle.line21.specs.declared.AccessUnit.{AccessUnit}
@@ -30,11 +32,14 @@ use Rattle.line21.specs.Layout.{layout}
 use Rattle.line21.specs.Reading.{lengthVerdict, valueOf, readOf, headOf, Reads, ReadsHead, ReadsUnit}
 use Rattle.line21.specs.Writing.{valueVerdict, Writes}
 use Rattle.line21.specs.Lent.{unitsBytes, unitsIn, payloadIn, ReadsInto}
-use Rattle.line21.proofs.Answers.{held-stored, accepted-verdict, refused-nothing, shown-one}
+use Rattle.line21.specs.Order.{readingChecks, writingChecks}
+use Rattle.line21.proofs.Answers.{held-stored, told, accepted-verdict, refused-nothing, shown-one}
 use Rattle.line21.proofs.Back.{value-layout, length-layout, read-layout, read-legal, read-stored}
 use Rattle.line21.proofs.Numbers.{accepted-value, value-accepted, units-accepted, checked-legal, legal-writable}
 use Rattle.line21.proofs.Fifteen.{illegal-15}
 use Rattle.line21.proofs.LentUnits.{payload-held, refused-lent}
+use Rattle.line21.proofs.LentBack.{lent-count, lent-front, into-told}
+use Rattle.line21.proofs.Sequence as sequence
 
 -- number and place 0
 abbrev accepted : Refusal
@@ -87,6 +92,14 @@ accepted-whole-units s r p some within whole =
     ap (λ (a : Answer). a .refusal) (p .answer)
     ∙ simp (ne-eqb (length s) 0 (omega arith), le-ltb 1456 (length s) within, eq-eqb ((length s - 1) % 5) 0 whole)
 
+-- The checks stand in 01's sequence, 2, 1, 13, one line of `readingChecks` each: the first that finds a fault decides,
+pub reading-order : (s : List ℕ) → lengthVerdict (length s) ≡ first (readingChecks s)
+reading-order = sequence.reading-order
+
+-- and the answer tells its number.
+pub read-first : (s : List ℕ) (r : Answer) → Reads s r → r .refusal ≡ refusalOf (first (readingChecks s))
+read-first s r p = ap (λ (a : Answer). a .refusal) (p .answer) ∙ told (lengthVerdict (length s)) (valueOf s) ∙ ap refusalOf (reading-order s)
+
 -- A refusal holds no units.
 pub refused-zero : (s : List ℕ) (r : Answer) → Reads s r → (r .refusal .number ≡ 0 → ⊥) → r .payload ≡ stored none
 refused-zero s r p h =
@@ -126,6 +139,15 @@ writes-exactly p out r exit w = (
 pub written-front : (p : Payload) (out : List ℕ) (r : Written) (exit : List ℕ) → Writes p out r exit → r .refusal .number ≡ 0
     → (r ≡ record { refusal = accepted; len = length (layout (held p)) }) × (exit ≡ over (layout (held p)) out)
 written-front p out r exit w e = success-left _ _ _ _ _ (w .wrote) (wrote-accepted _ _ _ _ _ (w .wrote) e)
+
+-- The checks stand in 01's sequence: 15 of the whole value, 15 of each access unit in order, 1, 14. The first in `writingChecks` that finds a fault
+-- decides,
+pub writing-order : (p : Payload) (room : ℕ) → valueVerdict p room ≡ first (writingChecks p room)
+writing-order = sequence.writing-order
+
+-- and the answer tells its number.
+pub write-first : (p : Payload) (out : List ℕ) (r : Written) (exit : List ℕ) → Writes p out r exit → r .refusal ≡ refusalOf (first (writingChecks p (length out)))
+write-first p out r exit w = wrote-refusal _ _ _ _ _ (w .wrote) ∙ ap refusalOf (writing-order p (length out))
 
 -- A value that is not legal is refused with 15.
 pub illegal-refused : (p : Payload) (out : List ℕ) (r : Written) (exit : List ℕ) → Writes p out r exit → (LegalPayload p → ⊥) → r .refusal ≡ refused 15
@@ -176,6 +198,38 @@ written-read s a read e out r exit w fits =
   where
     counted : ℕ → Written
     counted n = record { refusal = accepted; len = n }
+
+-- LENT UNITS
+
+-- The same of the functions that C calls, of the bytes in lent arrays. Such an array has 2,037 bytes by its type.
+
+-- `read_into` accepts the same bytes.
+pub into-exactly : (s lent : List ℕ) (r : Head) (exit : List ℕ) → ReadsInto s lent r exit → r .refusal .number ≡ 0 ↔ ((v : Line21) × Legal v × (layout v ≡ s))
+into-exactly s lent r exit p =
+    subst (λ (h : Head). h .refusal .number ≡ 0 ↔ ((v : Line21) × Legal v × (layout v ≡ s))) (sym (p .answer)) (accepted-exactly s (readOf s) (record { bytes = p .bytes; answer = refl }))
+
+-- Reading into a lent array what `write_from` wrote gives the same numbers and the same bytes, with zeros behind the m units.
+pub read-into-written : (flags m : ℕ) (units out : List ℕ) (w : Written) (end : List ℕ) → Writes (payloadIn flags m units) out w end → w .refusal .number ≡ 0
+    → length units ≡ 2037 → (lent : List ℕ) (r : Head) (exit : List ℕ) → ReadsInto (take (w .len) end) lent r exit
+    → (r ≡ record { refusal = accepted; flags = flags; m = m }) × (exit ≡ filled (take (7 * m) units) 2037 0)
+read-into-written flags m units out w end wrote e long lent r exit into =
+    let s = take (w .len) end in
+    let read : Reads s (readOf s) = record { bytes = into .bytes; answer = refl } in
+    let same = read-written (payloadIn flags m units) out w end wrote e (readOf s) read in
+    let few = writes-exactly (payloadIn flags m units) out w end wrote .0 e .0 .few in
+    let all = read-into-as-read s lent r exit into (readOf s) read in (
+      all .0 ∙ ap headOf same ∙ ap (λ (k : ℕ). record { refusal = accepted; flags = flags; m = k }) (lent-count flags m units few),
+      all .1 (ap (λ (a : Answer). a .refusal .number) same) ∙ ap (λ (a : Answer). unitsBytes (a .payload .units)) same ∙ lent-front flags m units few long,
+    )
+
+-- `write_from` of what was read into a lent array gives the bytes back.
+pub written-read-into : (s lent : List ℕ) (a : Head) (exit : List ℕ) → ReadsInto s lent a exit → a .refusal .number ≡ 0
+    → (out : List ℕ) (r : Written) (end : List ℕ) → Writes (payloadIn (a .flags) (a .m) exit) out r end → length s ≤ length out
+    → (r ≡ record { refusal = accepted; len = length s }) × (end ≡ over s out)
+written-read-into s lent a exit into e out r end w fits =
+    let zero : readOf s .refusal .number ≡ 0 = sym (ap (λ (h : Head). h .refusal .number) (into .answer)) ∙ e in
+    written-read s (readOf s) (record { bytes = into .bytes; answer = refl }) zero out r end
+    (subst (λ (p : Payload). Writes p out r end) (into-told s lent a exit into e) w) fits
 
 -- ONE ANSWER
 

@@ -3,3 +3,4 @@ pub mod Layout
 pub mod Reading
 pub mod Writing
 pub mod Lent
+pub mod Order

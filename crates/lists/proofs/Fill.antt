@@ -5,9 +5,15 @@ use native.Mathlib.Omega.{arith}
 use native.Mathlib.Numerals.{add-one}
 use mathlib.Core.Path.{_≡_, _∙_, ap, ap₂, sym, refl}
 use mathlib.Core.List.{List, [], _∷_, _++_, append-assoc, append-nil}
-use lib.ListN.{length, getD, take, set, replicate, length-append}
+use lib.ListN.{length, getD, take, set, replicate, length-append, length-replicate}
 use lib.Seq.{take-suc, length-take-le, take-all, set-at}
 use Rattle.lists.specs.Room.{filled}
+
+-- an array has its places
+pub length-filled : {A : Type 0} (front : List A) (n : ℕ) (blank : A) → length front ≤ n → length (filled front n blank) ≡ n
+length-filled front n blank few =
+    let rest = n - length front in
+    simp (length-append, length-replicate) (omega arith)
 
 module _ {A : Type 0} (front : List A) (n : ℕ) (blank x : A) (i : ℕ) (e : length front ≡ i) (h : i < n) where
   -- storing x at the first blank place puts it behind what the array holds

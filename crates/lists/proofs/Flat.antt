@@ -5,8 +5,8 @@ use native.Mathlib.Nat.{mul-zero, mul-suc, mul-add}
 use native.Mathlib.Omega.{arith}
 use mathlib.Core.Path.{_≡_, _∙_, ap, ap₂, sym, refl}
 use mathlib.Core.List.{List, [], _∷_, _++_, append-assoc, append-nil}
-use lib.ListN.{length, getD, drop, replicate, length-append, replicate-append-replicate}
-use lib.Seq.{drop-drop, drop-at}
+use lib.ListN.{length, getD, take, drop, replicate, length-append, length-drop, replicate-append-replicate}
+use lib.Seq.{drop-drop, drop-at, take-add, length-take-le}
 use Rattle.lists.specs.Room.{filled}
 use Rattle.lists.specs.Flat.{flat, taken}
 
@@ -89,3 +89,23 @@ module _ {A : Type 0} (bytes : A → List ℕ) (width : ℕ) (wide : (x : A) →
         flat-append bytes xs (replicate rest blank)
         ∙ ap (λ (r : List ℕ). flat bytes xs ++ r) (blanks rest)
         ∙ ap (λ (k : ℕ). flat bytes xs ++ replicate {A = ℕ} k 0) left
+
+  -- bytes from which records are taken are laid again by them: those of the first n of k records,
+  module _ (from : List ℕ → A) (same : (s : List ℕ) → width ≤ length s → bytes (from s) ≡ take width s) where
+    pub flat-taken : (k n : ℕ) (s : List ℕ) → n ≤ k → width * n ≤ length s → flat bytes (take n (taken from width k s)) ≡ take (width * n) s
+    flat-taken k zero s few long = sym (ap (λ (m : ℕ). take m s) (mul-zero width))
+    flat-taken zero (suc n) s few long = let f : ⊥ = omega arith in absurd f
+    flat-taken (suc k) (suc n) s few long =
+        let far : width + width * n ≡ width * suc n = omega (arith, mul-suc width n) in
+        let here : width ≤ length s = omega arith in
+        let rest : width * n ≤ length (drop width s) = omega (arith, length-drop width s) in
+        ap₂ (λ (a b : List ℕ). a ++ b) (same s here) (flat-taken k n (drop width s) (omega arith) rest)
+        ∙ sym (take-add width (width * n) s)
+        ∙ ap (λ (m : ℕ). take m s) far
+
+    -- with blank records behind them, zeros
+    pub flat-front : (blank : A) → bytes blank ≡ replicate width 0 → (k n : ℕ) (s : List ℕ) → n ≤ k → width * n ≤ length s
+        → flat bytes (filled (take n (taken from width k s)) k blank) ≡ filled (take (width * n) s) (width * k) 0
+    flat-front blank zeros k n s few long =
+        let most : length (take n (taken from width k s)) ≤ k = omega (arith, length-take-le n (taken from width k s) (omega (arith, length-taken from width k s))) in
+        flat-filled blank zeros (take n (taken from width k s)) k most ∙ ap (λ (front : List ℕ). filled front (width * k) 0) (flat-taken k n s few long)

@@ -1,12 +1,13 @@
 -- What `read_into` answers and leaves in the lent array, by what was found; and that `read`'s answer is made of it.
 -- Assumes nothing.
-use Prim.Native.Nat.{ℕ, _+_, _-_, _≤_}
+use Prim.Native.Nat.{ℕ, _+_}
 use native.Mathlib.Omega.{arith}
 use mathlib.Core.Path.{_≡_, _∙_, ap, ap₂, sym, refl}
 use mathlib.Core.Bool.{false}
 use mathlib.Core.List.{List, [], _∷_}
-use lib.ListN.{length, replicate, length-append, length-replicate}
+use lib.ListN.{length, replicate}
 use Rattle.lists.specs.Bytes.{Bytes}
+use Rattle.lists.proofs.Fill.{length-filled}
 use Rattle.lists.specs.Part.{part}
 use Rattle.refusal.specs.declared.Verdict.{Verdict}
 use Rattle.refusal.specs.declared.Verdict.the-variants.{Accepted, Refused}
@@ -16,7 +17,6 @@ use Rattle.units.specs.declared.Found.{Found}
 use Rattle.units.specs.declared.Found.the-variants as found
 use Rattle.scte20.specs.declared.Head as scte20
 use Rattle.scte20.specs.declared.CaptionUnit.{CaptionUnit}
-use Rattle.scte20.specs.declared.Record.{Record}
 use Rattle.scte20.specs.Value.{Content, blank, none, stored}
 use Rattle.scte20.specs.Reading.{contentVerdict, valueOf}
 use Rattle.scte20.specs.Reading as content
@@ -77,16 +77,11 @@ all-there : (verdict : Verdict) (cs : List Content)
 all-there Accepted cs = refl
 all-there (Refused reason item) cs = sym cleared
 
-stored-places : (c : Content) → length (c .records) ≤ 31 → length (stored c .records) ≡ 31
-stored-places c few =
-    let rest = 31 - length (c .records) in
-    omega (arith, length-append (c .records) (replicate rest blank), length-replicate {A = Record} rest blank)
-
 shown-places : (v : Area) → Legal v → length (shown v .unit .records) ≡ 31
 shown-places (bare us) h = refl
-shown-places (captioned before c after) h = stored-places c (h .units .1 .few)
+shown-places (captioned before c after) h = length-filled (c .records) 31 blank (h .units .1 .few)
 
-answer-places : (s : List ℕ) → Bytes s → (verdict : Verdict) → areaVerdict s ≡ verdict → length (readOf s .unit .records) ≡ 31
+pub answer-places : (s : List ℕ) → Bytes s → (verdict : Verdict) → areaVerdict s ≡ verdict → length (readOf s .unit .records) ≡ 31
 answer-places s bytes Accepted e =
     let back = accepted-back s bytes e in
     ap (λ (a : Answer). length (a .unit .records)) (back .told) ∙ shown-places (back .value) (back .legal)

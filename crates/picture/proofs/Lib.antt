@@ -7,4 +7,6 @@ pub mod Laying
 pub mod Wholes
 pub mod Spots
 pub mod Replaced
+pub mod LentBack
+pub mod Sequence
 pub mod Theorems

@@ -1,14 +1,14 @@
 -- The theorems of the picture area (document 01, demands 1 to 3). What they speak of is defined in specs/: an area's value, when it is legal, its
 -- bytes, and the value with another caption unit in Value, without the reader; what reading answers in Reading, and in a lent array in Lent; what
--- writing and replacing answer and leave in Writing. Which units are ours stands in crate `kind`; units and start codes in `units`; the caption content in `scte20`, whose page has
--- the sizes and the zero run.
+-- writing and replacing answer and leave in Writing; all checks in 01's sequence, as one list for each of the three, in Order. Which units are ours
+-- stands in crate `kind`; units and start codes in `units`; the caption content in `scte20`, whose page has the sizes and the zero run.
 --
 -- The contracts of `read`, `write` and `replace` are the promises `Reads`, `Writes` and `Replaces`. `Reads s r` says that r is the answer to the bytes s,
 -- `Writes u out r exit` that writing the unit u to an output that held `out` answers r and leaves `exit`, and `Replaces s u out r exit` the same of
 -- putting u into the area s. So each theorem speaks of every call. `ReadsInto`, the promise of `read_into`, gives what `read` answers
 -- (`read-into-as-read`), and `write_from` and `replace_from` promise `Writes` and `Replaces` of the value that they are lent, `unitIn` of crate `scte20`:
 -- the theorems speak of them too. Assumes nothing.
-use Prim.Native.Nat.{ℕ, _+_, _≤_, _<_}
+use Prim.Native.Nat.{ℕ, _+_, _*_, _≤_, _<_}
 use native.Mathlib.Omega.{arith}
 use mathlib.Core.Path.{_≡_, _∙_, ap, ap₂, sym, subst, refl}
 use mathlib.Core.Logic.{_↔_}
@@ -17,7 +17,7 @@ use mathlib.Core.List.{List, [], _∷_, _++_, append-nil}
 use lib.ListN.{length, take}
 use Rattle.lists.specs.Each.{Each}
 use Rattle.lists.specs.Part.{part}
-use Rattle.lists.specs.Room.{over}
+use Rattle.lists.specs.Room.{filled, over}
 use Rattle.refusal.specs.declared.Refusal.{Refusal}
 use Rattle.refusal.specs.declared.Reason.{Reason}
 use Rattle.refusal.specs.declared.Item.{Item}
@@ -25,6 +25,7 @@ use Rattle.refusal.specs.declared.Verdict.{Verdict}
 use Rattle.refusal.specs.declared.Verdict.the-variants.{Accepted, Refused}
 use Rattle.refusal.specs.declared.Written.{Written}
 use Rattle.refusal.specs.Numbers.{numberOf, refusalOf}
+use Rattle.refusal.specs.Checks.{first}
 use Rattle.refusal.specs.Answers.{lentOf}
 use Rattle.refusal.proofs.Acceptance.{told-accepted}
 use Rattle.refusal.proofs.Checks.{andThen-accepted, accepted-andThen, andThen-refused}
@@ -39,11 +40,13 @@ use Rattle.units.proofs.Splits.{length-around, layout-bodies, layout-accepted}
 use Rattle.units.proofs.Spans.{count, at-found, part-body, second-many, refused-split}
 use Rattle.units.proofs.Refusals.{start, split-1, split-2, split-3}
 use Rattle.scte20.specs.declared.CaptionUnit.{CaptionUnit}
+use Rattle.scte20.specs.declared.Numbers.{Numbers}
 use Rattle.scte20.specs.Value.{Content, LegalUnit, none, stored, held}
+use Rattle.scte20.specs.Value as scte20
 use Rattle.scte20.specs.Layout as content
 use Rattle.scte20.specs.Reading.{contentVerdict}
 use Rattle.scte20.specs.Writing.{wholeVerdict, writeVerdict}
-use Rattle.scte20.specs.Lent.{recordsBytes}
+use Rattle.scte20.specs.Lent.{recordsBytes, unitIn}
 use Rattle.scte20.proofs.Numbered.{AtBit, content-placed}
 use Rattle.scte20.proofs.Writable.{ForValue, accepted-unit, unit-accepted, write-accepted, accepted-write, z-within, whole-15, value-refused, long-refused, no-room-refused}
 use Rattle.scte20.proofs.Theorems.{stored-held, stored-legal}
@@ -53,8 +56,12 @@ use Rattle.picture.specs.Value.{Area, bare, captioned, bodies, layout, F
 use Rattle.picture.specs.Reading.{placedItem, placed, captionsIn, foundVerdict, areaVerdict, foundContent, answerOf, readOf, shown, Reads}
 use Rattle.picture.specs.Lent.{headOf, ReadsInto}
 use Rattle.picture.specs.Writing.{unitBytes, replacedOf, replaceVerdict, Writes, Replaces}
+use Rattle.picture.specs.Order.{readingChecks, writingChecks, replacingChecks}
+use Rattle.picture.proofs.CleanBody as clean
 use Rattle.picture.proofs.Areas.{foreign-clean, foreign-other, accepted-back, legal-verdict, legal-read, caption-short}
 use Rattle.picture.proofs.Unique.{bodies-clean, same-layout}
+use Rattle.picture.proofs.LentBack.{into-told, into-back}
+use Rattle.picture.proofs.Sequence as sequence
 use Rattle.picture.proofs.Replaced.{replaced-layout, replaced-legal, replaced-long, foreign-same, value-next, written-bytes}
 
 -- an answer of number and place 0 that counts n bytes
@@ -102,9 +109,18 @@ the-value s r p e = let back = accepted-back s (p .bytes) (accepts s r p e) in (
 
 -- WHICH REFUSAL
 
--- A refusal is that of the first check, in 01's order, that finds a fault,
+-- A refusal tells the verdict of all checks,
 pub refused-in-order : (s : List ℕ) (r : Answer) → Reads s r → r .refusal ≡ refusalOf (areaVerdict s)
 refused-in-order = told
+
+-- which stand in 01's sequence, one line of `readingChecks` (specs/Order) each: 1, 2, 3, 4, then the caption content from left to right, whose checks
+-- stand on the page of `scte20`. The first that finds a fault decides,
+pub reading-order : (s : List ℕ) → areaVerdict s ≡ first (readingChecks s)
+reading-order = sequence.reading-order
+
+-- the answer tells its number and place,
+pub read-first : (s : List ℕ) (r : Answer) → Reads s r → r .refusal ≡ refusalOf (first (readingChecks s))
+read-first s r p = told s r p ∙ ap refusalOf (reading-order s)
 
 -- and comes without records: all else in it is zero.
 pub refused-zero : (s : List ℕ) (r : Answer) → Reads s r → (r .refusal .number ≡ 0 → ⊥) → (r .present ≡ false) × (r .unit ≡ stored none)
@@ -162,6 +178,12 @@ refused-content before body after r p fb clean mine fa short reason item e =
       bit .most,
     )
 
+-- NO START CODE IS MADE
+
+-- No legal caption unit's body, stuffing too, holds 00 00 01, so that in an area it is one unit and the units around it are what they were.
+pub legal-clean : (c : Content) → scte20.Legal c → Clean (content.layout c)
+legal-clean = clean.legal-clean
+
 -- READING INTO A LENT ARRAY
 
 -- What `read_into` answers is what `read` does, and the array then holds all records of that answer, zeros beyond n and where no caption unit stands; in a
@@ -193,10 +215,18 @@ pub written-front : (u : CaptionUnit) (out : List ℕ) (r : Written) (exit : Lis
     → (r ≡ written (length (unitBytes (held u)))) × (exit ≡ over (unitBytes (held u)) out)
 written-front u out r exit w e = success-left _ _ _ _ _ (w .wrote) (wrote-accepted _ _ _ _ _ (w .wrote) e)
 
--- A refusal is that of the first check, in 01's order, that finds a fault, and has place 0:
+-- A refusal tells the verdict of all checks.
 pub write-in-order : (u : CaptionUnit) (out : List ℕ) (r : Written) (exit : List ℕ) → Writes u out r exit
     → r .refusal ≡ refusalOf (writeVerdict u (length (unitBytes (held u))) (length out))
 write-in-order u out r exit w = wrote-refusal _ _ _ _ _ (w .wrote)
+
+-- These stand in 01's sequence: 15 of the whole value; each record in order 15, 7, 8, 9; 1; 14. The first in `writingChecks` that finds a fault decides,
+pub writing-order : (u : CaptionUnit) (room : ℕ) → writeVerdict u (length (unitBytes (held u))) room ≡ first (writingChecks u room)
+writing-order = sequence.writing-order
+
+-- and the answer tells its number, with place 0:
+pub write-first : (u : CaptionUnit) (out : List ℕ) (r : Written) (exit : List ℕ) → Writes u out r exit → r .refusal ≡ refusalOf (first (writingChecks u (length out)))
+write-first u out r exit w = write-in-order u out r exit w ∙ ap refusalOf (writing-order u (length out))
 
 -- 15 for a fault of the whole value, whatever the records;
 pub write-15 : (u : CaptionUnit) (out : List ℕ) (r : Written) (exit : List ℕ) → Writes u out r exit → (wholeVerdict u ≡ Accepted → ⊥) → r .refusal ≡ refused 15 0
@@ -339,9 +369,18 @@ put-back before c after h a read u out r exit p e room again end q fits =
     let done = the-new-area w (new .2) (stored c) room again end second ok in
     (done .0 ∙ ap (λ (t : List ℕ). written (length t)) back, done .1 ∙ ap (λ (t : List ℕ). over t room) back)
 
--- A refusal is that of the first check, in 01's order, that finds a fault:
+-- A refusal tells the verdict of all checks.
 pub replace-in-order : (s : List ℕ) (u : CaptionUnit) (out : List ℕ) (r : Written) (exit : List ℕ) → Replaces s u out r exit → r .refusal ≡ refusalOf (replaceVerdict s u (length out))
 replace-in-order s u out r exit p = wrote-refusal _ _ _ _ _ (p .wrote)
+
+-- These stand in 01's sequence: all checks of reading the area, then all of writing, with 1 and 14 on the whole new area. The first in `replacingChecks`
+-- that finds a fault decides,
+pub replacing-order : (s : List ℕ) (u : CaptionUnit) (room : ℕ) → replaceVerdict s u room ≡ first (replacingChecks s u room)
+replacing-order = sequence.replacing-order
+
+-- and the answer tells its number and place:
+pub replace-first : (s : List ℕ) (u : CaptionUnit) (out : List ℕ) (r : Written) (exit : List ℕ) → Replaces s u out r exit → r .refusal ≡ refusalOf (first (replacingChecks s u (length out)))
+replace-first s u out r exit p = replace-in-order s u out r exit p ∙ ap refusalOf (replacing-order s u (length out))
 
 -- the one of reading the area, with its place, whatever the new value;
 pub refused-as-read : (s : List ℕ) (u : CaptionUnit) (out : List ℕ) (r : Written) (exit : List ℕ) → Replaces s u out r exit
@@ -350,7 +389,13 @@ refused-as-read s u out r exit p a read h =
     let refuses : areaVerdict s ≡ Accepted → ⊥ = λ e. h (ap (λ (x : Refusal). x .number) (told s a read ∙ ap refusalOf e)) in
     replace-in-order s u out r exit p ∙ ap refusalOf (andThen-refused (areaVerdict s) _ refuses) ∙ sym (told s a read)
 
--- then 15, 7, 8 or 9 for a value that is not legal;
+-- then 15 for a fault of the whole value, whatever the records;
+pub replace-15 : (v : Area) → Legal v → (u : CaptionUnit) (out : List ℕ) (r : Written) (exit : List ℕ) → Replaces (layout v) u out r exit → (wholeVerdict u ≡ Accepted → ⊥)
+    → r .refusal ≡ refused 15 0
+replace-15 v h u out r exit p illegal =
+    replace-in-order (layout v) u out r exit p ∙ ap refusalOf (value-next v h u (length out)) ∙ whole-15 u (length (layout (replaced v (held u)))) (length out) illegal
+
+-- 15, 7, 8 or 9 for a value that is not legal;
 pub replace-illegal : (v : Area) → Legal v → (u : CaptionUnit) (out : List ℕ) (r : Written) (exit : List ℕ) → Replaces (layout v) u out r exit → (LegalUnit u → ⊥) → ForValue (r .refusal)
 replace-illegal v h u out r exit p illegal =
     subst ForValue (sym (replace-in-order (layout v) u out r exit p ∙ ap refusalOf (value-next v h u (length out)))) (value-refused u (length (layout (replaced v (held u)))) (length out) (λ e. illegal (accepted-unit u (p .typed) e)))
@@ -371,6 +416,59 @@ replace-14 v h u out r exit p legal short room =
 -- A refused call counted nothing and changed nothing.
 pub replace-untouched : (s : List ℕ) (u : CaptionUnit) (out : List ℕ) (r : Written) (exit : List ℕ) → Replaces s u out r exit → (r .refusal .number ≡ 0 → ⊥) → (r .len ≡ 0) × (exit ≡ out)
 replace-untouched s u out r exit p h = refusal-left _ _ _ _ _ (p .wrote) h
+
+-- LENT RECORDS
+
+-- The same of the functions that C calls, of the bytes in lent arrays. Such an array has 155 bytes by its type.
+
+-- `read_into` accepts the same bytes.
+pub into-exactly : (s lent : List ℕ) (r : Head) (exit : List ℕ) → ReadsInto s lent r exit → r .refusal .number ≡ 0 ↔ ((v : Area) × Legal v × (layout v ≡ s))
+into-exactly s lent r exit p =
+    subst (λ (h : Head). h .refusal .number ≡ 0 ↔ ((v : Area) × Legal v × (layout v ≡ s))) (sym (p .answer)) (accepted-exactly s (readOf s) (record { bytes = p .bytes; answer = refl }))
+
+-- Reading into a lent array what `write_from` wrote gives the same numbers and the same bytes, with zeros behind the n records.
+pub read-into-written : (v : Numbers) (records out : List ℕ) (w : Written) (end : List ℕ) → Writes (unitIn v records) out w end → w .refusal .number ≡ 0 → length records ≡ 155
+    → (lent : List ℕ) (r : Head) (exit : List ℕ) → ReadsInto (take (w .len) end) lent r exit
+    → (r ≡ record { refusal = refused 0 0; present = true; numbers = v }) × (exit ≡ filled (take (5 * v .n) records) 155 0)
+read-into-written v records out w end wrote e long lent r exit into =
+    let s = take (w .len) end in
+    let read : Reads s (readOf s) = record { bytes = into .bytes; answer = refl } in
+    let same = read-written (unitIn v records) out w end wrote e (readOf s) read in
+    let few = writes-exactly (unitIn v records) out w end wrote .0 e .0 .few in
+    into-back s lent r exit into v records few long (accepts s (readOf s) read (ap (λ (a : Answer). a .refusal .number) same)) same
+
+-- `write_from` of what was read into a lent array gives the unit's bytes.
+pub written-read-into : (before : List (List ℕ)) (c : Content) (after : List (List ℕ)) → Legal (captioned before c after)
+    → (lent : List ℕ) (a : Head) (kept : List ℕ) → ReadsInto (layout (captioned before c after)) lent a kept
+    → (out : List ℕ) (r : Written) (exit : List ℕ) → Writes (unitIn (a .numbers) kept) out r exit → length (unitBytes c) ≤ length out
+    → (r ≡ written (length (unitBytes c))) × (exit ≡ over (unitBytes c) out)
+written-read-into before c after h lent a kept into out r exit w =
+    let v = captioned before c after in
+    written-read before c after h (readOf (layout v)) (record { bytes = into .bytes; answer = refl }) out r exit
+    (subst (λ (u : CaptionUnit). Writes u out r exit) (into-told (layout v) lent a kept into (legal-verdict v h)) w)
+
+-- Reading into a lent array what `replace_from` wrote gives the new unit's numbers and bytes.
+pub read-into-replaced : (v : Area) → Legal v → (x : Numbers) (records out : List ℕ) (w : Written) (end : List ℕ) → Replaces (layout v) (unitIn x records) out w end
+    → w .refusal .number ≡ 0 → length records ≡ 155 → (lent : List ℕ) (r : Head) (exit : List ℕ) → ReadsInto (take (w .len) end) lent r exit
+    → (r ≡ record { refusal = refused 0 0; present = true; numbers = x }) × (exit ≡ filled (take (5 * x .n) records) 155 0)
+read-into-replaced v h x records out w end p e long lent r exit into =
+    let s = take (w .len) end in
+    let read : Reads s (readOf s) = record { bytes = into .bytes; answer = refl } in
+    let same = read-replaced v h (unitIn x records) out w end p e (readOf s) read in
+    let few = replaces-exactly (layout v) (unitIn x records) out w end p .0 e .3 .few in
+    into-back s lent r exit into x records few long (accepts s (readOf s) read (ap (λ (a : Answer). a .refusal .number) same)) same
+
+-- Replacing, and putting back what was read into a lent array before, gives the area byte for byte.
+pub put-back-into : (before : List (List ℕ)) (c : Content) (after : List (List ℕ)) → Legal (captioned before c after)
+    → (lent : List ℕ) (a : Head) (kept : List ℕ) → ReadsInto (layout (captioned before c after)) lent a kept
+    → (u : CaptionUnit) (out : List ℕ) (r : Written) (exit : List ℕ) → Replaces (layout (captioned before c after)) u out r exit → r .refusal .number ≡ 0
+    → (room : List ℕ) (again : Written) (end : List ℕ) → Replaces (take (r .len) exit) (unitIn (a .numbers) kept) room again end
+    → length (layout (captioned before c after)) ≤ length room
+    → (again ≡ written (length (layout (captioned before c after)))) × (end ≡ over (layout (captioned before c after)) room)
+put-back-into before c after h lent a kept into u out r exit p e room again end q =
+    let v = captioned before c after in
+    put-back before c after h (readOf (layout v)) (record { bytes = into .bytes; answer = refl }) u out r exit p e room again end
+    (subst (λ (x : CaptionUnit). Replaces (take (r .len) exit) x room again end) (into-told (layout v) lent a kept into (legal-verdict v h)) q)
 
 -- ONE ANSWER
 

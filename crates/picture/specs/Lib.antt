@@ -3,3 +3,4 @@ pub mod Reading
 pub mod Lent
 pub mod Writing
 pub mod Inside
+pub mod Order

@@ -14,12 +14,12 @@ use Rattle.lists.specs.Bytes.{Bytes}
 use Rattle.lists.specs.Flat.{taken}
 use Rattle.lists.specs.Room.{filled, over, overAt}
 use Rattle.lists.proofs.Each.{each-of, each-at}
-use Rattle.lists.proofs.Flat.{length-taken, getD-taken, flat-more, length-flat, taken-flat, flat-filled}
+use Rattle.lists.proofs.Flat.{length-taken, getD-taken, flat-more, length-flat, taken-flat, flat-filled, flat-front}
 use Rattle.lists.proofs.Lay.{length-over, sets-overAt, overAt-overAt}
 use Rattle.scte20.specs.declared.Record.{Record}
 use Rattle.scte20.specs.declared.Numbers.{Numbers}
 use Rattle.scte20.specs.declared.CaptionUnit.{CaptionUnit}
-use Rattle.scte20.specs.Value.{ByteRecord, blank, Typed}
+use Rattle.scte20.specs.Value.{ByteRecord, blank, stored, held, Typed}
 use Rattle.scte20.specs.Lent.{recordBytes, recordsBytes, recordIn, lentRecords, storedIf, storedAt, unitIn, numbersOf}
 
 -- ---- one record
@@ -70,6 +70,27 @@ lent-records rs e =
 pub lent-unit : (u : CaptionUnit) → length (u .records) ≡ 31 → unitIn (numbersOf u) (recordsBytes (u .records)) ≡ u
 lent-unit u e =
     ap (λ (rs : List Record). record { reserved = u .reserved; «vbi_data_flag» = u .«vbi_data_flag»; n = u .n; records = rs; z = u .z }) (lent-records (u .records) e)
+
+-- ---- and bytes that tell records are laid again
+
+record-same : (s : List ℕ) → 5 ≤ length s → recordBytes (recordIn s) ≡ take 5 s
+unfolding recordIn
+record-same [] h = let f : ⊥ = omega arith in absurd f
+record-same (a ∷ []) h = let f : ⊥ = omega arith in absurd f
+record-same (a ∷ b ∷ []) h = let f : ⊥ = omega arith in absurd f
+record-same (a ∷ b ∷ c ∷ []) h = let f : ⊥ = omega arith in absurd f
+record-same (a ∷ b ∷ c ∷ d ∷ []) h = let f : ⊥ = omega arith in absurd f
+record-same (a ∷ b ∷ c ∷ d ∷ e ∷ s) h = refl
+
+-- the value that numbers and an array tell, stored again: its numbers, and the bytes of its n records with zeros behind them
+module _ (v : Numbers) (s : List ℕ) (few : v .n ≤ 31) where
+  pub lent-numbers : numbersOf (stored (held (unitIn v s))) ≡ v
+  lent-numbers =
+      let count = length-take-le (v .n) (lentRecords s) (omega (arith, lent-length s)) in
+      ap (λ (n : ℕ). record { reserved = v .reserved; «vbi_data_flag» = v .«vbi_data_flag»; n = n; z = v .z }) count
+
+  pub lent-front : length s ≡ 155 → recordsBytes (stored (held (unitIn v s)) .records) ≡ filled (take (5 * v .n) s) 155 0
+  lent-front e = flat-front recordBytes 5 length-record recordIn record-same blank refl 31 (v .n) s few (omega arith)
 
 -- ---- an array of bytes tells bytes
 

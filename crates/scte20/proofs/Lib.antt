@@ -16,4 +16,5 @@ pub mod Types
 pub mod Holding
 pub mod Judged
 pub mod Writable
+pub mod Sequence
 pub mod Theorems

@@ -1,6 +1,6 @@
 -- The theorems of SCTE 20 caption content (document 01, demands 1 to 3). What they speak of is defined in specs/: a value and when it is legal in
 -- Value; its bits and bytes in Layout, without the reader; the rules over records in Rules; what reading answers in Reading; what writing answers and
--- leaves in Writing; records as bytes in a lent array in Lent.
+-- leaves in Writing; records as bytes in a lent array in Lent; all checks in 01's sequence, as one list for reading and one for writing, in Order.
 --
 -- The contract of `read` is the promise `Reads`: `Reads body r` says that r is the answer to the bytes of a unit's body. That of `read_into` is
 -- `ReadsInto`: `ReadsInto body lent r exit` says that it answers r, and leaves `exit` in a lent array that held `lent`. That of `write`, which lives in
@@ -18,6 +18,7 @@ use Rattle.refusal.specs.declared.Reason.{Reason}
 use Rattle.refusal.specs.declared.Item.{Item}
 use Rattle.refusal.specs.declared.Verdict.{Verdict}
 use Rattle.refusal.specs.declared.Verdict.the-variants.{Accepted, Refused}
+use Rattle.refusal.specs.Checks.{first}
 use Rattle.refusal.specs.Answers.{lentOf}
 use Rattle.scte20.specs.declared.Record.{Record}
 use Rattle.scte20.specs.declared.Numbers.{Numbers}
@@ -28,13 +29,15 @@ use Rattle.scte20.specs.declared.Laid.{Laid}
 use Rattle.scte20.specs.Value.{Content, Legal, LegalUnit, Typed, blank, none, stored, held}
 use Rattle.scte20.specs.Layout.{contentBits, contentBytes, layout, longest}
 use Rattle.scte20.specs.Reading.{contentVerdict, sizeIn, valueOf, answerOf, readOf, Reads}
-use Rattle.scte20.specs.Writing.{valueVerdict, bodyVerdict, countedOf, leftOf, Writes}
+use Rattle.scte20.specs.Writing.{valueVerdict, writeVerdict, bodyVerdict, countedOf, leftOf, Writes}
+use Rattle.scte20.specs.Order.{readingChecks, writingChecks}
 use Rattle.scte20.specs.Lent.{recordsBytes, lentRecords, unitIn, numbersOf, headOf, ReadsInto}
 use Rattle.scte20.proofs.Contents.{content-accepted, value-legal, value-layout}
 use Rattle.scte20.proofs.Layouts.{layout-accepted, layout-value}
 use Rattle.scte20.proofs.Lending.{lent-unit}
 use Rattle.scte20.proofs.Numbered.{AtBit, content-placed}
 use Rattle.scte20.proofs.Writable.{write-accepted, accepted-write}
+use Rattle.scte20.proofs.Sequence as sequence
 use Rattle.scte20.proofs.Sizes as sizes
 use Rattle.scte20.proofs.Zeros as zeros
 
@@ -73,9 +76,19 @@ stored-held c = ap (λ (rs : List Record). record { reserved = c .reserved; flag
 pub stored-legal : (c : Content) → Legal c → LegalUnit (stored c)
 stored-legal c h = record { few = h .few; value = subst Legal (sym (stored-held c)) h }
 
--- A refusal is that of the first check, in 01's order, that finds a fault.
+-- A refusal tells the verdict of all checks.
 pub refused-in-order : (body : List ℕ) (r : Answer) → Reads body r → r .verdict ≡ contentVerdict body
 refused-in-order = told
+
+-- These stand in 01's sequence, from left to right, one line of `readingChecks` (specs/Order) each: 1; user_data_type_code 5, 6; reserved 5; the flag 5;
+-- with flag 1 cc_count 5, each construct 5, 7, 8, 8, 9, marker 6, the sampled video count 5, 10; then, with either flag, alignment bits and stuffing 6.
+-- The first that finds a fault decides,
+pub reading-order : (body : List ℕ) → contentVerdict body ≡ first (readingChecks body)
+reading-order = sequence.reading-order
+
+-- and is what is answered.
+pub read-first : (body : List ℕ) (r : Answer) → Reads body r → r .verdict ≡ first (readingChecks body)
+read-first body r p = told body r p ∙ reading-order body
 
 -- It is 5 to 10, at a bit of the body or at its end,
 pub refused-at : (body : List ℕ) (r : Answer) → Reads body r → length body ≤ 16384 → (reason : Reason) (item : Item) → r .verdict ≡ Refused reason item
@@ -151,10 +164,21 @@ written-there u before after out r exit w e =
       w .left ∙ ap (λ (v : Verdict). leftOf v before (layout (held u)) out) ok,
     )
 
--- A refusal is that of the first check, in 01's order, that finds a fault.
+-- A refusal tells the verdict of all checks.
 pub written-in-order : (u : CaptionUnit) (before after : ℕ) (out : List ℕ) (r : Laid) (exit : List ℕ) → Writes u before after out r exit
     → r .verdict ≡ bodyVerdict u before after (length out)
 written-in-order = judged
+
+-- These stand in 01's sequence: 15 of the whole value, five times; each record in order 15, three times, 7, 8, 8, 9; then 1 for the length of the whole
+-- result, then 14. The first in `writingChecks` that finds a fault decides,
+pub writing-order : (u : CaptionUnit) (size room : ℕ) → writeVerdict u size room ≡ first (writingChecks u size room)
+writing-order = sequence.writing-order
+
+-- and is what is answered.
+pub write-first : (u : CaptionUnit) (before after : ℕ) (out : List ℕ) (r : Laid) (exit : List ℕ) → Writes u before after out r exit
+    → r .verdict ≡ first (writingChecks u (before + length (layout (held u)) + after) (length out))
+write-first u before after out r exit w =
+    judged u before after out r exit w ∙ writing-order u (before + length (layout (held u)) + after) (length out)
 
 -- A refused call counted nothing and changed nothing.
 pub refused-untouched : (u : CaptionUnit) (before after : ℕ) (out : List ℕ) (r : Laid) (exit : List ℕ) → Writes u before after out r exit

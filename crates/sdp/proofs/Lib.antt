@@ -9,4 +9,6 @@ pub mod Rules
 pub mod Beside
 pub mod Types
 pub mod Blank
+pub mod Sequence
+pub mod Fifteen
 pub mod Theorems

@@ -195,7 +195,7 @@ length-beside [] rows e = refl
 length-beside (s ∷ ss) [] e = let f : ⊥ = omega arith in absurd f
 length-beside (s ∷ ss) (row ∷ rows) e = let rest : length ss ≡ length rows = omega arith in ap suc (length-beside ss rows rest)
 
-each-beside : (ss : List Slot) (rows : List (List ℕ)) → Each Row rows → Each RowSlot (beside ss rows)
+pub each-beside : (ss : List Slot) (rows : List (List ℕ)) → Each Row rows → Each RowSlot (beside ss rows)
 each-beside [] rows h = tt
 each-beside (s ∷ ss) [] h = tt
 each-beside (s ∷ ss) (row ∷ rows) h = (h .0, each-beside ss rows (h .1))

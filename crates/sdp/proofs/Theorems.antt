@@ -1,6 +1,8 @@
 -- The theorems of the user words of a subtitling packet (document 01, demands 1 to 3), apart from the header and CS around them. What they speak
 -- of is defined in specs/: a value and when it is legal in Value; its user bytes in Layout, without the reader; the rules over user bytes and the
--- value that they hold in User; which slots can be written in Holdable. Assumes nothing.
+-- value that they hold in User; which slots can be written in Holdable and, in 01's words, in SlotFaults; the checks of a slot in 01's sequence, as
+-- a list, in Order. The packet that carries the user words has all checks of reading in one list (`reading-order` of crate `subtitling`).
+-- Assumes nothing.
 use Prim.Native.Nat.{ℕ, _%_}
 use native.Mathlib.Omega.{arith}
 use mathlib.Core.Path.{_≡_, _∙_, ap, sym, subst}
@@ -9,9 +11,12 @@ use mathlib.Core.List.{List, map}
 use lib.ListN.{length}
 use Rattle.lists.specs.Bytes.{Bytes}
 use Rattle.lists.specs.Sum.{sum}
+use Rattle.refusal.specs.declared.Refusal.{Refusal}
 use Rattle.refusal.specs.declared.Item.{Item}
 use Rattle.refusal.specs.declared.Verdict.{Verdict}
 use Rattle.refusal.specs.declared.Verdict.the-variants.{Accepted}
+use Rattle.refusal.specs.Numbers.{refusalOf}
+use Rattle.refusal.specs.Checks.{first}
 use Rattle.refusal.proofs.Checks.{andThen-accepted}
 use Rattle.anc.specs.Words.{byteOf}
 use Rattle.sdp.specs.declared.Slot.{Slot}
@@ -20,9 +25,17 @@ use Rattle.sdp.specs.Value.{SlotRow, Sdp, LegalSlot, Legal, Row, descrip
 use Rattle.sdp.specs.Layout.{descriptorsOf, count, userLength, userBytes}
 use Rattle.sdp.specs.User.{lineVerdict, headVerdict, tailVerdict, userVerdict, slotOf, userValue}
 use Rattle.sdp.specs.Holdable.{slotVerdict}
+use Rattle.sdp.specs.SlotFaults.{Holdable, Unwritable, NoLine}
+use Rattle.sdp.specs.Order.{slotChecks}
 use Rattle.sdp.proofs.Numbers.{accepted-slot, slot-accepted, length-user}
 use Rattle.sdp.proofs.Accepted.{accepted-head, accepted-tail}
 use Rattle.sdp.proofs.Rules.{Users, sum-user, user-accepted, value-user, user-back}
+use Rattle.sdp.proofs.Fifteen as fifteen
+use Rattle.sdp.proofs.Sequence as sequence
+
+-- a number of 01, and no place
+abbrev refused : ℕ → Refusal
+refused number = record { number = number; place = 0 }
 
 -- READING
 
@@ -65,6 +78,22 @@ empty-exactly x h = (
 -- The checks of a slot let through exactly the legal ones, a row being 42 bytes.
 pub holdable-exactly : (x : SlotRow) → Row (x .row) → slotVerdict x ≡ Accepted ↔ LegalSlot x
 holdable-exactly x row = (accepted-slot x row, slot-accepted x)
+
+-- Its checks stand in 01's sequence: the first in `slotChecks` (specs/Order) that finds a fault decides.
+pub slot-order : (x : SlotRow) → slotVerdict x ≡ first (slotChecks x)
+slot-order = sequence.slot-order
+
+-- A slot gets 15 exactly where one of its numbers cannot be held or it is unwritable,
+pub slot-15 : (x : SlotRow) → refusalOf (slotVerdict x) ≡ refused 15 ↔ (Holdable x → ⊥)
+slot-15 = fifteen.slot-15
+
+-- and else 7 exactly where its line is 1 to 5 or 23 to 31.
+pub slot-7 : (x : SlotRow) → refusalOf (slotVerdict x) ≡ refused 7 ↔ (Holdable x × NoLine (x .slot .line))
+slot-7 = fifteen.slot-7
+
+-- An unwritable slot gives 15: a full one with line 0, reserved 0, even field, or an empty one that holds anything else.
+pub unwritable-15 : (x : SlotRow) → Row (x .row) → Unwritable x → refusalOf (slotVerdict x) ≡ refused 15
+unwritable-15 = fifteen.unwritable-15
 
 -- ONE ANSWER
 

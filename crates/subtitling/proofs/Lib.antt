@@ -1,6 +1,7 @@
 pub mod Numbers
 pub mod Rows
 pub mod Accepted
+pub mod Sequence
 pub mod Packets
 pub mod Back
 pub mod Held

@@ -9,7 +9,7 @@ use lib.ListN.{length, getD, drop, length-map, take-append-drop, drop-of-length-
 use lib.Seq.{getD-at, take-at, drop-drop, drop-cons}
 use Rattle.lists.specs.Bytes.{Bytes}
 use Rattle.lists.specs.Part.{part}
-use Rattle.lists.proofs.Part.{part-cons, length-part}
+use Rattle.lists.proofs.Part.{part-cons}
 use Rattle.refusal.specs.declared.Verdict.the-variants.{Accepted}
 use Rattle.anc.specs.Words.{parityOf, wordOf, byteOf, wordsVerdict, sumVerdict, checksumOf}
 use Rattle.anc.proofs.Words.{byte-word, bytes-words, words-accepted, accepted-words, sum-accepted}
@@ -18,6 +18,7 @@ use Rattle.sdp.specs.User.{userVerdict}
 use Rattle.subtitling.specs.Reading.{coveredIn, userIn, lastOf, formVerdict, headerVerdict, checksumVerdict, packetVerdict}
 use Rattle.subtitling.proofs.Numbers.{length-packet}
 use Rattle.subtitling.proofs.Accepted.{Whole}
+use Rattle.subtitling.proofs.Sequence.{length-user}
 
 -- LAID, THEN READ
 
@@ -87,14 +88,11 @@ module _ (s : List ℕ) (whole : Whole s) where
       (part-cons s 0 4 to (omega (arith, whole .form .long)) (omega (arith, whole .form .long))
       ∙ ap (λ (r : List ℕ). getD s 4 0 ∷ r) (part-cons s 0 5 to (omega (arith, whole .form .long)) (omega (arith, whole .form .long))))
 
-  length-user : length (userIn s) ≡ length s - 7
-  length-user = length-map (part 6 (length s - 1) s) byteOf ∙ length-part s 6 (length s - 1) (omega arith) ∙ omega (arith, whole .form .long)
-
   bytes-covered : map byteOf (coveredIn s) ≡ 0x43 ∷ 0x02 ∷ length (userIn s) ∷ userIn s
   bytes-covered =
       let did : byteOf (getD s 3 0) ≡ 0x43 = ap byteOf (whole .header .did) in
       let sdid : byteOf (getD s 4 0) ≡ 0x02 = ap byteOf (whole .header .sdid) in
-      let dc : byteOf (getD s 5 0) ≡ length (userIn s) = whole .header .dc ∙ sym length-user in
+      let dc : byteOf (getD s 5 0) ≡ length (userIn s) = whole .header .dc ∙ sym (length-user s (whole .form .long)) in
       ap (map byteOf) covered-cons ∙ (λ i. did i ∷ sdid i ∷ dc i ∷ userIn s)
 
   covered-user : covered (userIn s) ≡ coveredIn s

@@ -1,6 +1,6 @@
 -- The theorems of the subtitling packet (document 01, demands 1 to 3). What they speak of is defined in specs/: its words in Layout, without the
--- reader; what reading answers in Reading; what writing answers and leaves in Writing. A value, when it is legal, its user bytes and the rules over
--- them are those of `sdp`, which has a page of theorems too.
+-- reader; what reading answers in Reading; what writing answers and leaves in Writing; all checks in 01's sequence, as one list for reading and one
+-- for writing, in Order. A value, when it is legal, its user bytes and the rules over them are those of `sdp`, which has a page of theorems too.
 --
 -- The contracts of `read`, `read_rows` and `read_into` are the promises `Reads`, `ReadsRows` and `ReadsInto`, and `Writes` is that of `write` and of
 -- `write_from`. `Reads s r` says that r is the answer to the words s, `ReadsRows s rows` that these are the rows in it, `ReadsInto s lent r exit` that
@@ -11,11 +11,12 @@ use native.Mathlib.Omega.{arith}
 use mathlib.Core.Path.{_≡_, _∙_, ap, ap₂, sym, subst, refl}
 use mathlib.Core.Logic.{_↔_}
 use mathlib.Core.Bool.{Bool, true, false, not}
-use mathlib.Core.List.{List}
+use mathlib.Core.List.{List, _∷_, _++_}
 use borrow.Author.Tests.{eqb-true, lt-ltb, le-ltb}
 use lib.Dec.{eqb}
 use lib.ListN.{length, getD, take, drop}
 use lib.Seq.{take-append-seam}
+use Rattle.lists.specs.Each.{Each}
 use Rattle.lists.specs.Room.{over}
 use Rattle.refusal.specs.declared.Refusal.{Refusal}
 use Rattle.refusal.specs.declared.Written.{Written}
@@ -23,7 +24,7 @@ use Rattle.refusal.specs.declared.Verdict.{Verdict}
 use Rattle.refusal.specs.declared.Verdict.the-variants.{Accepted, Refused}
 use Rattle.refusal.specs.declared.Reason.the-variants.{NoStart}
 use Rattle.refusal.specs.declared.Item.the-variants.{Word}
-use Rattle.refusal.specs.Checks.{refuseIf, andThen}
+use Rattle.refusal.specs.Checks.{refuseIf, andThen, first}
 use Rattle.refusal.specs.Numbers.{refusalOf}
 use Rattle.refusal.specs.Answers.{lentOf}
 use Rattle.refusal.proofs.Checks.{andThen-refused}
@@ -31,17 +32,22 @@ use Rattle.refusal.proofs.Acceptance.{told-accepted}
 use Rattle.refusal.proofs.Outputs.{wrote-accepted, accepted-wrote, wrote-refusal, success-left, refusal-left, wrote-determined}
 use Rattle.sdp.specs.declared.Packet.{Packet}
 use Rattle.subtitling.specs.declared.Answer.{Answer}
-use Rattle.sdp.specs.Value.{Sdp, Legal, none, held, numbersOf, rowsOf}
+use Rattle.sdp.specs.Value.{SlotRow, Sdp, LegalSlot, Legal, none, held, numbersOf, rowsOf}
 use Rattle.sdp.specs.Layout.{descriptorsOf, count}
+use Rattle.sdp.specs.Holdable.{slotVerdict}
+use Rattle.sdp.specs.SlotFaults.{Holdable, Unwritable, NoLine}
 use Rattle.subtitling.specs.Layout.{layout}
 use Rattle.subtitling.specs.Reading.{formVerdict, packetVerdict, valueOf, found, readRowsOf, Reads, ReadsRows, ReadsInto}
 use Rattle.subtitling.specs.Writing.{valueVerdict, Writes}
+use Rattle.subtitling.specs.Order.{readingChecks, writingChecks}
 use Rattle.sdp.proofs.Beside.{held-apart, numbers-held, rows-held}
 use Rattle.sdp.proofs.Numbers.{slots-accepted, legal-held}
 use Rattle.sdp.proofs.LegalBytes.{few}
+use Rattle.sdp.proofs.Theorems as sdp
 use Rattle.subtitling.proofs.Numbers.{length-layout, accepted-value, value-accepted}
 use Rattle.subtitling.proofs.Back.{layout-accepted, value-layout, packet-legal}
 use Rattle.subtitling.proofs.Illegal.{Is15or7, illegal-15-or-7}
+use Rattle.subtitling.proofs.Sequence as sequence
 
 -- number and place 0
 abbrev accepted : Refusal
@@ -50,6 +56,10 @@ accepted = record { number = 0; place = 0 }
 -- a number of 01, and no place
 abbrev refused : ℕ → Refusal
 refused number = record { number = number; place = 0 }
+
+-- what has a number refuses
+refused-told : (verdict : Verdict) (number : ℕ) → 0 < number → refusalOf verdict ≡ refused number → verdict ≡ Accepted → ⊥
+refused-told verdict number some told e = omega (arith, sym (ap (λ (v : Verdict). refusalOf v .number) e) ∙ ap (λ (x : Refusal). x .number) told)
 
 -- READING
 
@@ -84,9 +94,19 @@ only-one v w hv hw e = sym (value-layout v hv) ∙ ap valueOf e ∙ value-layout
 pub held-together : (v : Sdp) → held (numbersOf v) (rowsOf v) ≡ v
 held-together = held-apart
 
--- A refusal is that of the first check, in 01's order, that finds a fault.
+-- A refusal tells the verdict of all checks.
 pub refused-in-order : (s : List ℕ) (r : Answer) → Reads s r → r .refusal ≡ refusalOf (packetVerdict s)
 refused-in-order s r p = ap (λ (a : Answer). a .refusal) p
+
+-- These stand in 01's sequence, one line of `readingChecks` (specs/Order) each: 1; 5; 2; 11 of each word, 11 of CS; DID, SDID 6; DC 13; 51, 15: 6;
+-- LENGTH 13; format 6; each descriptor 7; DC against k 13; the structures' fixed bytes and the footer 6; SDP checksum 12; CS 12. The first that finds a
+-- fault decides,
+pub reading-order : (s : List ℕ) → packetVerdict s ≡ first (readingChecks s)
+reading-order = sequence.reading-order
+
+-- and the answer tells its number.
+pub read-first : (s : List ℕ) (r : Answer) → Reads s r → r .refusal ≡ refusalOf (first (readingChecks s))
+read-first s r p = refused-in-order s r p ∙ ap refusalOf (reading-order s)
 
 refused-nothing : (verdict : Verdict) (v : Sdp) → (refusalOf verdict .number ≡ 0 → ⊥) → found verdict v ≡ none
 refused-nothing Accepted v h = absurd (h refl)
@@ -154,8 +174,7 @@ pub refused-2 : (s : List ℕ) (r : Answer) → Reads s r → 20 ≤ length s �
 unfolding packetVerdict
 refused-2 s r p long short h =
     let two = form-refused s long short h in
-    let refuses : formVerdict s ≡ Accepted → ⊥ = λ e. omega (arith, sym (ap (λ (v : Verdict). refusalOf v .number) e) ∙ ap (λ (x : Refusal). x .number) two) in
-    ap (λ (a : Answer). a .refusal) p ∙ ap refusalOf (andThen-refused (formVerdict s) _ refuses) ∙ two
+    ap (λ (a : Answer). a .refusal) p ∙ ap refusalOf (andThen-refused (formVerdict s) _ (refused-told (formVerdict s) 2 (omega arith) two)) ∙ two
 
 -- WRITING
 
@@ -177,6 +196,34 @@ writes-exactly p rows out r exit w = (
 pub written-front : (p : Packet) (rows : List (List ℕ)) (out : List ℕ) (r : Written) (exit : List ℕ) → Writes p rows out r exit → r .refusal .number ≡ 0
     → (r ≡ record { refusal = accepted; len = length (layout (held p rows)) }) × (exit ≡ over (layout (held p rows)) out)
 written-front p rows out r exit w e = success-left _ _ _ _ _ (w .wrote) (wrote-accepted _ _ _ _ _ (w .wrote) e)
+
+-- The checks stand in 01's sequence: 15 of the counter; each slot in order 15, 15 for an unwritable one, 7; 1; 14. The first in `writingChecks` that
+-- finds a fault decides,
+pub writing-order : (v : Sdp) (room : ℕ) → valueVerdict v room ≡ first (writingChecks v room)
+writing-order = sequence.writing-order
+
+-- and the answer tells its number.
+pub write-first : (p : Packet) (rows : List (List ℕ)) (out : List ℕ) (r : Written) (exit : List ℕ) → Writes p rows out r exit
+    → r .refusal ≡ refusalOf (first (writingChecks (held p rows) (length out)))
+write-first p rows out r exit w = wrote-refusal _ _ _ _ _ (w .wrote) ∙ ap refusalOf (writing-order (held p rows) (length out))
+
+-- Where the counter can be held, the first slot that does not pass decides:
+module _ (p : Packet) (rows : List (List ℕ)) (out : List ℕ) (r : Written) (exit : List ℕ) (w : Writes p rows out r exit) (few : p .counter ≤ 65535)
+    (before : List SlotRow) (x : SlotRow) (after : List SlotRow) (here : held p rows .slots ≡ before ++ (x ∷ after)) (passed : Each LegalSlot before) where
+  pub slot-decides : (slotVerdict x ≡ Accepted → ⊥) → r .refusal ≡ refusalOf (slotVerdict x)
+  slot-decides refused = wrote-refusal _ _ _ _ _ (w .wrote) ∙ ap refusalOf (sequence.slot-next (held p rows) (length out) few before x after here passed refused)
+
+  -- 15 where one of its numbers cannot be held or it is unwritable,
+  pub slot-15 : (Holdable x → ⊥) → r .refusal ≡ refused 15
+  slot-15 h = let told = sdp.slot-15 x .1 h in slot-decides (refused-told (slotVerdict x) 15 (omega arith) told) ∙ told
+
+  -- so for a full one with line 0, reserved 0, even field, and for an empty one that holds anything else,
+  pub unwritable-15 : Unwritable x → r .refusal ≡ refused 15
+  unwritable-15 h = slot-15 (sdp.slot-15 x .0 (sdp.unwritable-15 x (sequence.slot-row p rows (w .typed) before x after here) h))
+
+  -- and else 7 where its line is 1 to 5 or 23 to 31.
+  pub slot-7 : Holdable x → NoLine (x .slot .line) → r .refusal ≡ refused 7
+  slot-7 h none = let told = sdp.slot-7 x .1 (h, none) in slot-decides (refused-told (slotVerdict x) 7 (omega arith) told) ∙ told
 
 -- A value that is not legal is refused with 15 or 7.
 pub illegal-refused : (p : Packet) (rows : List (List ℕ)) (out : List ℕ) (r : Written) (exit : List ℕ) → Writes p rows out r exit → (Legal (held p rows) → ⊥)
@@ -245,6 +292,32 @@ written-read s a rows read readRows e out r exit w fits =
   where
     counted : ℕ → Written
     counted n = record { refusal = accepted; len = n }
+
+-- LENT ROWS
+
+-- The same of the functions that C calls, of the rows in lent arrays.
+
+-- `read_into` accepts the same words.
+pub into-exactly : (s : List ℕ) (lent : List (List ℕ)) (r : Answer) (exit : List (List ℕ)) → ReadsInto s lent r exit
+    → r .refusal .number ≡ 0 ↔ ((v : Sdp) × Legal v × (layout v ≡ s))
+into-exactly s lent r exit i = accepted-exactly s r (i .answer)
+
+-- Reading into lent rows what was written gives the same numbers and the same rows.
+pub read-into-written : (p : Packet) (rows : List (List ℕ)) (out : List ℕ) (w : Written) (end : List ℕ) → Writes p rows out w end → w .refusal .number ≡ 0
+    → (lent : List (List ℕ)) (r : Answer) (exit : List (List ℕ)) → ReadsInto (take (w .len) end) lent r exit
+    → (r ≡ record { refusal = accepted; packet = p }) × (exit ≡ rows)
+read-into-written p rows out w end wrote e lent r exit i =
+    let s = take (w .len) end in
+    let same = read-written p rows out w end wrote e r (readRowsOf s) (i .answer) refl in
+    let all = read-into-as-read s lent r exit i r (readRowsOf s) (i .answer) refl in
+    (same .0, all .1 (ap (λ (a : Answer). a .refusal .number) (same .0)) ∙ same .1)
+
+-- Writing what was read into lent rows gives the words back.
+pub written-read-into : (s : List ℕ) (lent : List (List ℕ)) (a : Answer) (exit : List (List ℕ)) → ReadsInto s lent a exit → a .refusal .number ≡ 0
+    → (out : List ℕ) (r : Written) (end : List ℕ) → Writes (a .packet) exit out r end → length s ≤ length out
+    → (r ≡ record { refusal = accepted; len = length s }) × (end ≡ over s out)
+written-read-into s lent a exit i e =
+    written-read s a exit (i .answer) (read-into-as-read s lent a exit i a (readRowsOf s) (i .answer) refl .1 e) e
 
 -- ONE ANSWER
 

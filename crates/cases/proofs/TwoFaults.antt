@@ -1,0 +1,22 @@
+-- Every row of the table of two faults holds: the definitions compute to its refusal.
+-- Assumes nothing.
+use mathlib.Core.Path.{refl}
+use Rattle.bits.specs.Bits.{reversed}
+use Rattle.kind.specs.Ours.{ours}
+use Rattle.units.specs.Split.{frontVerdict, splitVerdict}
+use Rattle.scte20.specs.Layout.{padding}
+use Rattle.scte20.specs.Rules.{recordVerdict}
+use Rattle.scte20.specs.Reading as scte20
+use Rattle.scte20.specs.Writing as captions
+use Rattle.anc.specs.Words.{parityOf, wordOf, wordVerdict, nineBitSum, checksumOf, sumVerdict}
+use Rattle.line21.specs.Reading.{lengthVerdict}
+use Rattle.line21.specs.Writing as payloads
+use Rattle.sdp.specs.User.{lineVerdict, structureVerdict, headVerdict, tailVerdict}
+use Rattle.sdp.specs.Holdable.{slotVerdict}
+use Rattle.subtitling.specs.Reading.{formVerdict, headerVerdict, checksumVerdict, packetVerdict}
+use Rattle.subtitling.specs.Writing as packets
+use Rattle.cases.specs.TwoFaults.{All, two-faults}
+
+pub two-fault-cases : All two-faults
+unfolding reversed ours frontVerdict splitVerdict padding recordVerdict scte20.missing scte20.constructAt scte20.markerVerdict scte20.sampledVerdict scte20.restVerdict scte20.headVerdict scte20.contentVerdict captions.wholeVerdict captions.rangeVerdict captions.valueVerdict parityOf wordOf wordVerdict nineBitSum checksumOf sumVerdict lengthVerdict payloads.unitVerdict payloads.valueVerdict lineVerdict structureVerdict headVerdict tailVerdict slotVerdict formVerdict headerVerdict checksumVerdict packetVerdict packets.valueVerdict
+two-fault-cases = ((refl, refl), ((refl, refl), ((refl, refl), ((refl, refl), ((refl, refl), ((refl, refl), ((refl, refl), ((refl, refl), ((refl, refl), ((refl, refl), ((refl, refl), ((refl, refl), ((refl, refl), ((refl, refl), ((refl, refl), ((refl, refl), ((refl, refl), ((refl, refl), ((refl, refl), ((refl, refl), ((refl, refl), ((refl, refl), ((refl, refl), ((refl, refl), ((refl, refl), ((refl, refl), ((refl, refl), ((refl, refl), ((refl, refl), ((refl, refl), ((refl, refl), ((refl, refl), ((refl, refl), ((refl, refl), ((refl, refl), ((refl, refl), ((refl, refl), ((refl, refl), ((refl, refl), ((refl, refl), ((refl, refl), ((refl, refl), ((refl, refl), ((refl, refl), ((refl, refl), tt)))))))))))))))))))))))))))))))))))))))))))))

@@ -1,0 +1,50 @@
+-- The definitions of reading and writing check in 01's sequence.
+-- Assumes nothing.
+use Prim.Native.Nat.{ℕ, zero, suc, _+_}
+use mathlib.Core.Path.{_≡_, refl}
+use mathlib.Core.List.{List, [], _∷_}
+use Rattle.refusal.specs.declared.Fixed.{Fixed}
+use Rattle.refusal.specs.Checks.{first}
+use Rattle.refusal.proofs.Checks.{andThen-assoc, andThen-last}
+use Rattle.refusal.proofs.Sequence.{first-append}
+use Rattle.scte20.specs.declared.Record.{Record}
+use Rattle.scte20.specs.declared.CaptionUnit.{CaptionUnit}
+use Rattle.scte20.specs.Rules.{recordVerdict}
+use Rattle.scte20.specs.Reading.{missing, zeroVerdict, constructAt, markerVerdict, constructsVerdict, sampledVerdict, restVerdict, headVerdict, flagVerdict, contentVerdict}
+use Rattle.scte20.specs.Writing.{wholeVerdict, rangeVerdict, recordsVerdict, valueVerdict, writeVerdict}
+use Rattle.scte20.specs.Order.{constructsChecks, zeroChecks, restChecks, flagChecks, readingChecks, recordsChecks, writingChecks}
+
+-- READING
+
+constructs-order : (before : List Record) (k at : ℕ) (xs : List ℕ) → constructsVerdict before k at xs ≡ first (constructsChecks before k at xs)
+unfolding missing recordVerdict markerVerdict
+constructs-order before zero at xs = refl
+constructs-order before (suc k) at xs = simp (constructs-order (constructAt at xs ∷ before) k (at + 26) xs, andThen-assoc, andThen-last)
+
+zero-order : (which : Fixed) (at : ℕ) (bs : List ℕ) → zeroVerdict which at bs ≡ first (zeroChecks which at bs)
+zero-order which at [] = refl
+zero-order which at (b ∷ bs) = simp (zero-order which (suc at) bs)
+
+rest-order : (at : ℕ) (xs : List ℕ) → restVerdict at xs ≡ first (restChecks at xs)
+unfolding restVerdict
+rest-order at xs = simp (zero-order, first-append, andThen-last)
+
+flag-order : (flag : ℕ) (xs : List ℕ) → flagVerdict flag xs ≡ first (flagChecks flag xs)
+unfolding missing sampledVerdict
+flag-order zero xs = rest-order 16 xs
+flag-order (suc f) xs = simp (constructs-order, rest-order, first-append, andThen-assoc, andThen-last)
+
+pub reading-order : (body : List ℕ) → contentVerdict body ≡ first (readingChecks body)
+unfolding contentVerdict headVerdict missing
+reading-order body = simp (flag-order, andThen-assoc)
+
+-- WRITING
+
+records-order : (before : List Record) (at : ℕ) (rs : List Record) → recordsVerdict before at rs ≡ first (recordsChecks before at rs)
+unfolding rangeVerdict recordVerdict
+records-order before at [] = refl
+records-order before at (r ∷ rs) = simp (records-order (r ∷ before) (at + 26) rs, andThen-assoc, andThen-last)
+
+pub writing-order : (u : CaptionUnit) (size room : ℕ) → writeVerdict u size room ≡ first (writingChecks u size room)
+unfolding valueVerdict wholeVerdict
+writing-order u size room = simp (records-order, first-append, andThen-assoc, andThen-last)
