@@ -52,9 +52,12 @@ use Rattle.scte20.proofs.Writable.{ForValue, accepted-unit, unit-accepted, writ
 use Rattle.scte20.proofs.Theorems.{stored-held, stored-legal}
 use Rattle.picture.specs.declared.Answer.{Answer}
 use Rattle.picture.specs.declared.Head.{Head}
+use Rattle.picture.specs.declared.Spot.{Spot}
+use Rattle.picture.specs.declared.Old.{Old}
 use Rattle.picture.specs.Value.{Area, bare, captioned, bodies, layout, Foreign, Legal, replaced, foreignOf}
 use Rattle.picture.specs.Reading.{placedItem, placed, captionsIn, foundVerdict, areaVerdict, foundContent, answerOf, readOf, shown, Reads}
 use Rattle.picture.specs.Lent.{headOf, ReadsInto}
+use Rattle.picture.specs.Inside.{ReadsOld}
 use Rattle.picture.specs.Writing.{unitBytes, replacedOf, replaceVerdict, Writes, Replaces}
 use Rattle.picture.specs.Order.{readingChecks, writingChecks, replacingChecks}
 use Rattle.picture.proofs.CleanBody as clean
@@ -479,6 +482,16 @@ read-determined s a b p q = p .answer ∙ sym (q .answer)
 pub read-into-determined : (s lent : List ℕ) (a : Head) (exit : List ℕ) (b : Head) (end : List ℕ)
     → ReadsInto s lent a exit → ReadsInto s lent b end → (a ≡ b) × (exit ≡ end)
 read-into-determined s lent a exit b end p q = (p .answer ∙ sym (q .answer), p .left ∙ sym (q .left))
+
+pub read-old-determined : (s lent : List ℕ) (a : Old) (exit : List ℕ) (b : Old) (end : List ℕ)
+    → ReadsOld s lent a exit → ReadsOld s lent b end → (a ≡ b) × (exit ≡ end)
+read-old-determined s lent a exit b end p q = (
+  ap₂ (λ (h : Head) (spot : Spot). with-spot h spot) (p .head .answer ∙ sym (q .head .answer)) (p .place ∙ sym (q .place)),
+  p .head .left ∙ sym (q .head .left),
+)
+  where
+    with-spot : Head → Spot → Old
+    with-spot h spot = record { refusal = h .refusal; present = h .present; numbers = h .numbers; spot = spot }
 
 pub write-determined : (u : CaptionUnit) (out : List ℕ) (a : Written) (exit : List ℕ) (b : Written) (end : List ℕ)
     → Writes u out a exit → Writes u out b end → (a ≡ b) × (exit ≡ end)

@@ -10,7 +10,7 @@ use Prim.Native.Nat.{ℕ, _+_, _*_, _≤_}
 use native.Mathlib.Omega.{arith}
 use mathlib.Core.Path.{_≡_, _∙_, ap, ap₂, sym, subst, refl}
 use mathlib.Core.Logic.{_↔_}
-use mathlib.Core.List.{List}
+use mathlib.Core.List.{List, []}
 use lib.ListN.{length, getD}
 use lib.Seq.{take-append-seam}
 use Rattle.lists.specs.Room.{overAt}
@@ -21,6 +21,7 @@ use Rattle.refusal.specs.declared.Verdict.the-variants.{Accepted, Refused}
 use Rattle.refusal.specs.Checks.{first}
 use Rattle.refusal.specs.Answers.{lentOf}
 use Rattle.scte20.specs.declared.Record.{Record}
+use Rattle.scte20.specs.declared.Last.{Last}
 use Rattle.scte20.specs.declared.Numbers.{Numbers}
 use Rattle.scte20.specs.declared.CaptionUnit.{CaptionUnit}
 use Rattle.scte20.specs.declared.Answer.{Answer}
@@ -31,7 +32,8 @@ use Rattle.scte20.specs.Layout.{contentBits, contentBytes, layout, longe
 use Rattle.scte20.specs.Reading.{contentVerdict, sizeIn, valueOf, answerOf, readOf, Reads}
 use Rattle.scte20.specs.Writing.{valueVerdict, writeVerdict, bodyVerdict, countedOf, leftOf, Writes}
 use Rattle.scte20.specs.Order.{readingChecks, writingChecks}
-use Rattle.scte20.specs.Lent.{recordsBytes, lentRecords, unitIn, numbersOf, headOf, ReadsInto}
+use Rattle.scte20.specs.Lent.{recordsBytes, lentRecords, storedAt, unitIn, numbersOf, headOf, ReadsInto}
+use Rattle.scte20.specs.Inside.{lastOf, lastVerdict, lastAfter}
 use Rattle.scte20.proofs.Contents.{content-accepted, value-legal, value-layout}
 use Rattle.scte20.proofs.Layouts.{layout-accepted, layout-value}
 use Rattle.scte20.proofs.Lending.{lent-unit}
@@ -215,6 +217,9 @@ read-into-determined body lent a exit b end p q = (p .answer ∙ sym (q .answer)
 pub record-in-determined : (s : List ℕ) (i : ℕ) (a b : Record) → a ≡ getD (lentRecords s) i blank → b ≡ getD (lentRecords s) i blank → a ≡ b
 record-in-determined s i a b p q = p ∙ sym q
 
+pub put-record-determined : (i : ℕ) (r : Record) (s exit end : List ℕ) → exit ≡ storedAt i r s → end ≡ storedAt i r s → exit ≡ end
+put-record-determined i r s exit end p q = p ∙ sym q
+
 pub unit-of-determined : (v : Numbers) (s : List ℕ) (a b : CaptionUnit) → a ≡ unitIn v s → b ≡ unitIn v s → a ≡ b
 unit-of-determined v s a b p q = p ∙ sym q
 
@@ -226,6 +231,15 @@ bytes-of-determined u a b p q = p ∙ sym q
 
 pub judge-value-determined : (v : Numbers) (s : List ℕ) (a b : Verdict) → a ≡ valueVerdict (unitIn v s) → b ≡ valueVerdict (unitIn v s) → a ≡ b
 judge-value-determined v s a b p q = p ∙ sym q
+
+pub first-determined : (a b : Last) → a ≡ lastOf [] → b ≡ lastOf [] → a ≡ b
+first-determined a b p q = p ∙ sym q
+
+pub judge-record-determined : (at : ℕ) (last : Last) (r : Record) (a b : Verdict) → a ≡ lastVerdict at last r → b ≡ lastVerdict at last r → a ≡ b
+judge-record-determined at last r a b p q = p ∙ sym q
+
+pub after-determined : (last : Last) (r : Record) (a b : Last) → a ≡ lastAfter last r → b ≡ lastAfter last r → a ≡ b
+after-determined last r a b p q = p ∙ sym q
 
 pub nothing-determined : (a b : CaptionUnit) → a ≡ stored none → b ≡ stored none → a ≡ b
 nothing-determined a b p q = p ∙ sym q

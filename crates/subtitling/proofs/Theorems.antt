@@ -322,6 +322,9 @@ written-read-into s lent a exit i e =
 -- ONE ANSWER
 
 -- For each function, two answers that keep its promise are equal, lent memory too.
+pub judge-determined : (s : List ℕ) (a b : Verdict) → a ≡ packetVerdict s → b ≡ packetVerdict s → a ≡ b
+judge-determined s a b ra rb = ra ∙ sym rb
+
 pub read-determined : (s : List ℕ) (a b : Answer) → Reads s a → Reads s b → a ≡ b
 read-determined s a b ra rb = ra ∙ sym rb
 
