@@ -1,4 +1,4 @@
--- An order of checks as one list: what a list in parts means, and that a check is reached only where those before it accept.
+-- An order of checks as one list: what a list in parts means, and that what comes after a check matters only where it accepts.
 -- Assumes nothing.
 use mathlib.Core.Path.{_≡_, _∙_, ap, sym, refl}
 use mathlib.Core.List.{List, [], _∷_, _++_, map}
@@ -24,10 +24,6 @@ first-each checks (x ∷ xs) =
 pub andThen-agree : (check next other : Verdict) → (check ≡ Accepted → next ≡ other) → andThen check next ≡ andThen check other
 andThen-agree Accepted next other h = h refl
 andThen-agree (Refused reason item) next other h = refl
-
--- two ends of a list that agree wherever what stands before them accepts
-pub first-agree : (xs ys zs : List Verdict) → (first xs ≡ Accepted → first ys ≡ first zs) → first (xs ++ ys) ≡ first (xs ++ zs)
-first-agree xs ys zs h = first-append xs ys ∙ andThen-agree (first xs) (first ys) (first zs) h ∙ sym (first-append xs zs)
 
 -- of elements that are checked in order, the first that is refused decides
 pub first-refused : {A : Type 0} (check : A → Verdict) (xs : List A) (x : A) (ys : List A) → Each (λ (y : A). check y ≡ Accepted) xs → (check x ≡ Accepted → ⊥)
