@@ -1,6 +1,5 @@
 // The picture area.
 ghost use mathlib.Core.Path.{_≡_};
-ghost use Prim.Native.Nat.{min};
 ghost use Rattle.scte20.specs.Lent.{unitIn};
 ghost use Rattle.picture.specs.Writing.{Writes, Replaces};
 ghost use Rattle.captions.specs.Calls.{numbersIn, AreaReads};
@@ -67,16 +66,9 @@ fn numbers_of(reserved: u32, vbi_data_flag: u32, n: usize, z: usize) -> Numbers
     ensures { λ r. ⌜ r ≡ numbersIn reserved «vbi_data_flag» n z ⌝ }
 {
     Numbers {
-        reserved: narrow(reserved),
-        vbi_data_flag: narrow(vbi_data_flag),
+        reserved: scte20::narrow(reserved as usize),
+        vbi_data_flag: scte20::narrow(vbi_data_flag as usize),
         n,
         z,
     }
-}
-
-// A number that a byte cannot hold becomes 255, which neither the reserved bits nor the flag can be: it is refused, not cut.
-fn narrow(x: u32) -> u8
-    ensures { λ r. ⌜ r ≡ min x 255 ⌝ }
-{
-    if x < 255 { x as u8 } else { 255 }
 }

@@ -92,8 +92,8 @@ fn head_of(text: &[u8]) -> Head
     let z = numbers::decimal_at(text, flag.end);
     Head {
         is_readable: reserved.is_readable & flag.is_readable & z.is_readable,
-        reserved: numbers::byte(reserved.value),
-        vbi_data_flag: numbers::byte(flag.value),
+        reserved: scte20::narrow(reserved.value),
+        vbi_data_flag: scte20::narrow(flag.value),
         z: z.value,
         end: z.end,
     }

@@ -44,13 +44,6 @@ pub(crate) fn hex_at(text: &[u8], at: usize) -> Taken
     }
 }
 
-// What a byte holds of a number: a larger one becomes 255.
-pub(crate) fn byte(n: usize) -> u8
-    ensures { λ r. ⌜ r ≡ min n 255 ⌝ }
-{
-    if n < 255 { n as u8 } else { 255 }
-}
-
 // One digit or more.
 fn decimal(word: &[u8]) -> Number
     ensures { λ r. ⌜ Reads (isDecimal (now (word .entry))) (cappedOf (now (word .entry))) r ⌝ }

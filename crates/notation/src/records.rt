@@ -60,9 +60,9 @@ fn entry_at(text: &[u8], at: usize) -> Entry
             & data_2.is_readable,
         end: data_2.end,
         record: Record {
-            cc_priority: numbers::byte(priority.value),
-            field_number: DisplayField(numbers::byte(field.value)),
-            line_offset: numbers::byte(line.value),
+            cc_priority: scte20::narrow(priority.value),
+            field_number: DisplayField(scte20::narrow(field.value)),
+            line_offset: scte20::narrow(line.value),
             cc_data_1: data_1.value as u8,
             cc_data_2: data_2.value as u8,
         },

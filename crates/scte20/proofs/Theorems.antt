@@ -6,7 +6,7 @@
 -- `ReadsInto`: `ReadsInto body lent r exit` says that it answers r, and leaves `exit` in a lent array that held `lent`. That of `write`, which lives in
 -- the crate scte20_writer, is `Writes`: `Writes u before after out r exit` says that writing the body of u, with so many bytes before and after it, to an
 -- output that held `out` answers r and leaves `exit`. So each theorem speaks of every call. Assumes nothing.
-use Prim.Native.Nat.{ℕ, _+_, _*_, _≤_}
+use Prim.Native.Nat.{ℕ, _+_, _*_, _≤_, min}
 use native.Mathlib.Omega.{arith}
 use mathlib.Core.Path.{_≡_, _∙_, ap, ap₂, sym, subst, refl}
 use mathlib.Core.Logic.{_↔_}
@@ -216,6 +216,9 @@ read-into-determined body lent a exit b end p q = (p .answer ∙ sym (q .answer)
 
 pub record-in-determined : (s : List ℕ) (i : ℕ) (a b : Record) → a ≡ getD (lentRecords s) i blank → b ≡ getD (lentRecords s) i blank → a ≡ b
 record-in-determined s i a b p q = p ∙ sym q
+
+pub narrow-determined : (n a b : ℕ) → a ≡ min n 255 → b ≡ min n 255 → a ≡ b
+narrow-determined n a b p q = p ∙ sym q
 
 pub put-record-determined : (i : ℕ) (r : Record) (s exit end : List ℕ) → exit ≡ storedAt i r s → end ≡ storedAt i r s → exit ≡ end
 put-record-determined i r s exit end p q = p ∙ sym q

@@ -1,5 +1,6 @@
 // Records as bytes in a lent array.
 ghost use mathlib.Core.Path.{_≡_};
+ghost use Prim.Native.Nat.{min};
 ghost use lib.ListN.{getD};
 ghost use Rattle.scte20.specs.Value.{blank as Value·blank, none, stored};
 ghost use Rattle.scte20.specs.Lent.{recordsBytes, lentRecords, storedAt, unitIn, numbersOf};
@@ -87,6 +88,13 @@ pub fn bytes_of(unit: CaptionUnit) -> [u8; LENT_RECORDS]
         i += 1;
     }
     bytes
+}
+
+// A number on its way into a value. One that a byte cannot hold becomes 255, which no item of the value allows: it is refused, not cut.
+pub fn narrow(n: usize) -> u8
+    ensures { λ r. ⌜ r ≡ min n 255 ⌝ }
+{
+    if n < 255 { n as u8 } else { 255 }
 }
 
 // No value: what an answer without one holds.

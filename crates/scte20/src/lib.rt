@@ -4,6 +4,7 @@
 mod lent;
 
 pub use lent::bytes_of;
+pub use lent::narrow;
 pub use lent::nothing;
 pub use lent::numbers_of;
 pub use lent::put_record;

@@ -14,7 +14,7 @@ returns c =
     let text = now (first .before .before .args .text) in
     takes-head text (first .decimal-at .result) (second .decimal-at2 .result) (third .decimal-at3 .result)
     (first .decimal-at .ensures) (second .decimal-at2 .ensures) (third .decimal-at3 .ensures)
-    (c .before .byte .result) (c .byte2 .result) (c .before .byte .ensures) (c .byte2 .ensures)
+    (c .before .narrow .result) (c .narrow2 .result) (c .before .narrow .ensures) (c .narrow2 .ensures)
 
 pub head-of-spec : {M : Type 1} → statement M
 head-of-spec =

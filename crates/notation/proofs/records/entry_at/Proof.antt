@@ -23,8 +23,8 @@ returns c =
     takes-entry (now (args .text)) (args .at)
     (first .decimal-at .result) (second .decimal-at2 .result) (third .decimal-at3 .result) (fourth .hex-at .result) (fifth .hex-at2 .result)
     (first .decimal-at .ensures) (second .decimal-at2 .ensures) (third .decimal-at3 .ensures) (fourth .hex-at .ensures .takes) (fifth .hex-at2 .ensures .takes)
-    (bytes .before .before .byte .result) (bytes .before .byte2 .result) (bytes .byte3 .result)
-    (bytes .before .before .byte .ensures) (bytes .before .byte2 .ensures) (bytes .byte3 .ensures)
+    (bytes .before .before .narrow .result) (bytes .before .narrow2 .result) (bytes .narrow3 .result)
+    (bytes .before .before .narrow .ensures) (bytes .before .narrow2 .ensures) (bytes .narrow3 .ensures)
 
 pub entry-at-spec : {M : Type 1} → statement M
 entry-at-spec =
