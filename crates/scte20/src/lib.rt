@@ -83,5 +83,5 @@ pub struct Laid {
 pub struct Last {
     pub field_number: DisplayField,
     pub line_offset: u8,
-    pub urgent: usize,
+    pub urgent: u8,
 }

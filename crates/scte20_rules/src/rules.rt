@@ -71,11 +71,9 @@ pub fn after(last: Last, r: Record) -> Last
 }
 
 // One more where there is one, and no more than four.
-fn counted(kept: usize, more: bool) -> usize
+fn counted(kept: u8, more: bool) -> u8
     ensures { λ n. ⌜ n ≡ min (one more + kept) 4 ⌝ }
 {
-    if 3 < kept {
-        return 4;
-    }
-    if more { kept + 1 } else { kept }
+    let all = if more { kept as u16 + 1 } else { kept as u16 };
+    if all < 4 { all as u8 } else { 4 }
 }

@@ -1,17 +1,23 @@
--- `scte20_rules::rules::counted` meets its contract: the test of four, then that of one more, are those of `min`.
+-- `scte20_rules::rules::counted` meets its contract: the sum is made by the first test, and held to four by the second.
 -- Assumes nothing.
+use Prim.Native.Nat.{_+_}
 use native.Mathlib.Omega.{arith}
-use mathlib.Core.Path.{ap}
+use mathlib.Core.Path.{_≡_, ap}
+use mathlib.Core.Logic.{⊎-elim}
 use borrow.Author.Needs.{needs}
 use Rattle.scte20.specs.Value.{one}
 use Rattle.scte20_rules.proofs.rules.counted.Statement.{statement}
 use Rattle.scte20_rules.proofs.rules.counted.Tie as tie
 
-more : tie.Need-returns-2
-more c = omega (arith, c .before .if1 .left, ap one (c .if2 .taken))
+-- what the first test leaves
+sum : (c : tie.Joined1) → c .if1 .all ≡ one (c .before .args .more) + c .before .args .kept
+sum c = ⊎-elim (λ w. omega (arith, w .1, ap one (w .0 .taken))) (λ w. omega (arith, w .1, ap one (w .0 .left))) (c .if1 .came)
 
-no-more : tie.Need-returns-3
-no-more c = omega (arith, c .before .if1 .left, ap one (c .if2 .left))
+fewer : tie.Need-returns
+fewer c = omega (arith, sum (c .before .before), c .before .if2 .taken)
+
+four : tie.Need-returns-2
+four c = omega (arith, sum (c .before), c .if2 .left)
 
 pub counted-spec : {M : Type 1} → statement M
-counted-spec = tie.close (tie.spec (λ c. search needs) (λ c. search needs) more no-more)
+counted-spec = tie.close (tie.spec (λ c. search needs) (λ c. search needs) fewer four)
