@@ -1,4 +1,4 @@
--- What functions promise each other on the way to an answer. No theorem for a signer speaks of it.
+-- What functions promise each other on the way to an answer. A signer may pass it over.
 use Prim.Native.Nat.{ℕ, _≤_}
 use mathlib.Core.Path.{_≡_}
 use mathlib.Core.List.{List}

@@ -34,6 +34,8 @@ use Rattle.scte20.specs.Writing.{valueVerdict, writeVerdict, bodyVerdict
 use Rattle.scte20.specs.Order.{readingChecks, writingChecks}
 use Rattle.scte20.specs.Lent.{recordsBytes, lentRecords, storedAt, unitIn, numbersOf, headOf, ReadsInto}
 use Rattle.scte20.specs.Inside.{lastOf, lastVerdict, lastAfter}
+use Rattle.scte20.specs.Rules.{recordVerdict}
+use Rattle.scte20.proofs.Order.{Back, last-record}
 use Rattle.scte20.proofs.Contents.{content-accepted, value-legal, value-layout}
 use Rattle.scte20.proofs.Layouts.{layout-accepted, layout-value}
 use Rattle.scte20.proofs.Lending.{lent-unit}
@@ -203,6 +205,12 @@ zero-run = zeros.zero-run
 -- and 22 is reached.
 pub zero-run-reached : (c : Content) × Legal c × (longest (contentBits c) ≡ 22)
 zero-run-reached = zeros.zero-run-reached
+
+-- WHAT IS KEPT
+
+-- What the code keeps of the records before decides as the records themselves do, where fields never rise going back.
+pub kept-decides : (at : ℕ) (before : List Record) (r : Record) → Back before → lastVerdict at (lastOf before) r ≡ recordVerdict at before r
+kept-decides = last-record
 
 -- ONE ANSWER
 

@@ -1,4 +1,5 @@
--- What private functions promise each other: what the reader keeps on its way. No theorem for a signer speaks of it.
+-- What functions promise each other on the way to an answer: what reading and writing keep of the records before. A signer may pass it over: it decides as
+-- `recordVerdict` does.
 use Prim.Native.Nat.{ℕ, _+_, _/_, _%_, _^_, min}
 use mathlib.Core.Path.{_≡_}
 use mathlib.Core.Bool.{Bool, true, false, not, _&&_}
