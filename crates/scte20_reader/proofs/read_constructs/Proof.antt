@@ -17,8 +17,7 @@ use Rattle.refusal.specs.Checks.{andThen}
 use Rattle.refusal.proofs.Checks.{refused-not-accepted, refused-first, accepted-first}
 use Rattle.bits.specs.Bits.{bitsOf, field}
 use Rattle.bits.proofs.Stream.{length-bitsOf, bitsOf-are}
-use Rattle.bits.proofs.Fields.{field-lt}
-use Rattle.bits.proofs.Beyond.{peek-inside}
+use Rattle.bits.proofs.Beyond.{peek-inside, peek-lt}
 use Rattle.scte20.specs.declared.Record.{Record}
 use Rattle.scte20.specs.declared.Last.{Last}
 use Rattle.scte20.specs.Reading.{missing, constructAt, markerVerdict, constructsVerdict}
@@ -96,7 +95,7 @@ module _ (c : tie.After-peek Inv-loop μ-loop) where
   seen = c .peek .ensures ∙ peek-inside (bodyOf (c .before .before)) (atOf (c .before .before)) 26 long
 
   small : c .peek .result < 67108864
-  small = omega (arith, seen, field-lt (bitsOf (bodyOf (c .before .before))) (atOf (c .before .before)) 26 (bitsOf-are (bodyOf (c .before .before))))
+  small = subst (λ (k : ℕ). k < 67108864) (sym (c .peek .ensures)) (peek-lt (bodyOf (c .before .before)) _ 26)
 
   fits : atOf (c .before .before) + 26 ≤ length (bitsOf (bodyOf (c .before .before)))
   fits = omega (arith, long, length-bitsOf (bodyOf (c .before .before)))

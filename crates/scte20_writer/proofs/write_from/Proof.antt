@@ -27,6 +27,12 @@ use Rattle.scte20.proofs.Holding.{Whole, value-whole, length-layout-held}
 use Rattle.scte20_writer.proofs.write_from.Statement.{statement}
 use Rattle.scte20_writer.proofs.write_from.Tie as tie
 
+-- what fits with so many bytes behind it fits
+fits-within : (a n b room : ℕ) (v : Verdict) → v ≡ fitVerdict 16384 (a + n + b) room → v ≡ Accepted → (a + n ≤ 16384) × (a + n ≤ room)
+fits-within a n b room v told e =
+    let both : (a + n + b ≤ 16384) × (a + n + b ≤ room) = fit-accepted 16384 (a + n + b) room (sym told ∙ e) in
+    (omega (arith, both .0), omega (arith, both .1))
+
 -- what each verdict answers
 module _ (u : CaptionUnit) (before after : ℕ) (out : List ℕ) (known : Typed u) (verdict : Verdict) (told : verdict ≡ bodyVerdict u before after (length out)) where
   refuses : (reason : Reason) (item : Item) → verdict ≡ Refused reason item → Writes u before after out (record { verdict = verdict; len = 0 }) out
@@ -114,10 +120,7 @@ module _ (c : tie.After-judge-fit) where
 
   -- the body's place is within the limit and within the output
   within : c .judge-fit .result ≡ Accepted → (before + c .before .size .result ≤ 16384) × (before + c .before .size .result ≤ length out)
-  within e =
-      let size = before + c .before .size .result + after in
-      let both : (size ≤ 16384) × (size ≤ length out) = fit-accepted 16384 size (length out) (sym (c .judge-fit .ensures) ∙ e) in
-      (omega (arith, both .0), omega (arith, both .1))
+  within e = fits-within before (c .before .size .result) _ (length out) (c .judge-fit .result) (c .judge-fit .ensures) e
 
 fit-refused : tie.Need-returns-2
 fit-refused c =
