@@ -13,7 +13,7 @@ use Rattle.refusal.specs.declared.Verdict.the-variants.{Accepted}
 use Rattle.refusal.specs.declared.Reason.the-variants.{WordRange, WordParity}
 use Rattle.refusal.specs.declared.Item.the-variants.{Word}
 use Rattle.refusal.specs.Checks.{refuseIf, andThen}
-use Rattle.refusal.proofs.Checks.{andThen-accepted, accepted-andThen, equal-accepted}
+use Rattle.refusal.proofs.Checks.{accepted-andThen, andThen-accepted, accepted-equal}
 use Rattle.anc.specs.Words.{parityOf, wordOf, byteOf, wordVerdict, wordsVerdict, nineBitSum, checksumOf, sumVerdict}
 
 -- a parity is a bit
@@ -59,20 +59,20 @@ accepted-word : (place w : ℕ) → wordVerdict place w ≡ Accepted → wordOf 
 unfolding wordVerdict
 accepted-word place w e =
     let parity = refuseIf (not (eqb w (wordOf (byteOf w)))) WordParity (Word place) in
-    let two = andThen-accepted parity Accepted (andThen-accepted (refuseIf (ltb 1023 w) WordRange (Word place)) (andThen parity Accepted) e .1) in
-    sym (equal-accepted w (wordOf (byteOf w)) WordParity (Word place) (two .0))
+    let two = accepted-andThen parity Accepted (accepted-andThen (refuseIf (ltb 1023 w) WordRange (Word place)) (andThen parity Accepted) e .1) in
+    sym (accepted-equal w (wordOf (byteOf w)) WordParity (Word place) (two .0))
 
 -- the words of bytes are accepted
 pub words-accepted : (place : ℕ) (bs : List ℕ) → Bytes bs → wordsVerdict place (map wordOf bs) ≡ Accepted
 words-accepted place [] h = refl
 words-accepted place (b ∷ bs) h =
-    accepted-andThen (wordVerdict place (wordOf b)) (wordsVerdict (suc place) (map wordOf bs)) (word-accepted place b (h .0)) (words-accepted (suc place) bs (h .1))
+    andThen-accepted (wordVerdict place (wordOf b)) (wordsVerdict (suc place) (map wordOf bs)) (word-accepted place b (h .0)) (words-accepted (suc place) bs (h .1))
 
 -- and no other words are
 pub accepted-words : (place : ℕ) (ws : List ℕ) → wordsVerdict place ws ≡ Accepted → map wordOf (map byteOf ws) ≡ ws
 accepted-words place [] e = refl
 accepted-words place (w ∷ ws) e =
-    let two = andThen-accepted (wordVerdict place w) (wordsVerdict (suc place) ws) e in
+    let two = accepted-andThen (wordVerdict place w) (wordsVerdict (suc place) ws) e in
     ap₂ (λ (x : ℕ) (xs : List ℕ). x ∷ xs) (accepted-word place w (two .0)) (accepted-words (suc place) ws (two .1))
 
 -- a CS word fits ten bits, and its b9 is not its b8

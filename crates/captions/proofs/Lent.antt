@@ -33,7 +33,7 @@ use Rattle.line21.specs.Lent as units
 use Rattle.line21.proofs.Theorems as payloads
 use Rattle.captions.specs.declared.UnitHead.{UnitHead}
 use Rattle.captions.specs.Calls.{headIn, AreaReads, numbersIn, packetIn, PayloadWrites}
-use Rattle.captions.specs.Told.{plain, Fits, FitsIn, slotBytes, FitsPayload}
+use Rattle.captions.specs.Arguments.{plain, Fits, FitsIn, slotBytes, FitsPayload}
 use Rattle.captions.proofs.Numbers.{numbers-same, legal-same, plain-exactly, packet-same, slots-same, byte-or-wide}
 
 abbrev accepted : Refusal
@@ -56,8 +56,8 @@ apart h =
       z = h .numbers .z;
     }
 
-abbrev shown : Numbers → Head
-shown v = record { refusal = accepted; present = true; numbers = v }
+abbrev headWith : Numbers → Head
+headWith v = record { refusal = accepted; present = true; numbers = v }
 
 pub unit-write-exactly : (reserved flag n z : ℕ) (records out : List ℕ) (r : Written) (exit : List ℕ) → Writes (unitIn (numbersIn reserved flag n z) records) out r exit
     → r .refusal .number ≡ 0 ↔ Fits records out (plain reserved flag n z)
@@ -71,7 +71,7 @@ area-replace-exactly s reserved flag n z records out r exit p =
 
 pub unit-written-read : (reserved flag n z : ℕ) (records out : List ℕ) (w : Written) (end : List ℕ) → Writes (unitIn (numbersIn reserved flag n z) records) out w end
     → w .refusal .number ≡ 0 → length records ≡ 155 → (lent : List ℕ) (r : UnitHead) (exit : List ℕ) → AreaReads (take (w .len) end) lent r exit
-    → (r ≡ apart (shown (plain reserved flag n z))) × (exit ≡ filled (take (5 * n) records) 155 0)
+    → (r ≡ apart (headWith (plain reserved flag n z))) × (exit ≡ filled (take (5 * n) records) 155 0)
 unit-written-read reserved flag n z records out w end wrote e long lent r exit read =
     let v = numbersIn reserved flag n z in
     let same = legal-same reserved flag n z records (picture.writes-exactly (unitIn v records) out w end wrote .0 e .0) in
@@ -81,7 +81,7 @@ unit-written-read reserved flag n z records out w end wrote e long lent r exit r
 pub area-replaced-read : (x : Area) → area.Legal x → (reserved flag n z : ℕ) (records out : List ℕ) (w : Written) (end : List ℕ)
     → Replaces (area.layout x) (unitIn (numbersIn reserved flag n z) records) out w end → w .refusal .number ≡ 0 → length records ≡ 155
     → (lent : List ℕ) (r : UnitHead) (exit : List ℕ) → AreaReads (take (w .len) end) lent r exit
-    → (r ≡ apart (shown (plain reserved flag n z))) × (exit ≡ filled (take (5 * n) records) 155 0)
+    → (r ≡ apart (headWith (plain reserved flag n z))) × (exit ≡ filled (take (5 * n) records) 155 0)
 area-replaced-read x h reserved flag n z records out w end p e long lent r exit read =
     let v = numbersIn reserved flag n z in
     let same = legal-same reserved flag n z records (picture.replaces-exactly (area.layout x) (unitIn v records) out w end p .0 e .3) in

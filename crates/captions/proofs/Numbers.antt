@@ -11,12 +11,12 @@ use lib.Seq.{take-all}
 use Rattle.lists.specs.Flat.{flat, taken}
 use Rattle.lists.proofs.Flat.{length-taken, taken-flat, flat-taken}
 use Rattle.scte20.specs.declared.Numbers.{Numbers}
-use Rattle.scte20.specs.Value.{LegalUnit}
+use Rattle.scte20.specs.Value.{LegalCaptionUnit}
 use Rattle.scte20.specs.Lent.{unitIn}
 use Rattle.sdp.specs.declared.Slot.{Slot}
 use Rattle.sdp.specs.declared.Packet.{Packet}
 use Rattle.captions.specs.Calls.{numbersIn, slotIn, packetIn}
-use Rattle.captions.specs.Told.{plain, slotBytes}
+use Rattle.captions.specs.Arguments.{plain, slotBytes}
 
 -- A UNIT'S NUMBERS
 
@@ -29,15 +29,15 @@ module _ (reserved flag n z : ℕ) where
       ap₂ (λ (a b : ℕ). plain a b n z) same set
 
   -- those of a legal value are passed as they are
-  pub legal-same : (records : List ℕ) → LegalUnit (unitIn (numbersIn reserved flag n z) records) → numbersIn reserved flag n z ≡ plain reserved flag n z
+  pub legal-same : (records : List ℕ) → LegalCaptionUnit (unitIn (numbersIn reserved flag n z) records) → numbersIn reserved flag n z ≡ plain reserved flag n z
   unfolding numbersIn
   legal-same records h = numbers-same (omega (arith, h .value .reserved)) (omega (arith, h .value .flag))
 
-  pub plain-same : (records : List ℕ) → LegalUnit (unitIn (plain reserved flag n z) records) → numbersIn reserved flag n z ≡ plain reserved flag n z
+  pub plain-same : (records : List ℕ) → LegalCaptionUnit (unitIn (plain reserved flag n z) records) → numbersIn reserved flag n z ≡ plain reserved flag n z
   plain-same records h = numbers-same (omega (arith, h .value .reserved)) (omega (arith, h .value .flag))
 
   -- so that a statement which holds of legal values alone is one of the numbers as they are passed
-  pub plain-exactly : (records : List ℕ) (P : Numbers → Type 0) → ((v : Numbers) → P v → LegalUnit (unitIn v records)) → {Q : Type 0}
+  pub plain-exactly : (records : List ℕ) (P : Numbers → Type 0) → ((v : Numbers) → P v → LegalCaptionUnit (unitIn v records)) → {Q : Type 0}
       → Q ↔ P (numbersIn reserved flag n z) → Q ↔ P (plain reserved flag n z)
   plain-exactly records P legal both = (
     λ q. let p = both .0 q in subst P (legal-same records (legal (numbersIn reserved flag n z) p)) p,

@@ -20,7 +20,7 @@ use Rattle.scte20.specs.declared.Numbers.{Numbers}
 use Rattle.scte20.specs.Value.{Content}
 use Rattle.scte20.specs.Lent.{unitIn}
 use Rattle.scte20.specs.Writing.{wholeVerdict}
-use Rattle.scte20.proofs.Holding.{whole-accepted}
+use Rattle.scte20.proofs.Holding.{accepted-whole}
 use Rattle.picture.specs.Value.{Area, captioned}
 use Rattle.picture.specs.Value as area
 use Rattle.picture.specs.Writing.{unitBytes, Writes, Replaces}
@@ -43,7 +43,7 @@ use Rattle.line21.specs.Writing as payload
 use Rattle.line21.proofs.Theorems as payloads
 use Rattle.captions.specs.declared.UnitHead.{UnitHead}
 use Rattle.captions.specs.Calls.{headIn, AreaReads, numbersIn, packetIn, PayloadWrites}
-use Rattle.captions.specs.Told.{plain, Fits, FitsIn, slotBytes, FitsPacket, FitsPayload}
+use Rattle.captions.specs.Arguments.{plain, Fits, FitsIn, slotBytes, FitsPacket, FitsPayload}
 use Rattle.captions.proofs.Numbers.{numbers-same, packet-same, byte-or-wide}
 use Rattle.captions.proofs.Lent.{apart}
 use Rattle.captions.proofs.Lent as lent
@@ -76,10 +76,10 @@ wide-refused reserved flag n z lent out r exit w wide = picture.write-15 (unitIn
     v = numbersIn reserved flag n z
 
     high : wholeVerdict (unitIn v lent) ≡ Accepted → 127 < reserved → ⊥
-    high e h = omega (arith, whole-accepted (unitIn v lent) e .reserved, numbers-wide reserved flag n z .0 h)
+    high e h = omega (arith, accepted-whole (unitIn v lent) e .reserved, numbers-wide reserved flag n z .0 h)
 
     set : wholeVerdict (unitIn v lent) ≡ Accepted → 1 < flag → ⊥
-    set e h = omega (arith, whole-accepted (unitIn v lent) e .flag, numbers-wide reserved flag n z .1 h)
+    set e h = omega (arith, accepted-whole (unitIn v lent) e .flag, numbers-wide reserved flag n z .1 h)
 
 -- Every packet can be told, four bytes for a slot (`slotBytes`).
 pub packet-told : (p : Packet) → length (p .slots) ≡ 5 → packetIn (p .counter) (flat slotBytes (p .slots)) ≡ p

@@ -1,4 +1,4 @@
--- The starred cases of document 01, "Cases": what each carriage's definitions answer. A carriage adds its constructor, its line of `Holds` and
+-- The starred cases of document 01, "Cases": what each carriage's definitions answer. A carriage adds its constructor, its line of `Comes` and
 -- its rows.
 use Prim.Native.Nat.{ℕ}
 use mathlib.Core.Path.{_≡_}
@@ -33,17 +33,17 @@ abbrev valueOf : List scte20.Content → scte20.Content
 valueOf [] = scte20.none
 valueOf (c ∷ cs) = c
 
-abbrev pub Holds : Case → Type 0
-Holds (area input refusal found) = areas.readOf input ≡ record { refusal = refusal; present = captionOf found; unit = scte20.stored (valueOf found) }
-Holds (prints input text) = listing.textOf (areas.readOf input) ≡ text
-Holds (payload input refusal value) = payloads.readOf input ≡ record { refusal = refusal; payload = line21.stored value }
-Holds (packet input refusal value) =
+abbrev pub Comes : Case → Type 0
+Comes (area input refusal found) = areas.readOf input ≡ record { refusal = refusal; present = captionOf found; unit = scte20.stored (valueOf found) }
+Comes (prints input text) = listing.textOf (areas.readOf input) ≡ text
+Comes (payload input refusal value) = payloads.readOf input ≡ record { refusal = refusal; payload = line21.stored value }
+Comes (packet input refusal value) =
     (packets.readOf input ≡ record { refusal = refusal; packet = sdp.numbersOf value })
     × (packets.readRowsOf input ≡ sdp.rowsOf value)
 
 abbrev pub All : List Case → Type 0
 All [] = Unit {0}
-All (c ∷ cs) = Holds c × All cs
+All (c ∷ cs) = Comes c × All cs
 
 abbrev accepted : Refusal
 accepted = record { number = 0; place = 0 }
@@ -59,15 +59,15 @@ abbrev pub start : List ℕ → List ℕ
 start body = 0x00 ∷ 0x00 ∷ 0x01 ∷ 0xB2 ∷ body
 
 -- reserved 64, flag 1, A's record: priority 0, field 1, line 11, bytes 94 2C; and z
-abbrev one : ℕ → scte20.Content
-one z = record { reserved = 64; flag = 1; records = r ∷ []; z = z }
+abbrev withRecord : ℕ → scte20.Content
+withRecord z = record { reserved = 64; flag = 1; records = r ∷ []; z = z }
   where
     r : Record
     r = record { «cc_priority» = 0; «field_number» = record { 0 = 1 }; «line_offset» = 11; «cc_data_1» = 0x94; «cc_data_2» = 0x2C }
 
 -- reserved 64, a flag, no records
-abbrev bare : ℕ → scte20.Content
-bare flag = record { reserved = 64; flag = flag; records = []; z = 0 }
+abbrev withoutRecords : ℕ → scte20.Content
+withoutRecords flag = record { reserved = 64; flag = flag; records = []; z = 0 }
 
 -- a payload's flags byte and its units
 abbrev units : ℕ → List AccessUnit → line21.Line21
@@ -96,13 +96,13 @@ headLine =
 abbrev pub table : List Case
 table =
     -- case A: 00 00 01 B2 03 81 08 AC A4 D2 00: reserved 64, flag 1, one record: priority 0, field 1, line 11, bytes 94 2C; z = 0
-    area (marked 0xD2) accepted (one 0 ∷ [])
+    area (marked 0xD2) accepted (withRecord 0 ∷ [])
     -- case B: A with a further 00: the same, z = 1
-    ∷ area (marked 0xD2 ++ (0x00 ∷ [])) accepted (one 1 ∷ [])
+    ∷ area (marked 0xD2 ++ (0x00 ∷ [])) accepted (withRecord 1 ∷ [])
     -- case C: 00 00 01 B2 03 81 00 00: no records
-    ∷ area (start (0x03 ∷ 0x81 ∷ 0x00 ∷ 0x00 ∷ [])) accepted (bare 1 ∷ [])
+    ∷ area (start (0x03 ∷ 0x81 ∷ 0x00 ∷ 0x00 ∷ [])) accepted (withoutRecords 1 ∷ [])
     -- case D: 00 00 01 B2 03 80: flag 0
-    ∷ area (start (0x03 ∷ 0x80 ∷ [])) accepted (bare 0 ∷ [])
+    ∷ area (start (0x03 ∷ 0x80 ∷ [])) accepted (withoutRecords 0 ∷ [])
     -- case E: 00 00 01 B2 03: 5
     ∷ area (start (0x03 ∷ [])) (refused 5) []
     -- case F: A without its last byte: 5

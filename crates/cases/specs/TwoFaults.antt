@@ -45,18 +45,18 @@ why (Refused reason item) = reason ∷ []
 abbrev pub Decides : Verdict → Reason → ℕ → ℕ → Type 0
 Decides verdict reason number place = (why verdict ≡ reason ∷ []) × (refusalOf verdict ≡ record { number = number; place = place })
 
-abbrev pub Holds : Case → Type 0
-Holds (area s reason number place) = Decides (areaVerdict s) reason number place
-Holds (packet s reason number) = Decides (packetVerdict s) reason number 0
-Holds (payload s reason number) = Decides (lengthVerdict (length s)) reason number 0
-Holds (writeUnit u room reason number) = Decides (writeVerdict u (length (unitBytes (scte20.held u))) room) reason number 0
-Holds (writePacket v room reason number) = Decides (packets.valueVerdict v room) reason number 0
-Holds (writePayload p room reason number) = Decides (payloads.valueVerdict p room) reason number 0
-Holds (replace s u room reason number place) = Decides (replaceVerdict s u room) reason number place
+abbrev pub Decided : Case → Type 0
+Decided (area s reason number place) = Decides (areaVerdict s) reason number place
+Decided (packet s reason number) = Decides (packetVerdict s) reason number 0
+Decided (payload s reason number) = Decides (lengthVerdict (length s)) reason number 0
+Decided (writeUnit u room reason number) = Decides (writeVerdict u (length (unitBytes (scte20.held u))) room) reason number 0
+Decided (writePacket v room reason number) = Decides (packets.valueVerdict v room) reason number 0
+Decided (writePayload p room reason number) = Decides (payloads.valueVerdict p room) reason number 0
+Decided (replace s u room reason number place) = Decides (replaceVerdict s u room) reason number place
 
 abbrev pub All : List Case → Type 0
 All [] = Unit {0}
-All (c ∷ cs) = Holds c × All cs
+All (c ∷ cs) = Decided c × All cs
 
 -- A: one legal record
 abbrev a : List ℕ

@@ -11,8 +11,8 @@ const WORDS_ROOM: usize = 4096 + 1;
 fn main() {
     let mut words = [0u8; WORDS_ROOM];
     let n = gathered(&mut words);
-    let told = notation::unit_of(&words[..n]);
-    if !told.is_readable {
+    let meant = notation::unit_of(&words[..n]);
+    if !meant.is_readable {
         io::write_all(
             STDERR_FILENO,
             b"usage: ccreplace RESERVED FLAG Z [PRIORITY FIELD LINE DATA DATA].. <AREA\n",
@@ -27,7 +27,7 @@ fn main() {
         return;
     }
     let len = input.len;
-    let unit = told.unit;
+    let unit = meant.unit;
     if !replace(&area[..len], unit) {
         os::fail(b"ccreplace: standard output");
     }

@@ -34,7 +34,7 @@ fn agrees(input: &[u8], expected: &[u8], out: &mut [u8]) -> bool {
 // Stores the answer, and answers its length.
 fn put_answer(s: &[u8], out: &mut [u8]) -> usize {
     let found = units::scan(s, Kind::Scte20);
-    if let Found::Refused(reason, item) = found {
+    if let Found::NotUnits(reason, item) = found {
         vectors::put_refusal(out, refusal::told(Verdict::Refused(reason, item)));
         return HEAD;
     }

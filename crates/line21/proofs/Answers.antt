@@ -17,7 +17,7 @@ use Rattle.line21.specs.Value.{Line21, Legal, LegalPayload, blank, none,
 use Rattle.refusal.proofs.Acceptance.{told-accepted}
 use Rattle.line21.specs.declared.One.{One}
 use Rattle.line21.specs.declared.One.the-variants as one
-use Rattle.line21.specs.Reading.{lengthVerdict, valueOf, answerOf, readOf, shown}
+use Rattle.line21.specs.Reading.{lengthVerdict, valueOf, answerOf, readOf, valuesOf}
 use Rattle.line21.proofs.Length.{WholeUnits, accepted-whole}
 
 -- a struct holds the value that was stored in it
@@ -33,7 +33,7 @@ held-stored v = ap (λ (us : List AccessUnit). line21 (v .flags) us) (units-stor
 pub stored-legal : (v : Line21) → Legal v → LegalPayload (stored v)
 stored-legal v h = record { few = h .count; value = subst Legal (sym (held-stored v)) h }
 
--- what `shown` of an answer about unit i is to be
+-- what `valuesOf` of an answer about unit i is to be
 abbrev pub oneOf : Verdict → Line21 → ℕ → Refusal × List AccessUnit
 oneOf verdict v i = (answerOf verdict v .refusal, take 1 (drop i (held (answerOf verdict v .payload) .units)))
 
@@ -50,14 +50,14 @@ pub one-refused : (v : Line21) (i : ℕ) (reason : Reason) (item : Item) → one
 one-refused v i reason item = ap (λ (rest : List AccessUnit). (refusalOf (Refused reason item), take 1 rest)) (drop-nil i)
 
 -- the refusal in an answer is what the verdict tells
-pub told : (verdict : Verdict) (v : Line21) → answerOf verdict v .refusal ≡ refusalOf verdict
-told Accepted v = refl
-told (Refused reason item) v = refl
+pub answer-refusal : (verdict : Verdict) (v : Line21) → answerOf verdict v .refusal ≡ refusalOf verdict
+answer-refusal Accepted v = refl
+answer-refusal (Refused reason item) v = refl
 
 -- an answer of number 0 is an acceptance
 pub accepted-verdict : (s : List ℕ) → readOf s .refusal .number ≡ 0 → lengthVerdict (length s) ≡ Accepted
 accepted-verdict s e =
-    told-accepted (lengthVerdict (length s)) (sym (ap (λ (r : Refusal). r .number) (told (lengthVerdict (length s)) (valueOf s))) ∙ e)
+    told-accepted (lengthVerdict (length s)) (sym (ap (λ (r : Refusal). r .number) (answer-refusal (lengthVerdict (length s)) (valueOf s))) ∙ e)
 
 pub accepted-length : (s : List ℕ) → readOf s .refusal .number ≡ 0 → WholeUnits (length s)
 accepted-length s e = accepted-whole (length s) (accepted-verdict s e)
@@ -71,10 +71,10 @@ refused-nothing Accepted v h = absurd (h refl)
 refused-nothing (Refused reason item) v h = refl
 
 -- answers about one unit that show the same are the same
-units-shown : (a b : One) → shown a ≡ shown b → shown a .1 ≡ shown b .1
+units-shown : (a b : One) → valuesOf a ≡ valuesOf b → valuesOf a .1 ≡ valuesOf b .1
 units-shown a b e = ap (λ (x : Refusal × List AccessUnit). x .1) e
 
-pub shown-one : (a b : One) → shown a ≡ shown b → a ≡ b
+pub shown-one : (a b : One) → valuesOf a ≡ valuesOf b → a ≡ b
 shown-one (one.Unit u) (one.Unit w) e = let us : u ∷ [] ≡ w ∷ [] = units-shown (one.Unit u) (one.Unit w) e in cc
 shown-one (one.Unit u) (one.None r) e =
     let us : u ∷ [] ≡ [] = units-shown (one.Unit u) (one.None r) e in

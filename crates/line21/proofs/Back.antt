@@ -11,7 +11,7 @@ use Rattle.refusal.specs.declared.Verdict.the-variants.{Accepted}
 use Rattle.line21.specs.declared.AccessUnit.{AccessUnit}
 use Rattle.line21.specs.declared.Payload.{Payload}
 use Rattle.line21.specs.declared.Answer.{Answer}
-use Rattle.line21.specs.Value.{Line21, LegalUnit, Legal, LegalPayload, stored, held}
+use Rattle.line21.specs.Value.{Line21, LegalAccessUnit, Legal, LegalPayload, stored, held}
 use Rattle.line21.specs.Layout.{layoutUnit, layoutUnits, layout}
 use Rattle.line21.specs.Reading.{readUnit, readUnits, unitCount, valueOf, answerOf, readOf, Reads}
 use Rattle.line21.proofs.Layouts.{length-layoutUnits}
@@ -20,7 +20,7 @@ use Rattle.line21.proofs.Answers.{accepted-answer, accepted-length, hel
 use Rattle.line21.proofs.Units.{length-readUnits}
 
 -- what a unit's bytes read as is the unit
-readUnit-layout : (u : AccessUnit) → LegalUnit u → (rest : List ℕ) → readUnit (layoutUnit u ++ rest) ≡ u
+readUnit-layout : (u : AccessUnit) → LegalAccessUnit u → (rest : List ℕ) → readUnit (layoutUnit u ++ rest) ≡ u
 unfolding readUnit
 readUnit-layout u h rest =
     let numbers = h .numbers in
@@ -38,7 +38,7 @@ readUnit-layout u h rest =
       «field2_data2» = u .«field2_data2»;
     }
 
-pub readUnits-layout : (us : List AccessUnit) → Each LegalUnit us → readUnits (length us) (layoutUnits us) ≡ us
+pub readUnits-layout : (us : List AccessUnit) → Each LegalAccessUnit us → readUnits (length us) (layoutUnits us) ≡ us
 readUnits-layout [] h = refl
 readUnits-layout (u ∷ us) h = ap₂ (λ (x : AccessUnit) (xs : List AccessUnit). x ∷ xs) (readUnit-layout u (h .0) (layoutUnits us)) (readUnits-layout us (h .1))
 
@@ -50,7 +50,7 @@ module _ (a b c d e : ℕ) (rest : List ℕ) where
       let first : a / 128 * 128 + a / 64 % 2 * 64 + a % 64 ≡ a = omega arith in
       ap (λ (x : ℕ). x ∷ b ∷ c ∷ d ∷ e ∷ []) first
 
-  legal-readUnit : a < 256 → b < 256 → c < 256 → d < 256 → e < 256 → LegalUnit (readUnit (a ∷ b ∷ c ∷ d ∷ e ∷ rest))
+  legal-readUnit : a < 256 → b < 256 → c < 256 → d < 256 → e < 256 → LegalAccessUnit (readUnit (a ∷ b ∷ c ∷ d ∷ e ∷ rest))
   unfolding readUnit
   legal-readUnit ha hb hc hd he =
       record { numbers = record { valid-1 = omega arith; valid-2 = omega arith; pad = omega arith }; bytes = record { field1-data1 = hb; field1-data2 = hc; field2-data1 = hd; field2-data2 = he } }
@@ -58,7 +58,7 @@ module _ (a b c d e : ℕ) (rest : List ℕ) where
 -- so are whole units
 record Units (k : ℕ) (s : List ℕ) : Type 0 where
   same : layoutUnits (readUnits k s) ≡ s
-  legal : Each LegalUnit (readUnits k s)
+  legal : Each LegalAccessUnit (readUnits k s)
 
 units-back : (k : ℕ) (s : List ℕ) → Bytes s → length s ≡ 5 * k → Units k s
 units-back zero [] h n = record { same = refl; legal = tt }

@@ -14,7 +14,7 @@ use Rattle.refusal.specs.declared.Excess.the-variants.{Count, CcValid, Padding}
 use Rattle.refusal.specs.declared.Item.the-variants.{Whole}
 use Rattle.refusal.specs.Numbers.{refusalOf}
 use Rattle.refusal.specs.Checks.{refuseIf, andThen, first, fitVerdict}
-use Rattle.refusal.proofs.Checks.{andThen-accepted, andThen-assoc, within-accepted}
+use Rattle.refusal.proofs.Checks.{accepted-andThen, andThen-assoc, accepted-within}
 use Rattle.refusal.proofs.Gives.{Gives, refuseIf-gives, andThen-gives, each-gives, refused-gives}
 use Rattle.line21.specs.declared.AccessUnit.{AccessUnit}
 use Rattle.line21.specs.declared.Payload.{Payload}
@@ -52,8 +52,8 @@ numbers-15 p =
 numbers-legal : (p : Payload) → Typed p → numbers p ≡ Accepted → LegalPayload p
 unfolding numbers
 numbers-legal p t e =
-    let both = andThen-accepted (refuseIf (ltb 291 (p .m)) (Unholdable Count) Whole) (unitsVerdict (held p .units)) e in
-    checked-legal p t (within-accepted 291 (p .m) _ _ (both .0)) (both .1)
+    let both = accepted-andThen (refuseIf (ltb 291 (p .m)) (Unholdable Count) Whole) (unitsVerdict (held p .units)) e in
+    checked-legal p t (accepted-within 291 (p .m) _ _ (both .0)) (both .1)
 
 pub illegal-15 : (p : Payload) (room : ℕ) → Typed p → (LegalPayload p → ⊥) → refusalOf (valueVerdict p room) ≡ record { number = 15; place = 0 }
 illegal-15 p room t h =

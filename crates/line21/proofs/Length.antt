@@ -5,7 +5,7 @@ use native.Mathlib.Omega.{arith}
 use mathlib.Core.Path.{_≡_}
 use borrow.Author.Tests.{eqb-false, ne-eqb, le-ltb, eq-eqb}
 use Rattle.refusal.specs.declared.Verdict.the-variants.{Accepted}
-use Rattle.refusal.proofs.Checks.{refuseIf-accepted, andThen-accepted, equal-accepted, within-accepted}
+use Rattle.refusal.proofs.Checks.{accepted-refuseIf, accepted-andThen, accepted-equal, accepted-within}
 use Rattle.line21.specs.Reading.{lengthVerdict, unitCount}
 
 pub record WholeUnits (n : ℕ) : Type 0 where
@@ -15,12 +15,12 @@ pub record WholeUnits (n : ℕ) : Type 0 where
 pub accepted-whole : (n : ℕ) → lengthVerdict n ≡ Accepted → WholeUnits n
 unfolding lengthVerdict
 accepted-whole n e =
-    let start = andThen-accepted _ _ e in
-    let long = andThen-accepted _ _ (start .1) in
-    let fit = andThen-accepted _ _ (long .1) in
-    let some = eqb-false n 0 (refuseIf-accepted _ _ _ (start .0)) in
-    let within : n ≤ 1456 = within-accepted 1456 n _ _ (long .0) in
-    let whole : (n - 1) % 5 ≡ 0 = equal-accepted ((n - 1) % 5) 0 _ _ (fit .0) in
+    let start = accepted-andThen _ _ e in
+    let long = accepted-andThen _ _ (start .1) in
+    let fit = accepted-andThen _ _ (long .1) in
+    let some = eqb-false n 0 (accepted-refuseIf _ _ _ (start .0)) in
+    let within : n ≤ 1456 = accepted-within 1456 n _ _ (long .0) in
+    let whole : (n - 1) % 5 ≡ 0 = accepted-equal ((n - 1) % 5) 0 _ _ (fit .0) in
     record { exact = omega arith; most = omega arith }
 
 pub whole-accepted : (n m : ℕ) → n ≡ 1 + 5 * m → m ≤ 291 → lengthVerdict n ≡ Accepted

@@ -15,10 +15,10 @@ use Rattle.refusal.specs.declared.Verdict.the-variants.{Accepted}
 use Rattle.refusal.specs.declared.Reason.the-variants.{NoRoom}
 use Rattle.refusal.specs.declared.Item.the-variants.{Whole}
 use Rattle.refusal.specs.Checks.{refuseIf, andThen}
-use Rattle.refusal.proofs.Checks.{andThen-accepted, each-accepted, accepted-each, andThen-last, within-accepted, fit-accepted}
+use Rattle.refusal.proofs.Checks.{accepted-andThen, accepted-each, each-accepted, andThen-last, accepted-within, accepted-fit}
 use Rattle.line21.specs.declared.AccessUnit.{AccessUnit}
 use Rattle.line21.specs.declared.Payload.{Payload}
-use Rattle.line21.specs.Value.{HoldableUnit, LegalUnit, ByteUnit, LegalPayload, Typed, blank, held}
+use Rattle.line21.specs.Value.{HoldableUnit, LegalAccessUnit, ByteUnit, LegalPayload, Typed, blank, held}
 use Rattle.line21.specs.Layout.{layout}
 use Rattle.line21.specs.Writing.{unitVerdict, unitsVerdict, valueVerdict}
 use Rattle.line21.proofs.Layouts.{length-layoutUnits}
@@ -26,12 +26,12 @@ use Rattle.line21.proofs.Layouts.{length-layoutUnits}
 pub accepted-unit : (u : AccessUnit) → unitVerdict u ≡ Accepted → HoldableUnit u
 unfolding unitVerdict
 accepted-unit u e =
-    let one = andThen-accepted _ _ e in
-    let two = andThen-accepted _ _ (one .1) in
-    let three = andThen-accepted _ _ (two .1) in
-    let a = within-accepted 1 (u .«cc_valid_1») _ _ (one .0) in
-    let b = within-accepted 1 (u .«cc_valid_2») _ _ (two .0) in
-    let c = within-accepted 63 (u .padding) _ _ (three .0) in
+    let one = accepted-andThen _ _ e in
+    let two = accepted-andThen _ _ (one .1) in
+    let three = accepted-andThen _ _ (two .1) in
+    let a = accepted-within 1 (u .«cc_valid_1») _ _ (one .0) in
+    let b = accepted-within 1 (u .«cc_valid_2») _ _ (two .0) in
+    let c = accepted-within 63 (u .padding) _ _ (three .0) in
     record { valid-1 = omega arith; valid-2 = omega arith; pad = omega arith }
 
 pub unit-accepted : (u : AccessUnit) → HoldableUnit u → unitVerdict u ≡ Accepted
@@ -46,15 +46,15 @@ unit-accepted u h =
 abbrev Passes : AccessUnit → Type 0
 Passes u = unitVerdict u ≡ Accepted
 
-pub units-accepted : (us : List AccessUnit) → Each LegalUnit us → unitsVerdict us ≡ Accepted
-units-accepted us h = accepted-each unitVerdict us (each-map LegalUnit Passes (λ u legal. unit-accepted u (legal .numbers)) us h)
+pub units-accepted : (us : List AccessUnit) → Each LegalAccessUnit us → unitsVerdict us ≡ Accepted
+units-accepted us h = each-accepted unitVerdict us (each-map LegalAccessUnit Passes (λ u legal. unit-accepted u (legal .numbers)) us h)
 
-accepted-units : (us : List AccessUnit) → Each ByteUnit us → unitsVerdict us ≡ Accepted → Each LegalUnit us
+accepted-units : (us : List AccessUnit) → Each ByteUnit us → unitsVerdict us ≡ Accepted → Each LegalAccessUnit us
 accepted-units us h e =
-    each-both ByteUnit Passes LegalUnit (λ u bytes passes. record { numbers = accepted-unit u passes; bytes = bytes }) us h (each-accepted unitVerdict us e)
+    each-both ByteUnit Passes LegalAccessUnit (λ u bytes passes. record { numbers = accepted-unit u passes; bytes = bytes }) us h (accepted-each unitVerdict us e)
 
-pub units-accepted-at : (us : List AccessUnit) → unitsVerdict us ≡ Accepted → (i : ℕ) → i < length us → unitVerdict (getD us i blank) ≡ Accepted
-units-accepted-at us e = each-at Passes blank us (each-accepted unitVerdict us e)
+pub accepted-unit-at : (us : List AccessUnit) → unitsVerdict us ≡ Accepted → (i : ℕ) → i < length us → unitVerdict (getD us i blank) ≡ Accepted
+accepted-unit-at us e = each-at Passes blank us (accepted-each unitVerdict us e)
 
 -- the units from i on decide by the unit at i, then by those behind it
 pub units-from : (us : List AccessUnit) (i : ℕ) → i < length us → unitsVerdict (drop i us) ≡ andThen (unitVerdict (getD us i blank)) (unitsVerdict (drop (i + 1) us))
@@ -87,11 +87,11 @@ pub record Writable (p : Payload) (room : ℕ) : Type 0 where
 pub accepted-value : (p : Payload) (room : ℕ) → valueVerdict p room ≡ Accepted → Writable p room
 unfolding valueVerdict
 accepted-value p room e =
-    let count = andThen-accepted _ _ e in
-    let units = andThen-accepted _ _ (count .1) in
-    let fit = fit-accepted 1456 (length (layout (held p))) room (andThen-accepted _ _ (units .1) .0) in
+    let count = accepted-andThen _ _ e in
+    let units = accepted-andThen _ _ (count .1) in
+    let fit = accepted-fit 1456 (length (layout (held p))) room (accepted-andThen _ _ (units .1) .0) in
     record {
-      few = within-accepted 291 (p .m) _ _ (count .0);
+      few = accepted-within 291 (p .m) _ _ (count .0);
       each = units .0;
       short = fit .0;
       fits = fit .1;

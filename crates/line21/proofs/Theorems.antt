@@ -33,7 +33,7 @@ use Rattle.line21.specs.Reading.{lengthVerdict, valueOf, readOf, headOf,
 use Rattle.line21.specs.Writing.{valueVerdict, Writes}
 use Rattle.line21.specs.Lent.{unitsBytes, unitsIn, payloadIn, ReadsInto}
 use Rattle.line21.specs.Order.{readingChecks, writingChecks}
-use Rattle.line21.proofs.Answers.{held-stored, told, accepted-verdict, refused-nothing, shown-one}
+use Rattle.line21.proofs.Answers.{held-stored, answer-refusal, accepted-verdict, refused-nothing, shown-one}
 use Rattle.line21.proofs.Back.{value-layout, length-layout, read-layout, read-legal, read-stored}
 use Rattle.line21.proofs.Numbers.{accepted-value, value-accepted, units-accepted, checked-legal, legal-writable}
 use Rattle.line21.proofs.Fifteen.{illegal-15}
@@ -98,7 +98,7 @@ reading-order = sequence.reading-order
 
 -- and the answer tells its number.
 pub read-first : (s : List ℕ) (r : Answer) → Reads s r → r .refusal ≡ refusalOf (first (readingChecks s))
-read-first s r p = ap (λ (a : Answer). a .refusal) (p .answer) ∙ told (lengthVerdict (length s)) (valueOf s) ∙ ap refusalOf (reading-order s)
+read-first s r p = ap (λ (a : Answer). a .refusal) (p .answer) ∙ answer-refusal (lengthVerdict (length s)) (valueOf s) ∙ ap refusalOf (reading-order s)
 
 -- A refusal holds no units.
 pub refused-zero : (s : List ℕ) (r : Answer) → Reads s r → (r .refusal .number ≡ 0 → ⊥) → r .payload ≡ stored none

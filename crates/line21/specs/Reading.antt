@@ -67,9 +67,9 @@ abbrev pub headOf : Answer → Head
 headOf r = record { refusal = r .refusal; flags = r .payload .flags; m = r .payload .m }
 
 -- what an answer about one unit says: 01's number and place, and the unit if there is one
-abbrev pub shown : One → Refusal × List AccessUnit
-shown (one.Unit u) = (refusalOf Accepted, u ∷ [])
-shown (one.None refusal) = (refusal, [])
+abbrev pub valuesOf : One → Refusal × List AccessUnit
+valuesOf (one.Unit u) = (refusalOf Accepted, u ∷ [])
+valuesOf (one.None refusal) = (refusal, [])
 
 -- the promise of `read`. By its type its input is a list of bytes; the code shows that too, so that the theorems assume nothing
 pub record Reads (s : List ℕ) (r : Answer) : Type 0 where
@@ -82,4 +82,4 @@ ReadsHead s r = r ≡ headOf (readOf s)
 
 -- the promise of `read_unit`: the unit of index i and no other, and none beyond the last
 abbrev pub ReadsUnit : List ℕ → ℕ → One → Type 0
-ReadsUnit s i r = shown r ≡ (readOf s .refusal, take 1 (drop i (held (readOf s .payload) .units)))
+ReadsUnit s i r = valuesOf r ≡ (readOf s .refusal, take 1 (drop i (held (readOf s .payload) .units)))

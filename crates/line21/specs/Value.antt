@@ -26,7 +26,7 @@ pub record HoldableUnit (u : AccessUnit) : Type 0 where
   pub valid-2 : u .«cc_valid_2» < 2
   pub pad : u .padding < 64
 
-pub record LegalUnit (u : AccessUnit) : Type 0 where
+pub record LegalAccessUnit (u : AccessUnit) : Type 0 where
   pub numbers : HoldableUnit u
   pub bytes : ByteUnit u
 
@@ -34,7 +34,7 @@ pub record LegalUnit (u : AccessUnit) : Type 0 where
 pub record Legal (v : Line21) : Type 0 where
   pub byte : v .flags < 256
   pub count : length (v .units) ≤ 291
-  pub each : Each LegalUnit (v .units)
+  pub each : Each LegalAccessUnit (v .units)
 
 -- the value that a struct holds: entries beyond m are not looked at
 abbrev pub held : Payload → Line21

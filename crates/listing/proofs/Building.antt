@@ -9,7 +9,7 @@ use lib.ListN.{length, getD, take, set, length-append}
 use lib.Seq.{take-suc, take-all}
 use Rattle.lists.proofs.Fill.{filled-more}
 use Rattle.listing.specs.declared.Text.{Text}
-use Rattle.listing.specs.Texts.{Holds}
+use Rattle.listing.specs.Texts.{HoldsText}
 use Rattle.listing.specs.Inside.{Appends}
 
 -- a byte stored behind what the text holds; a full text has no room for it
@@ -34,7 +34,7 @@ appends-both {xs} {ys} {t} {s} {r} first second =
       behind = λ front held room.
           let both : length (xs ++ ys) ≡ length xs + length ys = length-append xs ys in
           let longer : length (front ++ xs) ≡ length front + length xs = length-append front xs in
-          subst (λ (bytes : List ℕ). Holds bytes r) (append-assoc front xs ys)
+          subst (λ (bytes : List ℕ). HoldsText bytes r) (append-assoc front xs ys)
           (second .behind (front ++ xs) (first .behind front held (omega arith)) (omega arith));
     }
 
@@ -43,12 +43,12 @@ pub appends-same : {xs ys : List ℕ} {t r : Text} → xs ≡ ys → Appends xs 
 appends-same {xs} {ys} {t} {r} e a = subst (λ (bytes : List ℕ). Appends bytes t r) e a
 
 -- a piece behind nothing
-pub appends-first : {xs : List ℕ} {t r : Text} → Holds [] t → Appends xs t r → length xs ≤ 640 → Holds xs r
+pub appends-first : {xs : List ℕ} {t r : Text} → HoldsText [] t → Appends xs t r → length xs ≤ 640 → HoldsText xs r
 appends-first held a room = a .behind [] held (omega arith)
 
 -- bytes put behind a text one after the other
 pub appends-none : (t : Text) → Appends [] t t
-appends-none t = record { behind = λ front held room. subst (λ (bytes : List ℕ). Holds bytes t) (sym (append-nil front)) held }
+appends-none t = record { behind = λ front held room. subst (λ (bytes : List ℕ). HoldsText bytes t) (sym (append-nil front)) held }
 
 module _ (xs : List ℕ) (i : ℕ) {t s : Text} where
   pub appends-next : {r : Text} → i < length xs → Appends (take i xs) t s → Appends (getD xs i 0 ∷ []) s r → Appends (take (i + 1) xs) t r

@@ -5,10 +5,10 @@ use mathlib.Core.Path.{_≡_, _∙_, ap₂, sym}
 use mathlib.Core.List.{List}
 use Rattle.picture.specs.declared.Answer.{Answer}
 use Rattle.listing.specs.declared.Text.{Text}
-use Rattle.listing.specs.Texts.{Holds, textOf}
+use Rattle.listing.specs.Texts.{HoldsText, textOf}
 
 -- Two texts that keep the promise of `text_of` are equal.
-pub text-determined : (answer : Answer) (a b : Text) → Holds (textOf answer) a → Holds (textOf answer) b → a ≡ b
+pub text-determined : (answer : Answer) (a b : Text) → HoldsText (textOf answer) a → HoldsText (textOf answer) b → a ≡ b
 text-determined answer a b ha hb =
     ap₂ (λ (len : ℕ) (bytes : List ℕ). record { len = len; bytes = bytes })
     (ha .counted ∙ sym (hb .counted))

@@ -77,6 +77,6 @@ unfoldable pub textOf : Answer → List ℕ
 textOf a = answerText (eqb (a .refusal .number) 0) (a .present) a
 
 -- a text that holds these bytes, and zeros beyond them
-pub record Holds (bytes : List ℕ) (t : Text) : Type 0 where
+pub record HoldsText (bytes : List ℕ) (t : Text) : Type 0 where
   pub counted : t .len ≡ length bytes
   pub stands : t .bytes ≡ filled bytes 640 0

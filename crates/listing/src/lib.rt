@@ -3,7 +3,7 @@ ghost use mathlib.Core.Path.{_≡_};
 ghost use mathlib.Core.List.{[], _∷_, _++_};
 ghost use Prim.Native.Nat.{_<_};
 ghost use Rattle.listing.specs.Inside.{Appends};
-ghost use Rattle.listing.specs.Texts.{Holds, decimal, digit, headText, hex, recordText, recordsText, refusedText, textOf};
+ghost use Rattle.listing.specs.Texts.{HoldsText, decimal, digit, headText, hex, recordText, recordsText, refusedText, textOf};
 ghost use Rattle.scte20.specs.Value.{held};
 use picture::Answer;
 use refusal::Refusal;
@@ -22,7 +22,7 @@ pub struct Text {
 
 // The text for an answer.
 pub fn text_of(a: Answer) -> Text
-    ensures { λ r. ⌜ Holds (textOf a) r ⌝ }
+    ensures { λ r. ⌜ HoldsText (textOf a) r ⌝ }
 {
     let refusal = a.refusal;
     if refusal.number != 0 {
@@ -37,7 +37,7 @@ pub fn text_of(a: Answer) -> Text
 
 // The text of a caption unit: a line for each of its records.
 fn listed(unit: CaptionUnit) -> Text
-    ensures { λ r. ⌜ Holds (headText ++ recordsText (held unit .records)) r ⌝ }
+    ensures { λ r. ⌜ HoldsText (headText ++ recordsText (held unit .records)) r ⌝ }
 {
     let n = unit.n;
     let mut t = with(empty(), b"priority field line data\n");
@@ -55,7 +55,7 @@ fn listed(unit: CaptionUnit) -> Text
 
 // The text of a refusal.
 fn refused(r: Refusal) -> Text
-    ensures { λ t. ⌜ Holds (refusedText r) t ⌝ }
+    ensures { λ t. ⌜ HoldsText (refusedText r) t ⌝ }
 {
     let t = with(empty(), b"refused ");
     let t = with_decimal(t, r.number as usize);
@@ -140,7 +140,7 @@ fn with_byte(t: Text, b: u8) -> Text
 
 // A text of no bytes.
 fn empty() -> Text
-    ensures { λ r. ⌜ Holds [] r ⌝ }
+    ensures { λ r. ⌜ HoldsText [] r ⌝ }
 {
     Text {
         len: 0,

@@ -12,7 +12,7 @@ use Rattle.lists.specs.Room.{filled}
 use Rattle.scte20.specs.declared.Record.{Record}
 use Rattle.scte20.specs.Value.{Content, blank, fieldOf, stored}
 use Rattle.listing.specs.Texts.{decimal, hex, lineFeed, recordText, recordsText, space}
-use Rattle.notation.specs.Value.{areRecords, isRecord, recordOf, recordsOf, toldIf, toldOf, toldWords, unitOf}
+use Rattle.notation.specs.Value.{areRecords, isRecord, recordOf, recordsOf, meantIf, meantOf, meantWords, unitOf}
 use Rattle.notation.specs.Words.{wordsOf}
 use Rattle.notation.proofs.Cutting.{words-end}
 use Rattle.notation.proofs.Written.{byte-is, byte-next, byte-value, decimal-is, decimal-next, decimal-value, hex-is, hex-next, hex-number}
@@ -95,10 +95,10 @@ module _ (c : Content) (reserved : c .reserved < 256) (flag : c .flag < 256) (z 
       (byte-next (c .flag) flag 0x20 _ refl
       ∙ ap (λ (rest : List (List ℕ)). decimal (c .flag) ∷ rest) (decimal-next (c .z) z 0x20 (recordsText (c .records)) refl))
 
-  pub listed : toldOf text ≡ record { «is_readable» = true; unit = stored c }
+  pub listed : meantOf text ≡ record { «is_readable» = true; unit = stored c }
   listed =
-      ap toldWords text-words
-      ∙ (λ i. toldIf
+      ap meantWords text-words
+      ∙ (λ i. meantIf
       (byte-is (c .reserved) reserved i && (byte-is (c .flag) flag i && (decimal-is (c .z) z i && lines-are (c .records) bytes i)))
       (unitOf (byte-value (c .reserved) reserved i) (byte-value (c .flag) flag i) (decimal-value (c .z) z i) (lines-records (c .records) bytes i)))
       ∙ ap (λ (rs : List Record). record {

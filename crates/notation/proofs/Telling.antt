@@ -11,9 +11,9 @@ use Rattle.scte20.specs.declared.Record.{Record}
 use Rattle.scte20.specs.Value.{blank}
 use Rattle.notation.specs.declared.Entries.{Entries}
 use Rattle.notation.specs.declared.Head.{Head}
-use Rattle.notation.specs.declared.Told.{Told}
+use Rattle.notation.specs.declared.Meant.{Meant}
 use Rattle.notation.specs.Inside.{TakesEntries, TakesHead, wordAt}
-use Rattle.notation.specs.Value.{areRecords, byteOf, cappedOf, isDecimal, recordsOf, toldIf, toldOf, toldWords, unitOf, unreadable}
+use Rattle.notation.specs.Value.{areRecords, byteOf, cappedOf, isDecimal, recordsOf, meantIf, meantOf, meantWords, unitOf, unreadable}
 use Rattle.notation.specs.Words.{wordsOf}
 use Rattle.notation.proofs.Digits.{decimal-none}
 
@@ -25,13 +25,13 @@ abbrev unitIn : List (List ℕ) → CaptionUnit
 unitIn words = unitOf (byteOf (wordAt 0 words)) (byteOf (wordAt 1 words)) (cappedOf (wordAt 2 words)) (recordsOf (drop 3 words))
 
 -- two words tell nothing
-two-words : (r f : List ℕ) (t : Bool) (u : CaptionUnit) → toldIf (isDecimal r && (isDecimal f && (isDecimal [] && t))) u ≡ unreadable
+two-words : (r f : List ℕ) (t : Bool) (u : CaptionUnit) → meantIf (isDecimal r && (isDecimal f && (isDecimal [] && t))) u ≡ unreadable
 two-words r f t u =
-    ap (λ (third : Bool). toldIf (isDecimal r && (isDecimal f && (third && t))) u) decimal-none
-    ∙ ap (λ (both : Bool). toldIf (isDecimal r && both) u) (and-false (isDecimal f))
-    ∙ ap (λ (all : Bool). toldIf all u) (and-false (isDecimal r))
+    ap (λ (third : Bool). meantIf (isDecimal r && (isDecimal f && (third && t))) u) decimal-none
+    ∙ ap (λ (both : Bool). meantIf (isDecimal r && both) u) (and-false (isDecimal f))
+    ∙ ap (λ (all : Bool). meantIf all u) (and-false (isDecimal r))
 
-told-words : (words : List (List ℕ)) → toldWords words ≡ toldIf (areTold words) (unitIn words)
+told-words : (words : List (List ℕ)) → meantWords words ≡ meantIf (areTold words) (unitIn words)
 told-words [] = sym (two-words [] [] true (unitIn []))
 told-words (r ∷ []) = sym (two-words r [] true (unitIn (r ∷ [])))
 told-words (r ∷ f ∷ []) = sym (two-words r f true (unitIn (r ∷ f ∷ [])))
@@ -51,9 +51,9 @@ module _ (text : List ℕ) (h : Head) (head : TakesHead text h) where
       sym (ap (λ (t : Bool). t && d) (head .told) ∙ and-assoc a (b && c) d ∙ ap (λ (t : Bool). a && t) (and-assoc b c d))
 
   -- a head that cannot be read
-  pub told-no-head : h .«is_readable» ≡ false → unreadable ≡ toldOf text
+  pub told-no-head : h .«is_readable» ≡ false → unreadable ≡ meantOf text
   told-no-head other =
-      sym (told-words words ∙ ap (λ (t : Bool). toldIf t (unitIn words)) (split ∙ ap (λ (t : Bool). t && areRecords (drop 3 words)) other))
+      sym (told-words words ∙ ap (λ (t : Bool). meantIf t (unitIn words)) (split ∙ ap (λ (t : Bool). t && areRecords (drop 3 words)) other))
 
   module _ (r : Entries) (entries : TakesEntries text (h .end) r) (is : h .«is_readable» ≡ true) where
     read : areTold words ≡ r .«is_readable»
@@ -63,27 +63,27 @@ module _ (text : List ℕ) (h : Head) (head : TakesHead text h) where
         ∙ sym (entries .told ∙ ap areRecords (head .rest))
 
     -- others that cannot
-    pub told-no-records : r .«is_readable» ≡ false → unreadable ≡ toldOf text
-    told-no-records other = sym (told-words words ∙ ap (λ (t : Bool). toldIf t (unitIn words)) (read ∙ other))
+    pub told-no-records : r .«is_readable» ≡ false → unreadable ≡ meantOf text
+    told-no-records other = sym (told-words words ∙ ap (λ (t : Bool). meantIf t (unitIn words)) (read ∙ other))
 
     -- all can
     pub told-all : r .«is_readable» ≡ true
         → record {
           «is_readable» = true;
           unit = record { reserved = h .reserved; «vbi_data_flag» = h .«vbi_data_flag»; n = r .n; records = r .records; z = h .z };
-        } ≡ toldOf text
+        } ≡ meantOf text
     told-all are =
         let rest : recordsOf (wordsOf (drop (h .end) text)) ≡ recordsOf (drop 3 words) = ap recordsOf (head .rest) in
         let n : r .n ≡ length (recordsOf (drop 3 words)) = entries .n are ∙ ap length rest in
         let records : r .records ≡ filled (take 31 (recordsOf (drop 3 words))) 31 blank =
         entries .records are ∙ ap (λ (rs : List Record). filled (take 31 rs) 31 blank) rest in
         let unit :
-        _≡_ {A = Told}
+        _≡_ {A = Meant}
         (record {
           «is_readable» = true;
           unit = record { reserved = h .reserved; «vbi_data_flag» = h .«vbi_data_flag»; n = r .n; records = r .records; z = h .z };
         })
-        (toldIf true (unitIn words)) =
+        (meantIf true (unitIn words)) =
         λ i. record {
           «is_readable» = true;
           unit =
@@ -95,4 +95,4 @@ module _ (text : List ℕ) (h : Head) (head : TakesHead text h) where
                 z = head .z is i;
               };
         } in
-        unit ∙ sym (told-words words ∙ ap (λ (t : Bool). toldIf t (unitIn words)) (read ∙ are))
+        unit ∙ sym (told-words words ∙ ap (λ (t : Bool). meantIf t (unitIn words)) (read ∙ are))

@@ -10,21 +10,21 @@ use Rattle.lists.proofs.Each.{each-map}
 use Rattle.scte20.specs.declared.Record.{Record}
 use Rattle.scte20.specs.Value.{Content, fieldOf, stored}
 use Rattle.listing.specs.Texts.{decimal, recordsText, space}
-use Rattle.notation.specs.declared.Told.{Told}
-use Rattle.notation.specs.Value.{toldOf}
+use Rattle.notation.specs.declared.Meant.{Meant}
+use Rattle.notation.specs.Value.{meantOf}
 use Rattle.notation.proofs.Listed.{InBytes, listed}
 
 -- Two answers that keep the promise of `unit_of` are equal.
-pub unit-determined : (text : List ℕ) (a b : Told) → a ≡ toldOf text → b ≡ toldOf text → a ≡ b
+pub unit-determined : (text : List ℕ) (a b : Meant) → a ≡ meantOf text → b ≡ meantOf text → a ≡ b
 unit-determined text a b ea eb = ea ∙ sym eb
 
 -- What `cclist` prints of a value's records, typed behind reserved, flag and z, tells that value.
-pub listed-told : (c : Content) → c .reserved < 256 → c .flag < 256 → c .z < 1000000000 → length (c .records) ≤ 31
+pub listed-meant : (c : Content) → c .reserved < 256 → c .flag < 256 → c .z < 1000000000 → length (c .records) ≤ 31
     → Each
     (λ (r : Record). (r .«cc_priority» < 256) × (fieldOf r < 256) × (r .«line_offset» < 256) × (r .«cc_data_1» < 256) × (r .«cc_data_2» < 256))
     (c .records)
-    → toldOf (decimal (c .reserved) ++ (space ++ (decimal (c .flag) ++ (space ++ (decimal (c .z) ++ (space ++ recordsText (c .records)))))))
+    → meantOf (decimal (c .reserved) ++ (space ++ (decimal (c .flag) ++ (space ++ (decimal (c .z) ++ (space ++ recordsText (c .records)))))))
     ≡ record { «is_readable» = true; unit = stored c }
-listed-told c reserved flag z few bytes =
+listed-meant c reserved flag z few bytes =
     listed c reserved flag z few
     (each-map _ InBytes (λ r h. record { priority = h .0; field = h .1; line = h .2; data-1 = h .3; data-2 = h .4 }) (c .records) bytes)

@@ -9,7 +9,7 @@ use Rattle.lists.specs.Room.{filled}
 use Rattle.scte20.specs.declared.Record.{Record}
 use Rattle.scte20.specs.declared.CaptionUnit.{CaptionUnit}
 use Rattle.scte20.specs.Value.{blank, none, stored}
-use Rattle.notation.specs.declared.Told.{Told}
+use Rattle.notation.specs.declared.Meant.{Meant}
 use Rattle.notation.specs.Words.{wordsOf}
 
 -- a character from one to another
@@ -95,19 +95,19 @@ abbrev pub unitOf : ℕ → ℕ → ℕ → List Record → CaptionUnit
 unitOf reserved flag z rs =
     record { reserved = reserved; «vbi_data_flag» = flag; n = length rs; records = filled (take 31 rs) 31 blank; z = z }
 
-abbrev pub unreadable : Told
+abbrev pub unreadable : Meant
 unreadable = record { «is_readable» = false; unit = stored none }
 
-abbrev pub toldIf : Bool → CaptionUnit → Told
-toldIf true u = record { «is_readable» = true; unit = u }
-toldIf false u = unreadable
+abbrev pub meantIf : Bool → CaptionUnit → Meant
+meantIf true u = record { «is_readable» = true; unit = u }
+meantIf false u = unreadable
 
-abbrev pub toldWords : List (List ℕ) → Told
-toldWords [] = unreadable
-toldWords (r ∷ []) = unreadable
-toldWords (r ∷ f ∷ []) = unreadable
-toldWords (r ∷ f ∷ z ∷ words) =
-    toldIf (isDecimal r && (isDecimal f && (isDecimal z && areRecords words))) (unitOf (byteOf r) (byteOf f) (cappedOf z) (recordsOf words))
+abbrev pub meantWords : List (List ℕ) → Meant
+meantWords [] = unreadable
+meantWords (r ∷ []) = unreadable
+meantWords (r ∷ f ∷ []) = unreadable
+meantWords (r ∷ f ∷ z ∷ words) =
+    meantIf (isDecimal r && (isDecimal f && (isDecimal z && areRecords words))) (unitOf (byteOf r) (byteOf f) (cappedOf z) (recordsOf words))
 
-abbrev pub toldOf : List ℕ → Told
-toldOf text = toldWords (wordsOf text)
+abbrev pub meantOf : List ℕ → Meant
+meantOf text = meantWords (wordsOf text)

@@ -5,13 +5,13 @@ mod words;
 
 ghost use mathlib.Core.Path.{_≡_};
 ghost use Rattle.notation.specs.Inside.{TakesHead};
-ghost use Rattle.notation.specs.Value.{toldOf, unreadable};
+ghost use Rattle.notation.specs.Value.{meantOf, unreadable};
 use scte20::CaptionUnit;
 use scte20::MAX_RECORDS;
 use scte20::Record;
 
 // What a text tells: whether it can be read, and the value, all zero where it cannot.
-pub struct Told {
+pub struct Meant {
     pub is_readable: bool,
     pub unit: CaptionUnit,
 }
@@ -59,8 +59,8 @@ struct Entries {
 }
 
 // The value that a text tells.
-pub fn unit_of(text: &[u8]) -> Told
-    ensures { λ r. ⌜ r ≡ toldOf (now (text .entry)) ⌝ }
+pub fn unit_of(text: &[u8]) -> Meant
+    ensures { λ r. ⌜ r ≡ meantOf (now (text .entry)) ⌝ }
 {
     let head = head_of(text);
     if !head.is_readable {
@@ -71,7 +71,7 @@ pub fn unit_of(text: &[u8]) -> Told
         return nothing();
     }
     let records = found.records;
-    Told {
+    Meant {
         is_readable: true,
         unit: CaptionUnit {
             reserved: head.reserved,
@@ -100,11 +100,11 @@ fn head_of(text: &[u8]) -> Head
 }
 
 // A text that tells no value.
-fn nothing() -> Told
+fn nothing() -> Meant
     ensures { λ r. ⌜ r ≡ unreadable ⌝ }
 {
     let unit = scte20::nothing();
-    Told {
+    Meant {
         is_readable: false,
         unit,
     }

@@ -29,7 +29,7 @@ use Rattle.scte20.specs.Reading.{contentVerdict, valueOf}
 use Rattle.scte20.proofs.Sizes.{begins}
 use Rattle.scte20.proofs.Contents.{value-legal, value-layout}
 use Rattle.scte20.proofs.Layouts as contents
-use Rattle.picture.specs.Value.{Area, bare, captioned, layout, Foreign, Legal}
+use Rattle.picture.specs.Value.{Area, uncaptioned, captioned, layout, Foreign, Legal}
 use Rattle.picture.specs.Reading.{placedItem, placed, captionsIn, foundVerdict, areaVerdict, foundContent, answerOf, readOf, shown}
 use Rattle.picture.proofs.CleanBody.{legal-clean}
 
@@ -79,7 +79,7 @@ module _ (s : List ℕ) (bytes : Bytes s) where
       let w = nowhere-exactly (ours Scte20) s .0 e in
       let fs = foreign (w .0) (w .1) (each-bytes (w .0) (w .1) (w .3) (w .4)) (w .2) in
       record {
-        value = bare (w .0);
+        value = uncaptioned (w .0);
         legal = record { units = fs; short = subst (λ (t : List ℕ). length t ≤ 16384) (sym (w .4)) (w .3) };
         same = w .4;
         told = ap (λ (f : Found). answerOf (foundVerdict f s) (foundContent f s)) e;
@@ -110,7 +110,7 @@ module _ (s : List ℕ) (bytes : Bytes s) where
       }
 
   back-from : (f : Found) → captionsIn s ≡ f → foundVerdict f s ≡ Accepted → Back s
-  back-from (found.Refused reason item) e ok = absurd (refused-not-accepted reason item ok)
+  back-from (found.NotUnits reason item) e ok = absurd (refused-not-accepted reason item ok)
   back-from found.Nowhere e ok = bare-back e
   back-from (found.At unit end) e ok = captioned-back unit end e (placed-accepted unit (contentVerdict (part (unit + 4) end s)) ok)
   back-from (found.Many k) e ok = absurd (refused-not-accepted SecondUnit Whole ok)
@@ -125,22 +125,22 @@ caption-short before body after short = omega (arith, length-around before body 
 
 -- what the search finds in a legal value's bytes
 abbrev pub foundIn : Area → Found
-foundIn (bare us) = found.Nowhere
+foundIn (uncaptioned us) = found.Nowhere
 foundIn (captioned before c after) = found.At (length (units.layout before)) (length (units.layout before) + 4 + length (content.layout c))
 
 pub legal-found : (v : Area) → Legal v → captionsIn (layout v) ≡ foundIn v
-legal-found (bare us) h = nowhere-exactly (ours Scte20) (units.layout us) .1 (us, foreign-clean us (h .units), foreign-other us (h .units), h .short, refl)
+legal-found (uncaptioned us) h = nowhere-exactly (ours Scte20) (units.layout us) .1 (us, foreign-clean us (h .units), foreign-other us (h .units), h .short, refl)
 legal-found (captioned before c after) h =
     at-found (ours Scte20) before (content.layout c) after (foreign-clean before (h .units .0)) (legal-clean c (h .units .1)) (foreign-clean after (h .units .2))
     (foreign-other before (h .units .0)) (foreign-other after (h .units .2)) (caption-ours c) (h .short)
 
 -- and the value there
 abbrev contentsOf : Area → List Content
-contentsOf (bare us) = []
+contentsOf (uncaptioned us) = []
 contentsOf (captioned before c after) = c ∷ []
 
 pub legal-verdict : (v : Area) → Legal v → areaVerdict (layout v) ≡ Accepted
-legal-verdict (bare us) h = ap (λ (f : Found). foundVerdict f (units.layout us)) (legal-found (bare us) h)
+legal-verdict (uncaptioned us) h = ap (λ (f : Found). foundVerdict f (units.layout us)) (legal-found (uncaptioned us) h)
 legal-verdict (captioned before c after) h =
     let body = content.layout c in
     let s = units.layout (before ++ (body ∷ after)) in
@@ -150,7 +150,7 @@ legal-verdict (captioned before c after) h =
     ∙ ap (placed unit) (ap contentVerdict lies ∙ contents.layout-accepted c (h .units .1) (caption-short before body after (h .short)))
 
 legal-content : (v : Area) → Legal v → foundContent (captionsIn (layout v)) (layout v) ≡ contentsOf v
-legal-content (bare us) h = ap (λ (f : Found). foundContent f (units.layout us)) (legal-found (bare us) h)
+legal-content (uncaptioned us) h = ap (λ (f : Found). foundContent f (units.layout us)) (legal-found (uncaptioned us) h)
 legal-content (captioned before c after) h =
     let body = content.layout c in
     let s = units.layout (before ++ (body ∷ after)) in
@@ -163,5 +163,5 @@ pub legal-read : (v : Area) → Legal v → readOf (layout v) ≡ shown v
 legal-read v h = ap₂ answerOf (legal-verdict v h) (legal-content v h) ∙ same v
   where
     same : (w : Area) → answerOf Accepted (contentsOf w) ≡ shown w
-    same (bare us) = refl
+    same (uncaptioned us) = refl
     same (captioned before c after) = refl

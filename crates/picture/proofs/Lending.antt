@@ -25,7 +25,7 @@ use Rattle.scte20.specs.Lent as scte20-lent
 use Rattle.scte20.proofs.Lending.{lent-unit, lent-filled}
 use Rattle.picture.specs.declared.Answer.{Answer}
 use Rattle.picture.specs.declared.Head.{Head}
-use Rattle.picture.specs.Value.{Area, bare, captioned, Legal}
+use Rattle.picture.specs.Value.{Area, uncaptioned, captioned, Legal}
 use Rattle.picture.specs.Reading.{placed, captionsIn, foundVerdict, areaVerdict, foundContent, answerOf, readOf, shown}
 use Rattle.picture.specs.Lent.{headOf, ReadsInto}
 use Rattle.picture.proofs.Areas.{accepted-back}
@@ -78,7 +78,7 @@ all-there Accepted cs = refl
 all-there (Refused reason item) cs = sym cleared
 
 shown-places : (v : Area) → Legal v → length (shown v .unit .records) ≡ 31
-shown-places (bare us) h = refl
+shown-places (uncaptioned us) h = refl
 shown-places (captioned before c after) h = length-filled (c .records) 31 blank (h .units .1 .few)
 
 pub answer-places : (s : List ℕ) → Bytes s → (verdict : Verdict) → areaVerdict s ≡ verdict → length (readOf s .unit .records) ≡ 31

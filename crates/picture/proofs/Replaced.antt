@@ -19,7 +19,7 @@ use Rattle.scte20.specs.Value.{Content, held}
 use Rattle.scte20.specs.Value as scte20
 use Rattle.scte20.specs.Layout as content
 use Rattle.scte20.specs.Writing.{writeVerdict}
-use Rattle.picture.specs.Value.{Area, bare, captioned, layout, LegalUnits, Legal, replaced, foreignOf}
+use Rattle.picture.specs.Value.{Area, uncaptioned, captioned, layout, LegalBodies, Legal, replaced, foreignOf}
 use Rattle.picture.specs.Writing.{unitBytes, exchanged, replacedIn, replacedOf, replaceVerdict}
 use Rattle.picture.proofs.Areas.{foundIn, legal-found, legal-verdict}
 
@@ -43,14 +43,14 @@ exchanged-around before old after new =
     ap₂ (λ (f r : List ℕ). f ++ (layoutUnit new ++ r)) taken left ∙ sym (around before new after)
 
 replaced-found : (v : Area) (c : Content) → replacedIn (foundIn v) (layout v) (unitBytes c) ≡ layout (replaced v c)
-replaced-found (bare us) c = ap (λ (r : List ℕ). units.layout us ++ r) (sym (append-nil (unitBytes c))) ∙ sym (around us (content.layout c) [])
+replaced-found (uncaptioned us) c = ap (λ (r : List ℕ). units.layout us ++ r) (sym (append-nil (unitBytes c))) ∙ sym (around us (content.layout c) [])
 replaced-found (captioned before old after) c = exchanged-around before (content.layout old) after (content.layout c)
 
 pub replaced-layout : (v : Area) (c : Content) → Legal v → replacedOf (layout v) c ≡ layout (replaced v c)
 replaced-layout v c h = ap (λ (f : Found). replacedIn f (layout v) (unitBytes c)) (legal-found v h) ∙ replaced-found v c
 
-replaced-units : (v : Area) (c : Content) → LegalUnits v → scte20.Legal c → LegalUnits (replaced v c)
-replaced-units (bare us) c h legal = (h, legal, tt)
+replaced-units : (v : Area) (c : Content) → LegalBodies v → scte20.Legal c → LegalBodies (replaced v c)
+replaced-units (uncaptioned us) c h legal = (h, legal, tt)
 replaced-units (captioned before old after) c h legal = (h .0, legal, h .2)
 
 pub replaced-legal : (v : Area) (c : Content) → Legal v → scte20.Legal c → length (layout (replaced v c)) ≤ 16384 → Legal (replaced v c)
@@ -58,12 +58,12 @@ replaced-legal v c h legal short = record { units = replaced-units v c (h .units
 
 -- the new unit's body is a part of the new area
 pub replaced-long : (v : Area) (c : Content) → length (content.layout c) ≤ length (layout (replaced v c))
-replaced-long (bare us) c = omega (arith, length-around us (content.layout c) [])
+replaced-long (uncaptioned us) c = omega (arith, length-around us (content.layout c) [])
 replaced-long (captioned before old after) c = omega (arith, length-around before (content.layout c) after)
 
 -- the foreign units are the same, in the same order
 pub foreign-same : (v : Area) (c : Content) → foreignOf (replaced v c) ≡ foreignOf v
-foreign-same (bare us) c = append-nil us
+foreign-same (uncaptioned us) c = append-nil us
 foreign-same (captioned before old after) c = refl
 
 -- once the area is accepted, the value decides

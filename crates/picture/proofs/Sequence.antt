@@ -105,7 +105,7 @@ layout-order s bodies clean short same =
     ∙ ap₂ (λ (v : Verdict) (cut : Cut). andThen v (first (behind (captionsOf 0 (cut .pieces))))) (layout-accepted bodies clean within) (layout-pieces bodies clean)
 
 found-order : (s : List ℕ) (f : Found) → captionsIn s ≡ f → foundVerdict f s ≡ first (readingChecks s)
-found-order s (found.Refused reason item) e =
+found-order s (found.NotUnits reason item) e =
     sym (split-order s ∙ ap (λ (v : Verdict). andThen v (first (behind (captionsOf 0 (cutOf s .pieces))))) (refused-split (ours Scte20) s reason item .0 e))
 found-order s found.Nowhere e =
     let w = nowhere-exactly (ours Scte20) s .0 e in

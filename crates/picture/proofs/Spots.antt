@@ -20,7 +20,7 @@ use Rattle.refusal.proofs.Outputs.{wrote-nothing}
 use Rattle.kind.specs.declared.Kind.the-variants.{Scte20}
 use Rattle.kind.specs.Ours.{ours}
 use Rattle.units.specs.declared.Found.{Found}
-use Rattle.units.specs.declared.Found.the-variants.{Refused, Nowhere, At, Many}
+use Rattle.units.specs.declared.Found.the-variants.{NotUnits, Nowhere, At, Many}
 use Rattle.units.proofs.Spans.{nowhere-exactly}
 use Rattle.scte20.specs.declared.CaptionUnit.{CaptionUnit}
 use Rattle.scte20.specs.Value.{held}
@@ -38,7 +38,7 @@ pub record Within (s : List ℕ) (spot : Spot) : Type 0 where
   pub short : length s ≤ 16384
 
 found-within : (s : List ℕ) (f : Found) → captionsIn s ≡ f → foundVerdict f s ≡ Accepted → Within s (spotOf f (length s))
-found-within s (Refused reason item) e ok = refused-not-accepted reason item ok
+found-within s (NotUnits reason item) e ok = refused-not-accepted reason item ok
 found-within s Nowhere e ok = let w = nowhere-exactly (ours Scte20) s .0 e in record { forward = omega arith; inside = omega arith; short = w .3 }
 found-within s (At unit end) e ok = let w = unit-within s unit end e in record { forward = omega (arith, w .0); inside = w .1; short = w .2 }
 found-within s (Many k) e ok = refused-not-accepted SecondUnit Whole ok
@@ -49,7 +49,7 @@ spot-within s ok = found-within s (captionsIn s) refl ok
 -- what is exchanged there is what is replaced
 found-replaced : (s new : List ℕ) (f : Found) → foundVerdict f s ≡ Accepted
     → exchanged s (spotOf f (length s) .start) (spotOf f (length s) .end) new ≡ replacedIn f s new
-found-replaced s new (Refused reason item) ok = refused-not-accepted reason item ok
+found-replaced s new (NotUnits reason item) ok = refused-not-accepted reason item ok
 found-replaced s new Nowhere ok = ap₂ (λ (front back : List ℕ). front ++ (new ++ back)) (take-length s) (drop-length s) ∙ ap (λ (r : List ℕ). s ++ r) (append-nil new)
 found-replaced s new (At unit end) ok = refl
 found-replaced s new (Many k) ok = refused-not-accepted SecondUnit Whole ok

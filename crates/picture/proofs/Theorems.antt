@@ -28,7 +28,7 @@ use Rattle.refusal.specs.Numbers.{numberOf, refusalOf}
 use Rattle.refusal.specs.Checks.{first}
 use Rattle.refusal.specs.Answers.{lentOf}
 use Rattle.refusal.proofs.Acceptance.{told-accepted}
-use Rattle.refusal.proofs.Checks.{andThen-accepted, accepted-andThen, andThen-refused}
+use Rattle.refusal.proofs.Checks.{accepted-andThen, andThen-accepted, andThen-refused}
 use Rattle.refusal.proofs.Outputs.{wrote-accepted, accepted-wrote, wrote-refusal, success-left, refusal-left, wrote-determined}
 use Rattle.kind.specs.declared.Kind.the-variants.{Scte20}
 use Rattle.kind.specs.Ours.{ours}
@@ -41,20 +41,20 @@ use Rattle.units.proofs.Spans.{count, at-found, part-body, second-many, refused
 use Rattle.units.proofs.Refusals.{start, split-1, split-2, split-3}
 use Rattle.scte20.specs.declared.CaptionUnit.{CaptionUnit}
 use Rattle.scte20.specs.declared.Numbers.{Numbers}
-use Rattle.scte20.specs.Value.{Content, LegalUnit, none, stored, held}
+use Rattle.scte20.specs.Value.{Content, LegalCaptionUnit, none, stored, held}
 use Rattle.scte20.specs.Value as scte20
 use Rattle.scte20.specs.Layout as content
 use Rattle.scte20.specs.Reading.{contentVerdict}
 use Rattle.scte20.specs.Writing.{wholeVerdict, writeVerdict}
 use Rattle.scte20.specs.Lent.{recordsBytes, unitIn}
 use Rattle.scte20.proofs.Numbered.{AtBit, content-placed}
-use Rattle.scte20.proofs.Writable.{ForValue, accepted-unit, unit-accepted, write-accepted, accepted-write, z-within, whole-15, value-refused, long-refused, no-room-refused}
+use Rattle.scte20.proofs.Writable.{ForValue, accepted-unit, unit-accepted, accepted-write, write-accepted, z-within, whole-15, value-refused, long-refused, no-room-refused}
 use Rattle.scte20.proofs.Theorems.{stored-held, stored-legal}
 use Rattle.picture.specs.declared.Answer.{Answer}
 use Rattle.picture.specs.declared.Head.{Head}
 use Rattle.picture.specs.declared.Spot.{Spot}
 use Rattle.picture.specs.declared.Old.{Old}
-use Rattle.picture.specs.Value.{Area, bare, captioned, bodies, layout, Foreign, Legal, replaced, foreignOf}
+use Rattle.picture.specs.Value.{Area, uncaptioned, captioned, bodies, layout, Foreign, Legal, replaced, foreignOf}
 use Rattle.picture.specs.Reading.{placedItem, placed, captionsIn, foundVerdict, areaVerdict, foundContent, answerOf, readOf, shown, Reads}
 use Rattle.picture.specs.Lent.{headOf, ReadsInto}
 use Rattle.picture.specs.Inside.{ReadsOld}
@@ -93,7 +93,7 @@ accepts : (s : List ℕ) (r : Answer) → Reads s r → r .refusal .number ≡ 0
 accepts s r p e = told-accepted (areaVerdict s) (sym (ap (λ (a : Refusal). a .number) (told s r p)) ∙ e)
 
 shown-accepted : (v : Area) → shown v .refusal .number ≡ 0
-shown-accepted (bare us) = refl
+shown-accepted (uncaptioned us) = refl
 shown-accepted (captioned before c after) = refl
 
 -- Bytes are accepted exactly when foreign units and at most one legal caption unit have them as their layout.
@@ -207,10 +207,10 @@ read-into-as-read s lent r exit p a read = (
 
 -- Writing succeeds exactly when the value is legal and the unit, with its start code and its stuffing, fits limit and buffer.
 pub writes-exactly : (u : CaptionUnit) (out : List ℕ) (r : Written) (exit : List ℕ) → Writes u out r exit
-    → r .refusal .number ≡ 0 ↔ (LegalUnit u × (length (unitBytes (held u)) ≤ 16384) × (length (unitBytes (held u)) ≤ length out))
+    → r .refusal .number ≡ 0 ↔ (LegalCaptionUnit u × (length (unitBytes (held u)) ≤ 16384) × (length (unitBytes (held u)) ≤ length out))
 writes-exactly u out r exit w = (
-  λ e. write-accepted u _ _ (w .typed) (wrote-accepted _ _ _ _ _ (w .wrote) e),
-  λ h. accepted-wrote _ _ _ _ _ (w .wrote) (accepted-write u _ _ (w .typed) (h .0) (omega arith) (h .1) (h .2)),
+  λ e. accepted-write u _ _ (w .typed) (wrote-accepted _ _ _ _ _ (w .wrote) e),
+  λ h. accepted-wrote _ _ _ _ _ (w .wrote) (write-accepted u _ _ (w .typed) (h .0) (omega arith) (h .1) (h .2)),
 )
 
 -- Then exactly the unit stands at the front of the buffer, and nothing else changed.
@@ -236,17 +236,17 @@ pub write-15 : (u : CaptionUnit) (out : List ℕ) (r : Written) (exit : List ℕ
 write-15 u out r exit w h = write-in-order u out r exit w ∙ whole-15 u (length (unitBytes (held u))) (length out) h
 
 -- 15, 7, 8 or 9 for a value that is not legal;
-pub illegal-refused : (u : CaptionUnit) (out : List ℕ) (r : Written) (exit : List ℕ) → Writes u out r exit → (LegalUnit u → ⊥) → ForValue (r .refusal)
+pub illegal-refused : (u : CaptionUnit) (out : List ℕ) (r : Written) (exit : List ℕ) → Writes u out r exit → (LegalCaptionUnit u → ⊥) → ForValue (r .refusal)
 illegal-refused u out r exit w h =
     subst ForValue (sym (write-in-order u out r exit w)) (value-refused u (length (unitBytes (held u))) (length out) (λ e. h (accepted-unit u (w .typed) e)))
 
 -- 1 for a legal one that is too long, whatever the buffer;
-pub write-1 : (u : CaptionUnit) (out : List ℕ) (r : Written) (exit : List ℕ) → Writes u out r exit → LegalUnit u → u .z ≤ 16384
+pub write-1 : (u : CaptionUnit) (out : List ℕ) (r : Written) (exit : List ℕ) → Writes u out r exit → LegalCaptionUnit u → u .z ≤ 16384
     → 16384 < length (unitBytes (held u)) → r .refusal ≡ refused 1 0
 write-1 u out r exit w h z long = write-in-order u out r exit w ∙ ap refusalOf (long-refused u _ _ (unit-accepted u (w .typed) h z) long)
 
 -- 14 where the buffer is too short.
-pub write-14 : (u : CaptionUnit) (out : List ℕ) (r : Written) (exit : List ℕ) → Writes u out r exit → LegalUnit u → length (unitBytes (held u)) ≤ 16384
+pub write-14 : (u : CaptionUnit) (out : List ℕ) (r : Written) (exit : List ℕ) → Writes u out r exit → LegalCaptionUnit u → length (unitBytes (held u)) ≤ 16384
     → length out < length (unitBytes (held u)) → r .refusal ≡ refused 14 0
 write-14 u out r exit w h short room =
     let z = z-within u (omega arith) in
@@ -291,21 +291,21 @@ written-read before c after h a read out r exit w room =
 -- where a check of 01 refuses.
 pub replaces-exactly : (s : List ℕ) (u : CaptionUnit) (out : List ℕ) (r : Written) (exit : List ℕ) → Replaces s u out r exit
     → r .refusal .number ≡ 0
-    ↔ ((v : Area) × Legal v × (layout v ≡ s) × LegalUnit u × (length (layout (replaced v (held u))) ≤ 16384) × (length (layout (replaced v (held u))) ≤ length out))
+    ↔ ((v : Area) × Legal v × (layout v ≡ s) × LegalCaptionUnit u × (length (layout (replaced v (held u))) ≤ 16384) × (length (layout (replaced v (held u))) ≤ length out))
 replaces-exactly s u out r exit p = (
   λ e.
-      let ok = andThen-accepted (areaVerdict s) _ (wrote-accepted _ _ _ _ _ (p .wrote) e) in
+      let ok = accepted-andThen (areaVerdict s) _ (wrote-accepted _ _ _ _ _ (p .wrote) e) in
       let back = accepted-back s (p .bytes) (ok .0) in
       let v = back .value in
       let new : replacedOf s (held u) ≡ layout (replaced v (held u)) = ap (λ (t : List ℕ). replacedOf t (held u)) (sym (back .same)) ∙ replaced-layout v (held u) (back .legal) in
-      let fits = write-accepted u _ _ (p .typed) (ok .1) in
+      let fits = accepted-write u _ _ (p .typed) (ok .1) in
       (v, back .legal, back .same, fits .0, subst (λ (t : List ℕ). length t ≤ 16384) new (fits .1), subst (λ (t : List ℕ). length t ≤ length out) new (fits .2)),
   λ w.
       let v = w .0 in
       let area : areaVerdict s ≡ Accepted = subst (λ (t : List ℕ). areaVerdict t ≡ Accepted) (w .2) (legal-verdict v (w .1)) in
       let new : replacedOf s (held u) ≡ layout (replaced v (held u)) = ap (λ (t : List ℕ). replacedOf t (held u)) (sym (w .2)) ∙ replaced-layout v (held u) (w .1) in
-      let value = accepted-write u (length (layout (replaced v (held u)))) (length out) (p .typed) (w .3) (replaced-long v (held u)) (w .4) (w .5) in
-      accepted-wrote _ _ _ _ _ (p .wrote) (accepted-andThen (areaVerdict s) _ area (ap (λ (t : List ℕ). writeVerdict u (length t) (length out)) new ∙ value)),
+      let value = write-accepted u (length (layout (replaced v (held u)))) (length out) (p .typed) (w .3) (replaced-long v (held u)) (w .4) (w .5) in
+      accepted-wrote _ _ _ _ _ (p .wrote) (andThen-accepted (areaVerdict s) _ area (ap (λ (t : List ℕ). writeVerdict u (length t) (length out)) new ∙ value)),
 )
 
 -- Then the new area stands at the front of the buffer, and nothing else changed. It is the list of units with the new caption unit's exact
@@ -315,8 +315,8 @@ pub the-new-area : (v : Area) → Legal v → (u : CaptionUnit) (out : List ℕ)
 the-new-area v h u out r exit p e =
     let done = success-left _ _ _ _ _ (p .wrote) (wrote-accepted _ _ _ _ _ (p .wrote) e) in
     let new = replaced-layout v (held u) h in
-    let ok = andThen-accepted (areaVerdict (layout v)) _ (wrote-accepted _ _ _ _ _ (p .wrote) e) in
-    let fits = write-accepted u _ _ (p .typed) (ok .1) in (
+    let ok = accepted-andThen (areaVerdict (layout v)) _ (wrote-accepted _ _ _ _ _ (p .wrote) e) in
+    let fits = accepted-write u _ _ (p .typed) (ok .1) in (
       done .0 ∙ ap (λ (t : List ℕ). written (length t)) new,
       done .1 ∙ ap (λ (t : List ℕ). over t out) new,
       replaced-legal v (held u) h (fits .0 .value) (subst (λ (t : List ℕ). length t ≤ 16384) new (fits .1)),
@@ -342,7 +342,7 @@ read-replaced v h u out r exit p e a read =
     ∙ shown-replaced v
   where
     shown-replaced : (w : Area) → shown (replaced w (held u)) ≡ answerOf Accepted (held u ∷ [])
-    shown-replaced (bare us) = refl
+    shown-replaced (uncaptioned us) = refl
     shown-replaced (captioned before d after) = refl
 
 -- Replacing and putting the old value back gives the area byte for byte.
@@ -399,18 +399,18 @@ replace-15 v h u out r exit p illegal =
     replace-in-order (layout v) u out r exit p ∙ ap refusalOf (value-next v h u (length out)) ∙ whole-15 u (length (layout (replaced v (held u)))) (length out) illegal
 
 -- 15, 7, 8 or 9 for a value that is not legal;
-pub replace-illegal : (v : Area) → Legal v → (u : CaptionUnit) (out : List ℕ) (r : Written) (exit : List ℕ) → Replaces (layout v) u out r exit → (LegalUnit u → ⊥) → ForValue (r .refusal)
+pub replace-illegal : (v : Area) → Legal v → (u : CaptionUnit) (out : List ℕ) (r : Written) (exit : List ℕ) → Replaces (layout v) u out r exit → (LegalCaptionUnit u → ⊥) → ForValue (r .refusal)
 replace-illegal v h u out r exit p illegal =
     subst ForValue (sym (replace-in-order (layout v) u out r exit p ∙ ap refusalOf (value-next v h u (length out)))) (value-refused u (length (layout (replaced v (held u)))) (length out) (λ e. illegal (accepted-unit u (p .typed) e)))
 
 -- then 1 where the new area is too long, whatever the buffer,
-pub replace-1 : (v : Area) → Legal v → (u : CaptionUnit) (out : List ℕ) (r : Written) (exit : List ℕ) → Replaces (layout v) u out r exit → LegalUnit u → u .z ≤ 16384
+pub replace-1 : (v : Area) → Legal v → (u : CaptionUnit) (out : List ℕ) (r : Written) (exit : List ℕ) → Replaces (layout v) u out r exit → LegalCaptionUnit u → u .z ≤ 16384
     → 16384 < length (layout (replaced v (held u))) → r .refusal ≡ refused 1 0
 replace-1 v h u out r exit p legal z long =
     replace-in-order (layout v) u out r exit p ∙ ap refusalOf (value-next v h u (length out) ∙ long-refused u _ _ (unit-accepted u (p .typed) legal z) long)
 
 -- and 14 where the buffer is too short.
-pub replace-14 : (v : Area) → Legal v → (u : CaptionUnit) (out : List ℕ) (r : Written) (exit : List ℕ) → Replaces (layout v) u out r exit → LegalUnit u
+pub replace-14 : (v : Area) → Legal v → (u : CaptionUnit) (out : List ℕ) (r : Written) (exit : List ℕ) → Replaces (layout v) u out r exit → LegalCaptionUnit u
     → length (layout (replaced v (held u))) ≤ 16384 → length out < length (layout (replaced v (held u))) → r .refusal ≡ refused 14 0
 replace-14 v h u out r exit p legal short room =
     let z = z-within u (omega (arith, replaced-long v (held u))) in

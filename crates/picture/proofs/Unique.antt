@@ -15,12 +15,12 @@ use Rattle.scte20.specs.Value as scte20
 use Rattle.scte20.specs.Layout as content
 use Rattle.scte20.specs.Reading.{valueOf}
 use Rattle.scte20.proofs.Layouts.{layout-value}
-use Rattle.picture.specs.Value.{Area, bare, captioned, bodies, layout, LegalUnits, Legal}
+use Rattle.picture.specs.Value.{Area, uncaptioned, captioned, bodies, layout, LegalBodies, Legal}
 use Rattle.picture.proofs.CleanBody.{legal-clean}
 use Rattle.picture.proofs.Areas.{Other, foreign-clean, foreign-other, caption-ours}
 
-pub bodies-clean : (v : Area) → LegalUnits v → Each Clean (bodies v)
-bodies-clean (bare us) h = foreign-clean us h
+pub bodies-clean : (v : Area) → LegalBodies v → Each Clean (bodies v)
+bodies-clean (uncaptioned us) h = foreign-clean us h
 bodies-clean (captioned before c after) h =
     each-append Clean before (content.layout c ∷ after) (foreign-clean before (h .0)) (legal-clean c (h .1), foreign-clean after (h .2))
 
@@ -50,10 +50,10 @@ never us before c after h e =
 same-content : (c d : Content) → scte20.Legal c → scte20.Legal d → content.layout c ≡ content.layout d → c ≡ d
 same-content c d hc hd e = sym (layout-value c hc) ∙ ap valueOf e ∙ layout-value d hd
 
-same-bodies : (v w : Area) → LegalUnits v → LegalUnits w → bodies v ≡ bodies w → v ≡ w
-same-bodies (bare us) (bare ws) hv hw e = ap bare e
-same-bodies (bare us) (captioned before c after) hv hw e = absurd (never us before c after (foreign-other us hv) e)
-same-bodies (captioned before c after) (bare ws) hv hw e = absurd (never ws before c after (foreign-other ws hw) (sym e))
+same-bodies : (v w : Area) → LegalBodies v → LegalBodies w → bodies v ≡ bodies w → v ≡ w
+same-bodies (uncaptioned us) (uncaptioned ws) hv hw e = ap uncaptioned e
+same-bodies (uncaptioned us) (captioned before c after) hv hw e = absurd (never us before c after (foreign-other us hv) e)
+same-bodies (captioned before c after) (uncaptioned ws) hv hw e = absurd (never ws before c after (foreign-other ws hw) (sym e))
 same-bodies (captioned before c after) (captioned front d back) hv hw e =
     let same =
     around before front (content.layout c) (content.layout d) after back (foreign-other before (hv .0)) (foreign-other front (hw .0)) (caption-ours c) (caption-ours d) e in

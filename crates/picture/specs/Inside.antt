@@ -8,7 +8,7 @@ use Rattle.refusal.specs.declared.Item.the-variants.{Whole, Bit, Body, Word, Le
 use Rattle.refusal.specs.declared.Written.{Written}
 use Rattle.refusal.specs.Answers.{Wrote}
 use Rattle.units.specs.declared.Found.{Found}
-use Rattle.units.specs.declared.Found.the-variants.{Refused, Nowhere, At, Many}
+use Rattle.units.specs.declared.Found.the-variants.{NotUnits, Nowhere, At, Many}
 use Rattle.scte20.specs.declared.CaptionUnit.{CaptionUnit}
 use Rattle.scte20.specs.Value.{held, Typed}
 use Rattle.scte20.specs.Writing.{writeVerdict}
@@ -28,7 +28,7 @@ Near (Length n) = Unit {0}
 
 -- where the new unit goes: in the place of the only one that was found, else behind the last byte
 abbrev pub spotOf : Found → ℕ → Spot
-spotOf (Refused reason item) len = record { start = len; end = len }
+spotOf (NotUnits reason item) len = record { start = len; end = len }
 spotOf Nowhere len = record { start = len; end = len }
 spotOf (At unit end) len = record { start = unit; end = end }
 spotOf (Many k) len = record { start = len; end = len }

@@ -19,7 +19,7 @@ use Rattle.units.specs.Split.{scanOf}
 use Rattle.scte20.specs.Value.{Content, none, stored}
 use Rattle.scte20.specs.Reading.{contentVerdict, valueOf}
 use Rattle.picture.specs.declared.Answer.{Answer}
-use Rattle.picture.specs.Value.{Area, bare, captioned}
+use Rattle.picture.specs.Value.{Area, uncaptioned, captioned}
 
 -- an item of a body, in the area whose unit at `unit` has that body: the bit is counted from the area's first
 abbrev pub placedItem : ℕ → Item → Item
@@ -38,7 +38,7 @@ abbrev pub captionsIn : List ℕ → Found
 captionsIn s = scanOf (ours Scte20) s
 
 abbrev pub foundVerdict : Found → List ℕ → Verdict
-foundVerdict (found.Refused reason item) s = Refused reason item
+foundVerdict (found.NotUnits reason item) s = Refused reason item
 foundVerdict found.Nowhere s = Accepted
 foundVerdict (found.At unit end) s = placed unit (contentVerdict (part (unit + 4) end s))
 foundVerdict (found.Many k) s = Refused SecondUnit Whole
@@ -48,7 +48,7 @@ areaVerdict s = foundVerdict (captionsIn s) s
 
 -- the caption unit's value, where there is one
 abbrev pub foundContent : Found → List ℕ → List Content
-foundContent (found.Refused reason item) s = []
+foundContent (found.NotUnits reason item) s = []
 foundContent found.Nowhere s = []
 foundContent (found.At unit end) s = valueOf (part (unit + 4) end s) ∷ []
 foundContent (found.Many k) s = []
@@ -64,7 +64,7 @@ readOf s = answerOf (areaVerdict s) (foundContent (captionsIn s) s)
 
 -- the answer that shows a value
 abbrev pub shown : Area → Answer
-shown (bare foreign) = answerOf Accepted []
+shown (uncaptioned foreign) = answerOf Accepted []
 shown (captioned before c after) = answerOf Accepted (c ∷ [])
 
 -- the promise of `read`. By its type its input is a list of bytes; the code shows that too, so that the theorems assume nothing

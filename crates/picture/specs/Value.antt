@@ -15,12 +15,12 @@ use Rattle.scte20.specs.Layout as content
 
 -- the bodies of foreign units alone; or those before a caption unit, its value, and those after it
 pub data Area : Type 0 where
-  bare : List (List ℕ) → Area
+  uncaptioned : List (List ℕ) → Area
   captioned : List (List ℕ) → scte20.Content → List (List ℕ) → Area
 
 -- the bodies of all units, in order
 abbrev pub bodies : Area → List (List ℕ)
-bodies (bare foreign) = foreign
+bodies (uncaptioned foreign) = foreign
 bodies (captioned before c after) = before ++ (content.layout c ∷ after)
 
 abbrev pub layout : Area → List ℕ
@@ -32,21 +32,21 @@ pub record Foreign (body : List ℕ) : Type 0 where
   pub clean : units.Clean body
   pub other : ours Scte20 body ≡ false
 
-abbrev pub LegalUnits : Area → Type 0
-LegalUnits (bare foreign) = Each Foreign foreign
-LegalUnits (captioned before c after) = Each Foreign before × scte20.Legal c × Each Foreign after
+abbrev pub LegalBodies : Area → Type 0
+LegalBodies (uncaptioned foreign) = Each Foreign foreign
+LegalBodies (captioned before c after) = Each Foreign before × scte20.Legal c × Each Foreign after
 
 -- 0 to 16,384 bytes
 pub record Legal (v : Area) : Type 0 where
-  pub units : LegalUnits v
+  pub units : LegalBodies v
   pub short : length (layout v) ≤ 16384
 
 -- the area with another caption unit: in the place of the one that stands there, or behind all units where none does
 abbrev pub replaced : Area → scte20.Content → Area
-replaced (bare foreign) c = captioned foreign c []
+replaced (uncaptioned foreign) c = captioned foreign c []
 replaced (captioned before old after) c = captioned before c after
 
 -- the bodies of the foreign units, in order
 abbrev pub foreignOf : Area → List (List ℕ)
-foreignOf (bare foreign) = foreign
+foreignOf (uncaptioned foreign) = foreign
 foreignOf (captioned before c after) = before ++ after

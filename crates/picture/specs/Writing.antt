@@ -9,7 +9,7 @@ use Rattle.refusal.specs.declared.Written.{Written}
 use Rattle.refusal.specs.Checks.{andThen}
 use Rattle.refusal.specs.Answers.{Wrote}
 use Rattle.units.specs.declared.Found.{Found}
-use Rattle.units.specs.declared.Found.the-variants.{Refused, Nowhere, At, Many}
+use Rattle.units.specs.declared.Found.the-variants.{NotUnits, Nowhere, At, Many}
 use Rattle.units.specs.Layout.{layoutUnit}
 use Rattle.scte20.specs.declared.CaptionUnit.{CaptionUnit}
 use Rattle.scte20.specs.Value.{Content, held, Typed}
@@ -32,7 +32,7 @@ exchanged s start end new = take start s ++ (new ++ drop end s)
 
 -- the caption unit with its stuffing gives way to the new one. Where there is none, the new unit is put after the last byte
 abbrev pub replacedIn : Found → List ℕ → List ℕ → List ℕ
-replacedIn (Refused reason item) s new = s
+replacedIn (NotUnits reason item) s new = s
 replacedIn Nowhere s new = s ++ new
 replacedIn (At unit end) s new = exchanged s unit end new
 replacedIn (Many k) s new = s

@@ -70,7 +70,7 @@ fn spot_of(found: Found, len: usize) -> Spot
     match found {
         Found::At { unit, end } => Spot { start: unit, end },
         Found::Nowhere => behind,
-        Found::Refused(_, _) => behind,
+        Found::NotUnits(_, _) => behind,
         Found::Many(_) => behind,
     }
 }
@@ -81,7 +81,7 @@ fn head_of(s: &[u8], found: Found, records: &mut [u8; LENT_RECORDS]) -> Head
     ensures { λ r. ⌜ ReadsInto (now (s .entry)) (now (records .entry)) r (now (records .exit)) ⌝ }
 {
     match found {
-        Found::Refused(reason, item) => nothing(Verdict::Refused(reason, item)),
+        Found::NotUnits(reason, item) => nothing(Verdict::Refused(reason, item)),
         Found::Nowhere => {
             *records = [0; LENT_RECORDS];
             nothing(Verdict::Accepted)

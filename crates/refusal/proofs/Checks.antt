@@ -20,37 +20,37 @@ use Rattle.refusal.specs.Checks.{refuseIf, andThen, first, fitVerdict}
 pub refused-not-accepted : {P : Type 0} (reason : Reason) (item : Item) → Refused reason item ≡ Accepted → P
 refused-not-accepted reason item e = let z : _≡_ {A = ℕ} 0 1 = cc in let f : ⊥ = omega arith in absurd f
 
-pub refuseIf-accepted : (fault : Bool) (reason : Reason) (item : Item) → refuseIf fault reason item ≡ Accepted → fault ≡ false
-refuseIf-accepted true reason item e = refused-not-accepted reason item e
-refuseIf-accepted false reason item e = refl
+pub accepted-refuseIf : (fault : Bool) (reason : Reason) (item : Item) → refuseIf fault reason item ≡ Accepted → fault ≡ false
+accepted-refuseIf true reason item e = refused-not-accepted reason item e
+accepted-refuseIf false reason item e = refl
 
 -- a check that two numbers are equal, and one that a number is not above its limit
-pub equal-accepted : (a b : ℕ) (reason : Reason) (item : Item) → refuseIf (not (eqb a b)) reason item ≡ Accepted → a ≡ b
-equal-accepted a b reason item e = eqb-true a b (not-false (eqb a b) (refuseIf-accepted (not (eqb a b)) reason item e))
+pub accepted-equal : (a b : ℕ) (reason : Reason) (item : Item) → refuseIf (not (eqb a b)) reason item ≡ Accepted → a ≡ b
+accepted-equal a b reason item e = eqb-true a b (not-false (eqb a b) (accepted-refuseIf (not (eqb a b)) reason item e))
 
-pub within-accepted : (limit n : ℕ) (reason : Reason) (item : Item) → refuseIf (ltb limit n) reason item ≡ Accepted → n ≤ limit
-within-accepted limit n reason item e = ltb-false limit n (refuseIf-accepted (ltb limit n) reason item e)
+pub accepted-within : (limit n : ℕ) (reason : Reason) (item : Item) → refuseIf (ltb limit n) reason item ≡ Accepted → n ≤ limit
+accepted-within limit n reason item e = ltb-false limit n (accepted-refuseIf (ltb limit n) reason item e)
 
-pub accepted-refuseIf : (fault : Bool) (reason : Reason) (item : Item) → fault ≡ false → refuseIf fault reason item ≡ Accepted
-accepted-refuseIf fault reason item e = ap (λ (t : Bool). refuseIf t reason item) e
+pub refuseIf-accepted : (fault : Bool) (reason : Reason) (item : Item) → fault ≡ false → refuseIf fault reason item ≡ Accepted
+refuseIf-accepted fault reason item e = ap (λ (t : Bool). refuseIf t reason item) e
 
-pub andThen-accepted : (check next : Verdict) → andThen check next ≡ Accepted → (check ≡ Accepted) × (next ≡ Accepted)
-andThen-accepted Accepted next e = (refl, e)
-andThen-accepted (Refused reason item) next e = refused-not-accepted reason item e
+pub accepted-andThen : (check next : Verdict) → andThen check next ≡ Accepted → (check ≡ Accepted) × (next ≡ Accepted)
+accepted-andThen Accepted next e = (refl, e)
+accepted-andThen (Refused reason item) next e = refused-not-accepted reason item e
 
-pub accepted-andThen : (check next : Verdict) → check ≡ Accepted → next ≡ Accepted → andThen check next ≡ Accepted
-accepted-andThen check next e f = ap (λ (v : Verdict). andThen v next) e ∙ f
+pub andThen-accepted : (check next : Verdict) → check ≡ Accepted → next ≡ Accepted → andThen check next ≡ Accepted
+andThen-accepted check next e f = ap (λ (v : Verdict). andThen v next) e ∙ f
 
 -- one check of each element, in order, accepts where it accepts each
-pub each-accepted : {A : Type 0} (check : A → Verdict) (xs : List A) → first (map check xs) ≡ Accepted → Each (λ (x : A). check x ≡ Accepted) xs
-each-accepted check [] e = tt
-each-accepted check (x ∷ xs) e =
-    let both = andThen-accepted (check x) (first (map check xs)) e in
-    (both .0, each-accepted check xs (both .1))
+pub accepted-each : {A : Type 0} (check : A → Verdict) (xs : List A) → first (map check xs) ≡ Accepted → Each (λ (x : A). check x ≡ Accepted) xs
+accepted-each check [] e = tt
+accepted-each check (x ∷ xs) e =
+    let both = accepted-andThen (check x) (first (map check xs)) e in
+    (both .0, accepted-each check xs (both .1))
 
-pub accepted-each : {A : Type 0} (check : A → Verdict) (xs : List A) → Each (λ (x : A). check x ≡ Accepted) xs → first (map check xs) ≡ Accepted
-accepted-each check [] h = refl
-accepted-each check (x ∷ xs) h = accepted-andThen (check x) (first (map check xs)) (h .0) (accepted-each check xs (h .1))
+pub each-accepted : {A : Type 0} (check : A → Verdict) (xs : List A) → Each (λ (x : A). check x ≡ Accepted) xs → first (map check xs) ≡ Accepted
+each-accepted check [] h = refl
+each-accepted check (x ∷ xs) h = andThen-accepted (check x) (first (map check xs)) (h .0) (each-accepted check xs (h .1))
 
 -- nothing after it: the check decides
 pub andThen-last : (check : Verdict) → andThen check Accepted ≡ check
@@ -75,14 +75,14 @@ pub accepted-first : {answer check : Verdict} (next : Verdict) → answer ≡ ch
 accepted-first next e told = ap (λ (v : Verdict). andThen v next) (sym e ∙ told)
 
 -- the last checks of writing accept exactly the sizes within the limit and the room,
-pub fit-accepted : (limit size room : ℕ) → fitVerdict limit size room ≡ Accepted → (size ≤ limit) × (size ≤ room)
-fit-accepted limit size room e =
-    let one = andThen-accepted (refuseIf (ltb limit size) TooLong Whole) (first (refuseIf (ltb room size) NoRoom Whole ∷ [])) e in
-    let two = andThen-accepted (refuseIf (ltb room size) NoRoom Whole) Accepted (one .1) in
-    (within-accepted limit size TooLong Whole (one .0), within-accepted room size NoRoom Whole (two .0))
+pub accepted-fit : (limit size room : ℕ) → fitVerdict limit size room ≡ Accepted → (size ≤ limit) × (size ≤ room)
+accepted-fit limit size room e =
+    let one = accepted-andThen (refuseIf (ltb limit size) TooLong Whole) (first (refuseIf (ltb room size) NoRoom Whole ∷ [])) e in
+    let two = accepted-andThen (refuseIf (ltb room size) NoRoom Whole) Accepted (one .1) in
+    (accepted-within limit size TooLong Whole (one .0), accepted-within room size NoRoom Whole (two .0))
 
-pub accepted-fit : (limit size room : ℕ) → size ≤ limit → size ≤ room → fitVerdict limit size room ≡ Accepted
-accepted-fit limit size room short fits = rw (le-ltb limit size short, le-ltb room size fits)
+pub fit-accepted : (limit size room : ℕ) → size ≤ limit → size ≤ room → fitVerdict limit size room ≡ Accepted
+fit-accepted limit size room short fits = rw (le-ltb limit size short, le-ltb room size fits)
 
 -- refuse a size above the limit whatever the room is,
 pub fit-long : (limit size room : ℕ) → limit < size → fitVerdict limit size room ≡ Refused TooLong Whole

@@ -14,9 +14,9 @@ use Rattle.refusal.specs.Answers.{countedOf, leftOf, Wrote}
 use Rattle.refusal.proofs.Acceptance.{told-accepted}
 use Rattle.refusal.proofs.Checks.{refused-not-accepted}
 
-told : (verdict : Verdict) (laid : List ℕ) → countedOf verdict laid .refusal ≡ refusalOf verdict
-told Accepted laid = refl
-told (Refused reason item) laid = refl
+counted-refusal : (verdict : Verdict) (laid : List ℕ) → countedOf verdict laid .refusal ≡ refusalOf verdict
+counted-refusal Accepted laid = refl
+counted-refusal (Refused reason item) laid = refl
 
 refused-left : (verdict : Verdict) (laid out : List ℕ) → (countedOf verdict laid .refusal .number ≡ 0 → ⊥) → (countedOf verdict laid .len ≡ 0) × (leftOf verdict laid out ≡ out)
 refused-left Accepted laid out h = absurd (h refl)
@@ -34,7 +34,7 @@ wrote-laid (Refused reason item) laid out e = refused-not-accepted reason item (
 module _ (verdict : Verdict) (laid out : List ℕ) (answer : Written) (exit : List ℕ) (wrote : Wrote verdict laid out answer exit) where
   -- the refusal told is the verdict's
   pub wrote-refusal : answer .refusal ≡ refusalOf verdict
-  wrote-refusal = ap (λ (w : Written). w .refusal) (wrote .counted) ∙ told verdict laid
+  wrote-refusal = ap (λ (w : Written). w .refusal) (wrote .counted) ∙ counted-refusal verdict laid
 
   number : answer .refusal .number ≡ refusalOf verdict .number
   number = ap (λ (r : Refusal). r .number) wrote-refusal

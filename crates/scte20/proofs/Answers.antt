@@ -12,7 +12,7 @@ use Rattle.refusal.specs.declared.Verdict.{Verdict}
 use Rattle.refusal.specs.declared.Verdict.the-variants.{Accepted, Refused}
 use Rattle.refusal.specs.Checks.{andThen, first}
 use Rattle.refusal.specs.Answers.{lentOf}
-use Rattle.refusal.proofs.Checks.{andThen-accepted, andThen-last}
+use Rattle.refusal.proofs.Checks.{accepted-andThen, andThen-last}
 use Rattle.bits.specs.Bits.{bitsOf}
 use Rattle.bits.proofs.Stream.{length-bitsOf}
 use Rattle.scte20.specs.declared.CaptionUnit.{CaptionUnit}
@@ -21,8 +21,8 @@ use Rattle.scte20.specs.declared.Head.{Head}
 use Rattle.scte20.specs.Value.{Content, blank, none, stored}
 use Rattle.scte20.specs.Reading.{missing, headVerdict, flagIn, countIn, flagVerdict, restVerdict, constructsVerdict, recordsAt, sampledVerdict, contentVerdict, valueOf, answerOf, readOf}
 use Rattle.scte20.specs.Lent.{recordsBytes, unitIn, numbersOf, headOf, ReadsInto}
-use Rattle.scte20.proofs.Constructs.{missing-accepted}
-use Rattle.scte20.proofs.Contents.{head-accepted, value-legal}
+use Rattle.scte20.proofs.Constructs.{accepted-missing}
+use Rattle.scte20.proofs.Contents.{accepted-head, value-legal}
 use Rattle.scte20.proofs.Bytewise.{reserved-in}
 use Rattle.scte20.proofs.Lending.{lent-unit}
 
@@ -84,10 +84,10 @@ module _ (body : List ℕ) (bytes : Bytes body) where
 -- what an accepted check has shown of the length
 pub sampled-long : (at : ℕ) (s : List ℕ) → sampledVerdict at (bitsOf s) ≡ Accepted → at + 4 ≤ 8 * length s
 unfolding sampledVerdict
-sampled-long at s e = omega (arith, missing-accepted at 4 (bitsOf s) (andThen-accepted (missing at 4 (bitsOf s)) _ e .0), length-bitsOf s)
+sampled-long at s e = omega (arith, accepted-missing at 4 (bitsOf s) (accepted-andThen (missing at 4 (bitsOf s)) _ e .0), length-bitsOf s)
 
 pub head-long : (body : List ℕ) → headVerdict body ≡ Accepted → 2 ≤ length body
-head-long body e = omega (arith, head-accepted body e .complete, length-bitsOf body)
+head-long body e = omega (arith, accepted-head body e .complete, length-bitsOf body)
 
 -- the head refuses
 pub head-refused : (body : List ℕ) (reason : Reason) (item : Item) → headVerdict body ≡ Refused reason item → contentVerdict body ≡ headVerdict body

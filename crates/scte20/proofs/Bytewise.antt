@@ -17,7 +17,7 @@ use Rattle.bits.specs.Bits.{bitsOf, field}
 use Rattle.bits.proofs.Stream.{length-bitsOf}
 use Rattle.bits.proofs.Fields.{field-byte}
 use Rattle.scte20.specs.Reading.{missing, flagIn, countIn}
-use Rattle.scte20.proofs.Constructs.{accepted-missing}
+use Rattle.scte20.proofs.Constructs.{missing-accepted}
 
 -- 5, by how many bytes there are
 module _ (s : List ℕ) (at w : ℕ) where
@@ -28,7 +28,7 @@ module _ (s : List ℕ) (at w : ℕ) where
       ap (λ (t : Bool). refuseIf t Ends (Bit at)) (lt-ltb (length (bitsOf s)) (at + w) short)
 
   pub missing-none : at + w ≤ 8 * length s → missing at w (bitsOf s) ≡ Accepted
-  missing-none h = accepted-missing at w (bitsOf s) (omega (arith, length-bitsOf s))
+  missing-none h = missing-accepted at w (bitsOf s) (omega (arith, length-bitsOf s))
 
 -- reserved, the flag and cc_count
 module _ (s : List ℕ) (h : Bytes s) where

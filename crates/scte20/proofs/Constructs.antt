@@ -16,7 +16,7 @@ use Rattle.refusal.specs.declared.Reason.the-variants.{Ends, Unfixed}
 use Rattle.refusal.specs.declared.Fixed.the-variants.{Marker}
 use Rattle.refusal.specs.declared.Item.the-variants.{Bit}
 use Rattle.refusal.specs.Checks.{first}
-use Rattle.refusal.proofs.Checks.{andThen-accepted, accepted-andThen, accepted-refuseIf, equal-accepted, within-accepted}
+use Rattle.refusal.proofs.Checks.{accepted-andThen, andThen-accepted, refuseIf-accepted, accepted-equal, accepted-within}
 use Rattle.bits.specs.Bits.{bits, num, field, reversed, AreBits}
 use Rattle.bits.proofs.Numbers.{num-bits-small}
 use Rattle.bits.proofs.Fields.{field-lt, field-bits}
@@ -41,13 +41,13 @@ length-records zero at xs = refl
 length-records (suc k) at xs = ap suc (length-records k (at + 26) xs)
 
 -- enough bits are left
-pub missing-accepted : (at w : ℕ) (xs : List ℕ) → missing at w xs ≡ Accepted → at + w ≤ length xs
+pub accepted-missing : (at w : ℕ) (xs : List ℕ) → missing at w xs ≡ Accepted → at + w ≤ length xs
 unfolding missing
-missing-accepted at w xs e = within-accepted (length xs) (at + w) Ends (Bit at) e
+accepted-missing at w xs e = accepted-within (length xs) (at + w) Ends (Bit at) e
 
-pub accepted-missing : (at w : ℕ) (xs : List ℕ) → at + w ≤ length xs → missing at w xs ≡ Accepted
+pub missing-accepted : (at w : ℕ) (xs : List ℕ) → at + w ≤ length xs → missing at w xs ≡ Accepted
 unfolding missing
-accepted-missing at w xs h = accepted-refuseIf (ltb (length xs) (at + w)) Ends (Bit at) (le-ltb (length xs) (at + w) h)
+missing-accepted at w xs h = refuseIf-accepted (ltb (length xs) (at + w)) Ends (Bit at) (le-ltb (length xs) (at + w) h)
 
 -- ---- what reading accepts
 
@@ -109,7 +109,7 @@ construct-again at xs h fits marked =
 
 marked : (at : ℕ) (xs : List ℕ) → markerVerdict at xs ≡ Accepted → field xs (at + 25) 1 ≡ 1
 unfolding markerVerdict
-marked at xs e = equal-accepted (field xs (at + 25) 1) 1 (Unfixed Marker) (Bit (at + 25)) e
+marked at xs e = accepted-equal (field xs (at + 25) 1) 1 (Unfixed Marker) (Bit (at + 25)) e
 
 -- the four checks of one construct and those behind it
 pub record Step (before : List Record) (k at : ℕ) (xs : List ℕ) : Type 0 where
@@ -118,28 +118,28 @@ pub record Step (before : List Record) (k at : ℕ) (xs : List ℕ) : Type 0 whe
   pub marked : field xs (at + 25) 1 ≡ 1
   pub behind : constructsVerdict (constructAt at xs ∷ before) k (at + 26) xs ≡ Accepted
 
-pub step-accepted : (before : List Record) (k at : ℕ) (xs : List ℕ) → constructsVerdict before (suc k) at xs ≡ Accepted → Step before k at xs
-step-accepted before k at xs e =
+pub accepted-step : (before : List Record) (k at : ℕ) (xs : List ℕ) → constructsVerdict before (suc k) at xs ≡ Accepted → Step before k at xs
+accepted-step before k at xs e =
     let here = constructAt at xs in
     let behind = constructsVerdict (here ∷ before) k (at + 26) xs in
-    let one = andThen-accepted (missing at 26 xs) (first (recordVerdict at before here ∷ markerVerdict at xs ∷ behind ∷ [])) e in
-    let two = andThen-accepted (recordVerdict at before here) (first (markerVerdict at xs ∷ behind ∷ [])) (one .1) in
-    let three = andThen-accepted (markerVerdict at xs) (first (behind ∷ [])) (two .1) in
-    let four = andThen-accepted behind Accepted (three .1) in
-    record { complete = missing-accepted at 26 xs (one .0); fits = record-fits at before here (two .0); marked = marked at xs (three .0); behind = four .0 }
+    let one = accepted-andThen (missing at 26 xs) (first (recordVerdict at before here ∷ markerVerdict at xs ∷ behind ∷ [])) e in
+    let two = accepted-andThen (recordVerdict at before here) (first (markerVerdict at xs ∷ behind ∷ [])) (one .1) in
+    let three = accepted-andThen (markerVerdict at xs) (first (behind ∷ [])) (two .1) in
+    let four = accepted-andThen behind Accepted (three .1) in
+    record { complete = accepted-missing at 26 xs (one .0); fits = record-fits at before here (two .0); marked = marked at xs (three .0); behind = four .0 }
 
 -- constructs that are accepted lie within the bits,
 pub constructs-within : (before : List Record) (k at : ℕ) (xs : List ℕ) → at ≤ length xs → constructsVerdict before k at xs ≡ Accepted → at + 26 * k ≤ length xs
 constructs-within before zero at xs h e = omega arith
 constructs-within before (suc k) at xs h e =
-    let s = step-accepted before k at xs e in
+    let s = accepted-step before k at xs e in
     omega (arith, constructs-within (constructAt at xs ∷ before) k (at + 26) xs (s .complete) (s .behind))
 
 -- fit, one behind the other,
 pub constructs-fit : (before : List Record) (k at : ℕ) (xs : List ℕ) → constructsVerdict before k at xs ≡ Accepted → AllFit before (recordsAt k at xs)
 constructs-fit before zero at xs e = tt
 constructs-fit before (suc k) at xs e =
-    let s = step-accepted before k at xs e in
+    let s = accepted-step before k at xs e in
     (s .fits, constructs-fit (constructAt at xs ∷ before) k (at + 26) xs (s .behind))
 
 -- and are laid out again as they stand
@@ -147,7 +147,7 @@ pub constructs-again : (before : List Record) (k at : ℕ) (xs : List ℕ) → A
     → constructsBits (recordsAt k at xs) ≡ take (26 * k) (drop at xs)
 constructs-again before zero at xs h e = refl
 constructs-again before (suc k) at xs h e =
-    let s = step-accepted before k at xs e in
+    let s = accepted-step before k at xs e in
     ap₂ (λ (u v : List ℕ). u ++ v) (construct-again at xs h (s .complete) (s .marked)) (constructs-again (constructAt at xs ∷ before) k (at + 26) xs h (s .behind))
     ∙ take-join xs at 26 (at + 26) (26 * k) (26 * suc k) refl (omega arith)
 
@@ -163,11 +163,11 @@ unfolding constructAt
 construct-back r at xs rest h e =
     let all = constructBits r ++ rest in
     let priority : field xs at 2 ≡ r .«cc_priority» = ap (λ (l : List ℕ). num (take 2 l)) e ∙ num-bits-small 2 (r .«cc_priority») (h .priority) in
-    let shown : field xs (at + 2) 2 ≡ fieldOf r = field-on xs all at 2 2 e ∙ num-bits-small 2 (fieldOf r) (omega (arith, h .field)) in
+    let allowed : field xs (at + 2) 2 ≡ fieldOf r = field-on xs all at 2 2 e ∙ num-bits-small 2 (fieldOf r) (omega (arith, h .field)) in
     let line : field xs (at + 4) 5 ≡ r .«line_offset» = field-on xs all at 4 5 e ∙ num-bits-small 5 (r .«line_offset») (h .line) in
     let one : reversed (field xs (at + 9) 8) ≡ r .«cc_data_1» = ap reversed (field-on xs all at 9 8 e) ∙ turned (r .«cc_data_1») (h .bytes .data-1) in
     let two : reversed (field xs (at + 17) 8) ≡ r .«cc_data_2» = ap reversed (field-on xs all at 17 8 e) ∙ turned (r .«cc_data_2») (h .bytes .data-2) in
-    λ i. record { «cc_priority» = priority i; «field_number» = record { 0 = shown i }; «line_offset» = line i; «cc_data_1» = one i; «cc_data_2» = two i }
+    λ i. record { «cc_priority» = priority i; «field_number» = record { 0 = allowed i }; «line_offset» = line i; «cc_data_1» = one i; «cc_data_2» = two i }
   where
     turned : (b : ℕ) → b < 256 → reversed (num (bits 8 (reversed b))) ≡ b
     turned b small = ap reversed (num-bits-small 8 (reversed b) (reversed-lt b small)) ∙ reversed-reversed b small
@@ -181,34 +181,34 @@ accepted-marker : (r : Record) (at : ℕ) (xs rest : List ℕ) → drop at xs �
 unfolding markerVerdict
 accepted-marker r at xs rest e =
     let one : field xs (at + 25) 1 ≡ 1 = field-on xs (constructBits r ++ rest) at 25 1 e in
-    accepted-refuseIf (not (eqb (field xs (at + 25) 1) 1)) (Unfixed Marker) (Bit (at + 25)) (ap not (eq-eqb (field xs (at + 25) 1) 1 one))
+    refuseIf-accepted (not (eqb (field xs (at + 25) 1) 1)) (Unfixed Marker) (Bit (at + 25)) (ap not (eq-eqb (field xs (at + 25) 1) 1 one))
 
 -- what stands behind it
 behind-construct : (r : Record) (at : ℕ) (xs rest : List ℕ) → drop at xs ≡ constructBits r ++ rest → drop (at + 26) xs ≡ rest
 behind-construct r at xs rest e = sym (drop-drop 26 at xs) ∙ ap (drop 26) e
 
 -- constructs of legal records that fit, standing from bit `at` on, are accepted
-pub accepted-constructs : (before rs : List Record) (at : ℕ) (xs post : List ℕ) → Each LegalRecord rs → AllFit before rs
+pub constructs-accepted : (before rs : List Record) (at : ℕ) (xs post : List ℕ) → Each LegalRecord rs → AllFit before rs
     → drop at xs ≡ constructsBits rs ++ post → constructsVerdict before (length rs) at xs ≡ Accepted
-accepted-constructs before [] at xs post h fit e = refl
-accepted-constructs before (r ∷ rs) at xs post h fit e =
+constructs-accepted before [] at xs post h fit e = refl
+constructs-accepted before (r ∷ rs) at xs post h fit e =
     let rest = constructsBits rs ++ post in
     let here = constructAt at xs in
     let back : here ≡ r = construct-back r at xs rest (h .0 .ranged) e in
-    let behind = accepted-constructs (r ∷ before) rs (at + 26) xs post (h .1) (fit .1) (behind-construct r at xs rest e) in
-    accepted-andThen
+    let behind = constructs-accepted (r ∷ before) rs (at + 26) xs post (h .1) (fit .1) (behind-construct r at xs rest e) in
+    andThen-accepted
     (missing at 26 xs)
     (first (recordVerdict at before here ∷ markerVerdict at xs ∷ constructsVerdict (here ∷ before) (length rs) (at + 26) xs ∷ []))
-    (accepted-missing at 26 xs (long-enough at xs (constructBits r) rest 25 refl e))
-    (accepted-andThen
+    (missing-accepted at 26 xs (long-enough at xs (constructBits r) rest 25 refl e))
+    (andThen-accepted
     (recordVerdict at before here)
     (first (markerVerdict at xs ∷ constructsVerdict (here ∷ before) (length rs) (at + 26) xs ∷ []))
     (ap (recordVerdict at before) back ∙ fits-record at before r (fit .0))
-    (accepted-andThen
+    (andThen-accepted
     (markerVerdict at xs)
     (first (constructsVerdict (here ∷ before) (length rs) (at + 26) xs ∷ []))
     (accepted-marker r at xs rest e)
-    (accepted-andThen
+    (andThen-accepted
     (constructsVerdict (here ∷ before) (length rs) (at + 26) xs)
     Accepted
     (ap (λ (q : Record). constructsVerdict (q ∷ before) (length rs) (at + 26) xs) back ∙ behind)

@@ -19,7 +19,7 @@ use Rattle.refusal.specs.declared.Fixed.{Fixed}
 use Rattle.refusal.specs.declared.Fixed.the-variants.{Alignment, Stuffing, Identifier}
 use Rattle.refusal.specs.declared.Item.the-variants.{Whole, Bit}
 use Rattle.refusal.specs.Checks.{refuseIf, first}
-use Rattle.refusal.proofs.Checks.{andThen-accepted, equal-accepted, within-accepted}
+use Rattle.refusal.proofs.Checks.{accepted-andThen, accepted-equal, accepted-within}
 use Rattle.bits.specs.Bits.{bits, bitsOf, field, AreBits}
 use Rattle.bits.proofs.Stream.{length-bitsOf, bitsOf-are, bitsOf-same}
 use Rattle.bits.proofs.Fields.{field-lt, field-bits}
@@ -27,8 +27,8 @@ use Rattle.scte20.specs.declared.Record.{Record}
 use Rattle.scte20.specs.Value.{LegalRecord, Legal, fieldOf, Ranged}
 use Rattle.scte20.specs.Layout.{constructsBits, flaggedBits, itemBits, padding, layout}
 use Rattle.scte20.specs.Reading.{missing, zeroVerdict, constructsVerdict, recordsAt, sampledVerdict, restVerdict, headVerdict, flagIn, countIn, flagVerdict, contentVerdict, recordsIn, valueOf}
-use Rattle.scte20.proofs.Fitting.{AllFit, fit-shown, fit-order, fit-four}
-use Rattle.scte20.proofs.Constructs.{missing-accepted, length-records, records-ranged, constructs-fit, constructs-again}
+use Rattle.scte20.proofs.Fitting.{AllFit, fit-allowed, fit-order, fit-four}
+use Rattle.scte20.proofs.Constructs.{accepted-missing, length-records, records-ranged, constructs-fit, constructs-again}
 use Rattle.scte20.proofs.Sizes.{bitsIn, length-items, padded, padded-size, layout-bytes, bitsOf-layout}
 
 -- ---- zero bits
@@ -36,31 +36,31 @@ use Rattle.scte20.proofs.Sizes.{bitsIn, length-items, padded, padded-si
 each-zero : (which : Fixed) (at : ℕ) (bs : List ℕ) → zeroVerdict which at bs ≡ Accepted → Each (λ (b : ℕ). b ≡ 0) bs
 each-zero which at [] e = tt
 each-zero which at (b ∷ bs) e =
-    let both = andThen-accepted (refuseIf (not (eqb b 0)) (Unfixed which) (Bit at)) (zeroVerdict which (suc at) bs) e in
-    (equal-accepted b 0 (Unfixed which) (Bit at) (both .0), each-zero which (suc at) bs (both .1))
+    let both = accepted-andThen (refuseIf (not (eqb b 0)) (Unfixed which) (Bit at)) (zeroVerdict which (suc at) bs) e in
+    (accepted-equal b 0 (Unfixed which) (Bit at) (both .0), each-zero which (suc at) bs (both .1))
 
-pub zero-accepted : (which : Fixed) (at : ℕ) (bs : List ℕ) → zeroVerdict which at bs ≡ Accepted → bs ≡ replicate (length bs) 0
-zero-accepted which at bs e = each-same 0 bs (each-zero which at bs e)
+pub accepted-zero : (which : Fixed) (at : ℕ) (bs : List ℕ) → zeroVerdict which at bs ≡ Accepted → bs ≡ replicate (length bs) 0
+accepted-zero which at bs e = each-same 0 bs (each-zero which at bs e)
 
-pub accepted-zero : (which : Fixed) (at n : ℕ) → zeroVerdict which at (replicate n 0) ≡ Accepted
-accepted-zero which at zero = refl
-accepted-zero which at (suc n) = accepted-zero which (suc at) n
+pub zero-accepted : (which : Fixed) (at n : ℕ) → zeroVerdict which at (replicate n 0) ≡ Accepted
+zero-accepted which at zero = refl
+zero-accepted which at (suc n) = zero-accepted which (suc at) n
 
 -- what stands behind the items, which end before bit `at`: zeros
-pub rest-accepted : (at : ℕ) (xs : List ℕ) → restVerdict at xs ≡ Accepted → at + padding at ≤ length xs
+pub accepted-rest : (at : ℕ) (xs : List ℕ) → restVerdict at xs ≡ Accepted → at + padding at ≤ length xs
     → drop at xs ≡ replicate (padding at) 0 ++ replicate (length xs - (at + padding at)) 0
 unfolding restVerdict
-rest-accepted at xs e fits =
+accepted-rest at xs e fits =
     let p = padding at in
     let aligned = take p (drop at xs) in
     let stuffed = drop (at + p) xs in
-    let one = andThen-accepted (zeroVerdict Alignment at aligned) (first (zeroVerdict Stuffing (at + p) stuffed ∷ [])) e in
-    let two = andThen-accepted (zeroVerdict Stuffing (at + p) stuffed) Accepted (one .1) in
+    let one = accepted-andThen (zeroVerdict Alignment at aligned) (first (zeroVerdict Stuffing (at + p) stuffed ∷ [])) e in
+    let two = accepted-andThen (zeroVerdict Stuffing (at + p) stuffed) Accepted (one .1) in
     let long : length aligned ≡ p = length-take-le p (drop at xs) (omega (arith, length-drop at xs)) in
     sym (take-append-drop p (drop at xs))
     ∙ ap₂ (λ (u v : List ℕ). u ++ v)
-    (zero-accepted Alignment at aligned (one .0) ∙ ap (λ (k : ℕ). replicate k 0) long)
-    (drop-drop p at xs ∙ zero-accepted Stuffing (at + p) stuffed (two .0) ∙ ap (λ (k : ℕ). replicate k 0) (length-drop (at + p) xs))
+    (accepted-zero Alignment at aligned (one .0) ∙ ap (λ (k : ℕ). replicate k 0) long)
+    (drop-drop p at xs ∙ accepted-zero Stuffing (at + p) stuffed (two .0) ∙ ap (λ (k : ℕ). replicate k 0) (length-drop (at + p) xs))
 
 -- ---- what stands before the flag's decision
 
@@ -69,20 +69,20 @@ pub record Head (body : List ℕ) : Type 0 where
   pub identified : field (bitsOf body) 0 8 ≡ 3
   pub complete : 16 ≤ length (bitsOf body)
 
-pub head-accepted : (body : List ℕ) → headVerdict body ≡ Accepted → Head body
+pub accepted-head : (body : List ℕ) → headVerdict body ≡ Accepted → Head body
 unfolding headVerdict
-head-accepted body e =
+accepted-head body e =
     let xs = bitsOf body in
     let third = refuseIf (not (eqb (field xs 0 8) 3)) (Unfixed Identifier) (Bit 0) in
-    let one = andThen-accepted (refuseIf (ltb 16384 (length body)) TooLong Whole) (first (missing 0 8 xs ∷ third ∷ missing 8 7 xs ∷ missing 15 1 xs ∷ [])) e in
-    let two = andThen-accepted (missing 0 8 xs) (first (third ∷ missing 8 7 xs ∷ missing 15 1 xs ∷ [])) (one .1) in
-    let three = andThen-accepted third (first (missing 8 7 xs ∷ missing 15 1 xs ∷ [])) (two .1) in
-    let four = andThen-accepted (missing 8 7 xs) (first (missing 15 1 xs ∷ [])) (three .1) in
-    let five = andThen-accepted (missing 15 1 xs) Accepted (four .1) in
+    let one = accepted-andThen (refuseIf (ltb 16384 (length body)) TooLong Whole) (first (missing 0 8 xs ∷ third ∷ missing 8 7 xs ∷ missing 15 1 xs ∷ [])) e in
+    let two = accepted-andThen (missing 0 8 xs) (first (third ∷ missing 8 7 xs ∷ missing 15 1 xs ∷ [])) (one .1) in
+    let three = accepted-andThen third (first (missing 8 7 xs ∷ missing 15 1 xs ∷ [])) (two .1) in
+    let four = accepted-andThen (missing 8 7 xs) (first (missing 15 1 xs ∷ [])) (three .1) in
+    let five = accepted-andThen (missing 15 1 xs) Accepted (four .1) in
     record {
-      short = within-accepted 16384 (length body) TooLong Whole (one .0);
-      identified = equal-accepted (field xs 0 8) 3 (Unfixed Identifier) (Bit 0) (three .0);
-      complete = missing-accepted 15 1 xs (five .0);
+      short = accepted-within 16384 (length body) TooLong Whole (one .0);
+      identified = accepted-equal (field xs 0 8) 3 (Unfixed Identifier) (Bit 0) (three .0);
+      complete = accepted-missing 15 1 xs (five .0);
     }
 
 -- the three fields are laid out again as they stand
@@ -99,9 +99,9 @@ sampled-accepted : (at : ℕ) (xs : List ℕ) → sampledVerdict at xs ≡ Accep
 unfolding sampledVerdict
 sampled-accepted at xs e =
     let second = refuseIf (not (eqb (field xs at 4) 0)) SampledVideo (Bit at) in
-    let one = andThen-accepted (missing at 4 xs) (first (second ∷ [])) e in
-    let two = andThen-accepted second Accepted (one .1) in
-    (missing-accepted at 4 xs (one .0), equal-accepted (field xs at 4) 0 SampledVideo (Bit at) (two .0))
+    let one = accepted-andThen (missing at 4 xs) (first (second ∷ [])) e in
+    let two = accepted-andThen second Accepted (one .1) in
+    (accepted-missing at 4 xs (one .0), accepted-equal (field xs at 4) 0 SampledVideo (Bit at) (two .0))
 
 pub record Flagged (f : ℕ) (xs : List ℕ) : Type 0 where
   pub within : bitsIn f (countIn xs) ≤ length xs
@@ -109,16 +109,16 @@ pub record Flagged (f : ℕ) (xs : List ℕ) : Type 0 where
   pub rest : restVerdict (bitsIn f (countIn xs)) xs ≡ Accepted
   pub fit : AllFit [] (recordsIn f xs)
 
-pub flag-accepted : (f : ℕ) (xs : List ℕ) → AreBits xs → 16 ≤ length xs → flagVerdict f xs ≡ Accepted → Flagged f xs
-flag-accepted zero xs h fits e = record { within = fits; again = append-nil (take 16 xs); rest = e; fit = tt }
-flag-accepted (suc f) xs h fits e =
+pub accepted-flag : (f : ℕ) (xs : List ℕ) → AreBits xs → 16 ≤ length xs → flagVerdict f xs ≡ Accepted → Flagged f xs
+accepted-flag zero xs h fits e = record { within = fits; again = append-nil (take 16 xs); rest = e; fit = tt }
+accepted-flag (suc f) xs h fits e =
     let n = countIn xs in
     let run = constructsVerdict [] n 21 xs in
-    let one = andThen-accepted (missing 16 5 xs) (first (run ∷ sampledVerdict (21 + 26 * n) xs ∷ restVerdict (25 + 26 * n) xs ∷ [])) e in
-    let two = andThen-accepted run (first (sampledVerdict (21 + 26 * n) xs ∷ restVerdict (25 + 26 * n) xs ∷ [])) (one .1) in
-    let three = andThen-accepted (sampledVerdict (21 + 26 * n) xs) (first (restVerdict (25 + 26 * n) xs ∷ [])) (two .1) in
-    let four = andThen-accepted (restVerdict (25 + 26 * n) xs) Accepted (three .1) in
-    let counted : 21 ≤ length xs = missing-accepted 16 5 xs (one .0) in
+    let one = accepted-andThen (missing 16 5 xs) (first (run ∷ sampledVerdict (21 + 26 * n) xs ∷ restVerdict (25 + 26 * n) xs ∷ [])) e in
+    let two = accepted-andThen run (first (sampledVerdict (21 + 26 * n) xs ∷ restVerdict (25 + 26 * n) xs ∷ [])) (one .1) in
+    let three = accepted-andThen (sampledVerdict (21 + 26 * n) xs) (first (restVerdict (25 + 26 * n) xs ∷ [])) (two .1) in
+    let four = accepted-andThen (restVerdict (25 + 26 * n) xs) Accepted (three .1) in
+    let counted : 21 ≤ length xs = accepted-missing 16 5 xs (one .0) in
     let sampled = sampled-accepted (21 + 26 * n) xs (three .0) in
     let count : bits 5 (length (recordsAt n 21 xs)) ≡ take 5 (drop 16 xs) = ap (bits 5) (length-records n 21 xs) ∙ field-bits xs 16 5 h counted in
     let none : bits 4 0 ≡ take 4 (drop (21 + 26 * n) xs) = ap (bits 4) (sym (sampled .1)) ∙ field-bits xs (21 + 26 * n) 4 h (sampled .0) in
@@ -153,29 +153,29 @@ bare-in (suc f) xs e = let x : ⊥ = omega arith in absurd x
 
 -- ---- the body
 
-pub content-accepted : (body : List ℕ) → contentVerdict body ≡ Accepted → Head body × Flagged (flagIn (bitsOf body)) (bitsOf body)
+pub accepted-content : (body : List ℕ) → contentVerdict body ≡ Accepted → Head body × Flagged (flagIn (bitsOf body)) (bitsOf body)
 unfolding contentVerdict
-content-accepted body e =
+accepted-content body e =
     let xs = bitsOf body in
-    let both = andThen-accepted (headVerdict body) (flagVerdict (flagIn xs) xs) e in
-    let head = head-accepted body (both .0) in
-    (head, flag-accepted (flagIn xs) xs (bitsOf-are body) (head .complete) (both .1))
+    let both = accepted-andThen (headVerdict body) (flagVerdict (flagIn xs) xs) e in
+    let head = accepted-head body (both .0) in
+    (head, accepted-flag (flagIn xs) xs (bitsOf-are body) (head .complete) (both .1))
 
-shown-legal : (r : Record) → 1 ≤ fieldOf r → Ranged r → LegalRecord r
-shown-legal r s h = record { ranged = h; shown = s }
+allowed-legal : (r : Record) → 1 ≤ fieldOf r → Ranged r → LegalRecord r
+allowed-legal r s h = record { ranged = h; allowed = s }
 
 pub value-legal : (body : List ℕ) → Bytes body → contentVerdict body ≡ Accepted → Legal (valueOf body)
 unfolding valueOf
 value-legal body h e =
     let xs = bitsOf body in
     let are = bitsOf-are body in
-    let fit = content-accepted body e .1 .fit in
+    let fit = accepted-content body e .1 .fit in
     let rs = recordsIn (flagIn xs) xs in
     record {
       reserved = field-lt xs 8 7 are;
       flag = field-lt xs 15 1 are;
       few = few-in (flagIn xs) xs are;
-      each = each-both (λ (r : Record). 1 ≤ fieldOf r) Ranged LegalRecord shown-legal rs (fit-shown rs fit) (ranged-in (flagIn xs) xs are);
+      each = each-both (λ (r : Record). 1 ≤ fieldOf r) Ranged LegalRecord allowed-legal rs (fit-allowed rs fit) (ranged-in (flagIn xs) xs are);
       order = fit-order rs fit;
       four = fit-four rs fit;
       bare = bare-in (flagIn xs) xs;
@@ -186,7 +186,7 @@ items-again : (body : List ℕ) → contentVerdict body ≡ Accepted → itemBit
 unfolding valueOf
 items-again body e =
     let xs = bitsOf body in
-    let known = content-accepted body e in
+    let known = accepted-content body e in
     ap (λ (u : List ℕ). u ++ flaggedBits (flagIn xs) (recordsIn (flagIn xs) xs)) (head-again xs (bitsOf-are body) (known .0 .complete) (known .0 .identified))
     ∙ known .1 .again
 
@@ -206,12 +206,12 @@ bits-again body e =
     let xs = bitsOf body in
     let c = valueOf body in
     let n = bitsIn (flagIn xs) (countIn xs) in
-    let known = content-accepted body e .1 in
+    let known = accepted-content body e .1 in
     let fits : n + padding n ≤ length xs = omega (arith, known .within, length-bitsOf body, padded n) in
     bitsOf-layout c
     ∙ append-assoc (itemBits c) (replicate (padding (length (itemBits c))) 0) (replicate (8 * c .z) 0)
     ∙ ap₂ (λ (u v : List ℕ). u ++ v) (items-again body e)
-    (ap₂ (λ (k m : ℕ). replicate (padding k) 0 ++ replicate m 0) (items-long body) (stuffing-long body) ∙ sym (rest-accepted n xs (known .rest) fits))
+    (ap₂ (λ (k m : ℕ). replicate (padding k) 0 ++ replicate m 0) (items-long body) (stuffing-long body) ∙ sym (accepted-rest n xs (known .rest) fits))
     ∙ take-append-drop n xs
 
 pub value-layout : (body : List ℕ) → Bytes body → contentVerdict body ≡ Accepted → layout (valueOf body) ≡ body

@@ -11,15 +11,15 @@ use borrow.Author.Tests.{eqb-true, eqb-false, ltb-true, ltb-false, eq-eqb, ne-eq
 use Rattle.lists.specs.Each.{Each}
 use Rattle.refusal.specs.declared.Verdict.the-variants.{Accepted}
 use Rattle.scte20.specs.declared.Record.{Record}
-use Rattle.scte20.specs.Value.{fieldOf, one, urgent, Follows, InOrder}
-use Rattle.scte20.specs.Rules.{falls, stays, recordVerdict}
+use Rattle.scte20.specs.Value.{fieldOf, countIf, urgent, Follows, InOrder}
+use Rattle.scte20.specs.Rules.{falls, notRising, recordVerdict}
 use Rattle.scte20.proofs.Order.{record-checks}
 
 -- a record that fits behind these, the latest first: the checks find no fault
 pub record Fits (before : List Record) (r : Record) : Type 0 where
-  pub shown : 1 ≤ fieldOf r
+  pub allowed : 1 ≤ fieldOf r
   pub rises : falls before r ≡ false
-  pub moves : stays before r ≡ false
+  pub moves : notRising before r ≡ false
   pub four : (eqb (r .«cc_priority») 0 && ltb 3 (urgent (fieldOf r) before)) ≡ false
 
 -- each of the records fits behind those before it
@@ -31,22 +31,22 @@ pub record-fits : (at : ℕ) (before : List Record) (r : Record) → recordVerdi
 record-fits at before r e =
     let checks = record-checks at before r e in
     let nonzero : fieldOf r ≡ 0 → ⊥ = eqb-false (fieldOf r) 0 (checks .0) in
-    let shown : 1 ≤ fieldOf r = omega (arith, nonzero) in
-    record { shown = shown; rises = checks .1; moves = checks .2; four = checks .3 }
+    let allowed : 1 ≤ fieldOf r = omega (arith, nonzero) in
+    record { allowed = allowed; rises = checks .1; moves = checks .2; four = checks .3 }
 
 pub fits-record : (at : ℕ) (before : List Record) (r : Record) → Fits before r → recordVerdict at before r ≡ Accepted
 unfolding recordVerdict
 fits-record at before r h =
-    let shown : 1 ≤ fieldOf r = h .shown in
+    let allowed : 1 ≤ fieldOf r = h .allowed in
     let nonzero : fieldOf r ≡ 0 → ⊥ = λ e. omega arith in
     rw (ne-eqb (fieldOf r) 0 nonzero, h .rises, h .moves, h .four)
 
-shown-from : (before rs : List Record) → AllFit before rs → Each (λ (r : Record). 1 ≤ fieldOf r) rs
-shown-from before [] h = tt
-shown-from before (r ∷ rs) h = (h .0 .shown, shown-from (r ∷ before) rs (h .1))
+allowed-from : (before rs : List Record) → AllFit before rs → Each (λ (r : Record). 1 ≤ fieldOf r) rs
+allowed-from before [] h = tt
+allowed-from before (r ∷ rs) h = (h .0 .allowed, allowed-from (r ∷ before) rs (h .1))
 
-pub fit-shown : (rs : List Record) → AllFit [] rs → Each (λ (r : Record). 1 ≤ fieldOf r) rs
-fit-shown rs h = shown-from [] rs h
+pub fit-allowed : (rs : List Record) → AllFit [] rs → Each (λ (r : Record). 1 ≤ fieldOf r) rs
+fit-allowed rs h = allowed-from [] rs h
 
 -- a field that does not fall, and a line that rises where the field stays, are what `Follows` says
 follows-from : (f g l m : ℕ) (t u : Bool) → eqb f g ≡ t → ltb l m ≡ u → f ≤ g → (t && not u) ≡ false → (f < g) ⊎ (f ≡ g × l < m)
@@ -70,7 +70,7 @@ follows-line f g l m true e h =
     ap not (lt-ltb l m rises)
 follows-line f g l m false e h = refl
 
-follows-moves : (last : Record) (earlier : List Record) (r : Record) → Follows last r → stays (last ∷ earlier) r ≡ false
+follows-moves : (last : Record) (earlier : List Record) (r : Record) → Follows last r → notRising (last ∷ earlier) r ≡ false
 follows-moves last earlier r h = follows-line (fieldOf last) (fieldOf r) (last .«line_offset») (r .«line_offset») (eqb (fieldOf last) (fieldOf r)) refl h
 
 order-from : (before rs : List Record) → AllFit before rs → InOrder rs
@@ -83,7 +83,7 @@ fit-order rs h = order-from [] rs h
 
 -- one record more that fits makes no fifth of priority 0, in whichever field
 one-more : (f : ℕ) (before : List Record) (r : Record) (t u : Bool) → eqb (fieldOf r) f ≡ t → (u && ltb 3 (urgent (fieldOf r) before)) ≡ false → urgent f before ≤ 4
-    → one (t && u) + urgent f before ≤ 4
+    → countIf (t && u) + urgent f before ≤ 4
 one-more f before r true true e n h =
     let same : fieldOf r ≡ f = eqb-true (fieldOf r) f e in
     let few : urgent (fieldOf r) before ≤ 3 = ltb-false 3 (urgent (fieldOf r) before) n in
@@ -114,7 +114,7 @@ meets-rises : (before : List Record) (r : Record) (rs : List Record) → Meets b
 meets-rises [] r rs h = refl
 meets-rises (last ∷ earlier) r rs h = follows-rises last earlier r (h .0)
 
-meets-moves : (before : List Record) (r : Record) (rs : List Record) → Meets before (r ∷ rs) → stays before r ≡ false
+meets-moves : (before : List Record) (r : Record) (rs : List Record) → Meets before (r ∷ rs) → notRising before r ≡ false
 meets-moves [] r rs h = refl
 meets-moves (last ∷ earlier) r rs h = follows-moves last earlier r (h .0)
 
@@ -126,23 +126,23 @@ meets-next (last ∷ earlier) r rs h = h .1
 no-fifth : (before : List Record) (r : Record) (rs : List Record) (u : Bool) → eqb (r .«cc_priority») 0 ≡ u → urgent (fieldOf r) before + urgent (fieldOf r) (r ∷ rs) ≤ 4
     → (u && ltb 3 (urgent (fieldOf r) before)) ≡ false
 no-fifth before r rs true e h =
-    let counts : one (eqb (fieldOf r) (fieldOf r) && eqb (r .«cc_priority») 0) ≡ 1 = rw (eq-eqb (fieldOf r) (fieldOf r) refl, e) in
+    let counts : countIf (eqb (fieldOf r) (fieldOf r) && eqb (r .«cc_priority») 0) ≡ 1 = rw (eq-eqb (fieldOf r) (fieldOf r) refl, e) in
     let few : urgent (fieldOf r) before ≤ 3 = omega (arith, counts) in
     le-ltb 3 (urgent (fieldOf r) before) few
 no-fifth before r rs false e h = refl
 
 fit-from : (before rs : List Record) → Each (λ (r : Record). 1 ≤ fieldOf r) rs → Meets before rs → ((f : ℕ) → urgent f before + urgent f rs ≤ 4) → AllFit before rs
-fit-from before [] shown order four = tt
-fit-from before (r ∷ rs) shown order four = (
+fit-from before [] allowed order four = tt
+fit-from before (r ∷ rs) allowed order four = (
   record {
-    shown = shown .0;
+    allowed = allowed .0;
     rises = meets-rises before r rs order;
     moves = meets-moves before r rs order;
     four = no-fifth before r rs (eqb (r .«cc_priority») 0) refl (four (fieldOf r));
   },
-  fit-from (r ∷ before) rs (shown .1) (meets-next before r rs order)
+  fit-from (r ∷ before) rs (allowed .1) (meets-next before r rs order)
       (λ f. let h : urgent f before + urgent f (r ∷ rs) ≤ 4 = four f in omega arith),
 )
 
 pub legal-fit : (rs : List Record) → Each (λ (r : Record). 1 ≤ fieldOf r) rs → InOrder rs → ((f : ℕ) → urgent f rs ≤ 4) → AllFit [] rs
-legal-fit rs shown order four = fit-from [] rs shown order (λ f. let h : urgent f rs ≤ 4 = four f in omega arith)
+legal-fit rs allowed order four = fit-from [] rs allowed order (λ f. let h : urgent f rs ≤ 4 = four f in omega arith)

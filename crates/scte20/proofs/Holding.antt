@@ -9,7 +9,7 @@ use lib.ListN.{length}
 use lib.Seq.{length-take-le}
 use borrow.Author.Tests.{eqb-true, eq-eqb, ne-eqb, not-false, le-ltb}
 use Rattle.refusal.specs.declared.Verdict.the-variants.{Accepted}
-use Rattle.refusal.proofs.Checks.{andThen-accepted, refuseIf-accepted, within-accepted}
+use Rattle.refusal.proofs.Checks.{accepted-andThen, accepted-refuseIf, accepted-within}
 use Rattle.scte20.specs.declared.Record.{Record}
 use Rattle.scte20.specs.declared.CaptionUnit.{CaptionUnit}
 use Rattle.scte20.specs.Value.{fieldOf, held}
@@ -34,20 +34,20 @@ and-false-right a b e h = ap (λ (t : Bool). t && b) (sym h) ∙ e
 bare-accepted : (flag n : ℕ) → (eqb flag 0 && not (eqb n 0)) ≡ false → flag ≡ 0 → n ≡ 0
 bare-accepted flag n e h = eqb-true n 0 (not-false (eqb n 0) (and-false-right (eqb flag 0) (not (eqb n 0)) e (eq-eqb flag 0 h)))
 
-pub whole-accepted : (u : CaptionUnit) → wholeVerdict u ≡ Accepted → Whole u
+pub accepted-whole : (u : CaptionUnit) → wholeVerdict u ≡ Accepted → Whole u
 unfolding wholeVerdict
-whole-accepted u e =
-    let count = andThen-accepted _ _ e in
-    let reserved = andThen-accepted _ _ (count .1) in
-    let flag = andThen-accepted _ _ (reserved .1) in
-    let stuffing = andThen-accepted _ _ (flag .1) in
-    let bare = andThen-accepted _ _ (stuffing .1) in
+accepted-whole u e =
+    let count = accepted-andThen _ _ e in
+    let reserved = accepted-andThen _ _ (count .1) in
+    let flag = accepted-andThen _ _ (reserved .1) in
+    let stuffing = accepted-andThen _ _ (flag .1) in
+    let bare = accepted-andThen _ _ (stuffing .1) in
     record {
-      few = within-accepted 31 (u .n) _ _ (count .0);
-      reserved = within-accepted 127 (u .reserved) _ _ (reserved .0);
-      flag = within-accepted 1 (u .«vbi_data_flag») _ _ (flag .0);
-      stuffing = within-accepted 16384 (u .z) _ _ (stuffing .0);
-      bare = bare-accepted (u .«vbi_data_flag») (u .n) (refuseIf-accepted _ _ _ (bare .0));
+      few = accepted-within 31 (u .n) _ _ (count .0);
+      reserved = accepted-within 127 (u .reserved) _ _ (reserved .0);
+      flag = accepted-within 1 (u .«vbi_data_flag») _ _ (flag .0);
+      stuffing = accepted-within 16384 (u .z) _ _ (stuffing .0);
+      bare = bare-accepted (u .«vbi_data_flag») (u .n) (accepted-refuseIf _ _ _ (bare .0));
     }
 
 accepted-bare : (flag n : ℕ) → (flag ≡ 0 → n ≡ 0) → (eqb flag 0 && not (eqb n 0)) ≡ false
@@ -56,9 +56,9 @@ accepted-bare (suc flag) n h =
     let some : suc flag ≡ 0 → ⊥ = λ e. omega arith in
     ap (λ (t : Bool). t && not (eqb n 0)) (ne-eqb (suc flag) 0 some)
 
-pub accepted-whole : (u : CaptionUnit) → Whole u → wholeVerdict u ≡ Accepted
+pub whole-accepted : (u : CaptionUnit) → Whole u → wholeVerdict u ≡ Accepted
 unfolding wholeVerdict
-accepted-whole u w =
+whole-accepted u w =
     simp (
       le-ltb 31 (u .n) (w .few),
       le-ltb 127 (u .reserved) (w .reserved),
@@ -70,10 +70,10 @@ accepted-whole u w =
 pub accepted-range : (at : ℕ) (r : Record) → rangeVerdict at r ≡ Accepted → (r .«cc_priority» ≤ 3) × (fieldOf r ≤ 3) × (r .«line_offset» ≤ 31)
 unfolding rangeVerdict
 accepted-range at r e =
-    let priority = andThen-accepted _ _ e in
-    let field = andThen-accepted _ _ (priority .1) in
-    let line = andThen-accepted _ _ (field .1) in
-    (within-accepted 3 (r .«cc_priority») _ _ (priority .0), within-accepted 3 (fieldOf r) _ _ (field .0), within-accepted 31 (r .«line_offset») _ _ (line .0))
+    let priority = accepted-andThen _ _ e in
+    let field = accepted-andThen _ _ (priority .1) in
+    let line = accepted-andThen _ _ (field .1) in
+    (accepted-within 3 (r .«cc_priority») _ _ (priority .0), accepted-within 3 (fieldOf r) _ _ (field .0), accepted-within 31 (r .«line_offset») _ _ (line .0))
 
 pub range-accepted : (at : ℕ) (r : Record) → (r .«cc_priority» ≤ 3) × (fieldOf r ≤ 3) × (r .«line_offset» ≤ 31) → rangeVerdict at r ≡ Accepted
 unfolding rangeVerdict
@@ -81,7 +81,7 @@ range-accepted at r h = simp (le-ltb 3 (r .«cc_priority») (h .0), le-ltb 3 (fi
 
 pub value-whole : (u : CaptionUnit) → valueVerdict u ≡ Accepted → Whole u
 unfolding valueVerdict
-value-whole u e = whole-accepted u (andThen-accepted _ _ e .0)
+value-whole u e = accepted-whole u (accepted-andThen _ _ e .0)
 
 -- a struct whose array has its 31 places holds as many records as it says
 pub length-held : (u : CaptionUnit) → length (u .records) ≡ 31 → u .n ≤ 31 → length (held u .records) ≡ u .n

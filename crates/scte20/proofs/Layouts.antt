@@ -17,7 +17,7 @@ use Rattle.refusal.specs.declared.Reason.the-variants.{TooLong, Unfixed, Sample
 use Rattle.refusal.specs.declared.Fixed.the-variants.{Alignment, Stuffing, Identifier}
 use Rattle.refusal.specs.declared.Item.the-variants.{Whole, Bit}
 use Rattle.refusal.specs.Checks.{refuseIf, andThen, first}
-use Rattle.refusal.proofs.Checks.{accepted-andThen, accepted-refuseIf}
+use Rattle.refusal.proofs.Checks.{andThen-accepted, refuseIf-accepted}
 use Rattle.bits.specs.Bits.{bits, num, bitsOf, field}
 use Rattle.bits.proofs.Numbers.{num-bits-small}
 use Rattle.scte20.specs.declared.Record.{Record}
@@ -25,29 +25,29 @@ use Rattle.scte20.specs.Value.{Content, LegalRecord, Legal, fieldOf}
 use Rattle.scte20.specs.Layout.{constructsBits, flaggedBits, itemBits, padding, layout}
 use Rattle.scte20.specs.Reading.{missing, zeroVerdict, constructsVerdict, recordsAt, sampledVerdict, restVerdict, headVerdict, flagIn, countIn, flagVerdict, contentVerdict, recordsIn, sizeIn, valueOf}
 use Rattle.scte20.proofs.Fitting.{AllFit, legal-fit}
-use Rattle.scte20.proofs.Constructs.{length-constructs, accepted-missing, long-enough, accepted-constructs, records-back}
+use Rattle.scte20.proofs.Constructs.{length-constructs, missing-accepted, long-enough, constructs-accepted, records-back}
 use Rattle.scte20.proofs.Sizes.{bitsIn, length-items, bitsOf-layout, length-layout}
-use Rattle.scte20.proofs.Contents.{accepted-zero}
+use Rattle.scte20.proofs.Contents.{zero-accepted}
 
 -- the zeros behind n bits: the alignment, then stuffing
 abbrev pub zerosAt : ℕ → ℕ → List ℕ
 zerosAt n m = replicate (padding n) 0 ++ replicate m 0
 
-pub accepted-rest : (at m : ℕ) (xs : List ℕ) → drop at xs ≡ zerosAt at m → restVerdict at xs ≡ Accepted
+pub rest-accepted : (at m : ℕ) (xs : List ℕ) → drop at xs ≡ zerosAt at m → restVerdict at xs ≡ Accepted
 unfolding restVerdict
-accepted-rest at m xs e =
+rest-accepted at m xs e =
     let p = padding at in
     let long : length {A = ℕ} (replicate p 0) ≡ p = length-replicate p 0 in
     let aligned : take p (drop at xs) ≡ replicate p 0 = ap (take p) e ∙ take-at (replicate p 0) (replicate m 0) p long in
     let stuffed : drop (at + p) xs ≡ replicate m 0 = sym (drop-drop p at xs) ∙ ap (drop p) e ∙ drop-at (replicate p 0) (replicate m 0) p long in
-    accepted-andThen
+    andThen-accepted
     (zeroVerdict Alignment at (take p (drop at xs)))
     (first (zeroVerdict Stuffing (at + p) (drop (at + p) xs) ∷ []))
-    (ap (zeroVerdict Alignment at) aligned ∙ accepted-zero Alignment at p)
-    (accepted-andThen
+    (ap (zeroVerdict Alignment at) aligned ∙ zero-accepted Alignment at p)
+    (andThen-accepted
     (zeroVerdict Stuffing (at + p) (drop (at + p) xs))
     Accepted
-    (ap (zeroVerdict Stuffing (at + p)) stuffed ∙ accepted-zero Stuffing (at + p) m)
+    (ap (zeroVerdict Stuffing (at + p)) stuffed ∙ zero-accepted Stuffing (at + p) m)
     refl)
 
 accepted-sampled : (at : ℕ) (xs rest : List ℕ) → drop at xs ≡ bits 4 0 ++ rest → sampledVerdict at xs ≡ Accepted
@@ -55,14 +55,14 @@ unfolding sampledVerdict
 accepted-sampled at xs rest e =
     let second = refuseIf (not (eqb (field xs at 4) 0)) SampledVideo (Bit at) in
     let none : field xs at 4 ≡ 0 = ap (λ (l : List ℕ). num (take 4 l)) e in
-    accepted-andThen
+    andThen-accepted
     (missing at 4 xs)
     (first (second ∷ []))
-    (accepted-missing at 4 xs (long-enough at xs (bits 4 0) rest 3 refl e))
-    (accepted-andThen
+    (missing-accepted at 4 xs (long-enough at xs (bits 4 0) rest 3 refl e))
+    (andThen-accepted
     second
     Accepted
-    (accepted-refuseIf (not (eqb (field xs at 4) 0)) SampledVideo (Bit at) (ap not (eq-eqb (field xs at 4) 0 none)))
+    (refuseIf-accepted (not (eqb (field xs at 4) 0)) SampledVideo (Bit at) (ap not (eq-eqb (field xs at 4) 0 none)))
     refl)
 
 -- ---- behind a flag that is set: the count, the constructs, the sampled video count and zeros
@@ -92,16 +92,16 @@ module _ (f : ℕ) (rs : List Record) (xs : List ℕ) (m : ℕ) (few : length rs
   accepted-set : Each LegalRecord rs → AllFit [] rs → flagVerdict (suc f) xs ≡ Accepted
   accepted-set each fit =
       ap (λ (n : ℕ). andThen (missing 16 5 xs) (behind n)) count-back
-      ∙ accepted-andThen (missing 16 5 xs) (behind (length rs)) (accepted-missing 16 5 xs (long-enough 16 xs (bits 5 (length rs)) _ 4 refl stands))
-      (accepted-andThen
+      ∙ andThen-accepted (missing 16 5 xs) (behind (length rs)) (missing-accepted 16 5 xs (long-enough 16 xs (bits 5 (length rs)) _ 4 refl stands))
+      (andThen-accepted
       (constructsVerdict [] (length rs) 21 xs)
       (first (sampledVerdict (21 + 26 * length rs) xs ∷ restVerdict (25 + 26 * length rs) xs ∷ []))
-      (accepted-constructs [] rs 21 xs (afterRun rs m) each fit run-stands)
-      (accepted-andThen
+      (constructs-accepted [] rs 21 xs (afterRun rs m) each fit run-stands)
+      (andThen-accepted
       (sampledVerdict (21 + 26 * length rs) xs)
       (first (restVerdict (25 + 26 * length rs) xs ∷ []))
       (accepted-sampled (21 + 26 * length rs) xs (zerosAt (25 + 26 * length rs) m) sampled-stands)
-      (accepted-andThen (restVerdict (25 + 26 * length rs) xs) Accepted (accepted-rest (25 + 26 * length rs) m xs zeros-stand) refl)))
+      (andThen-accepted (restVerdict (25 + 26 * length rs) xs) Accepted (rest-accepted (25 + 26 * length rs) m xs zeros-stand) refl)))
     where
       behind : ℕ → Verdict
       behind n = first (constructsVerdict [] n 21 xs ∷ sampledVerdict (21 + 26 * n) xs ∷ restVerdict (25 + 26 * n) xs ∷ [])
@@ -114,7 +114,7 @@ module _ (f : ℕ) (rs : List Record) (xs : List ℕ) (m : ℕ) (few : length rs
 
 accepted-flag : (f : ℕ) (rs : List Record) (xs : List ℕ) (m : ℕ) → length rs ≤ 31 → Each LegalRecord rs → AllFit [] rs
     → drop 16 xs ≡ flaggedBits f rs ++ zerosAt (bitsIn f (length rs)) m → flagVerdict f xs ≡ Accepted
-accepted-flag zero rs xs m few each fit e = accepted-rest 16 m xs e
+accepted-flag zero rs xs m few each fit e = rest-accepted 16 m xs e
 accepted-flag (suc f) rs xs m few each fit e = accepted-set f rs xs m few e each fit
 
 records-flag : (f : ℕ) (rs : List Record) (xs : List ℕ) (m : ℕ) → length rs ≤ 31 → Each LegalRecord rs → (f ≡ 0 → rs ≡ [])
@@ -152,33 +152,33 @@ module _ (c : Content) (legal : Legal c) where
       let third = refuseIf (not (eqb (field xs 0 8) 3)) (Unfixed Identifier) (Bit 0) in
       let three : field xs 0 8 ≡ 3 = ap (λ (l : List ℕ). field l 0 8) layout-stands in
       let long : 16 ≤ length xs = omega (arith, ap length layout-stands) in
-      accepted-andThen
+      andThen-accepted
       (refuseIf (ltb 16384 (length (layout c))) TooLong Whole)
       (first (missing 0 8 xs ∷ third ∷ missing 8 7 xs ∷ missing 15 1 xs ∷ []))
-      (accepted-refuseIf (ltb 16384 (length (layout c))) TooLong Whole (le-ltb 16384 (length (layout c)) short))
-      (accepted-andThen
+      (refuseIf-accepted (ltb 16384 (length (layout c))) TooLong Whole (le-ltb 16384 (length (layout c)) short))
+      (andThen-accepted
       (missing 0 8 xs)
       (first (third ∷ missing 8 7 xs ∷ missing 15 1 xs ∷ []))
-      (accepted-missing 0 8 xs (omega arith))
-      (accepted-andThen
+      (missing-accepted 0 8 xs (omega arith))
+      (andThen-accepted
       third
       (first (missing 8 7 xs ∷ missing 15 1 xs ∷ []))
-      (accepted-refuseIf (not (eqb (field xs 0 8) 3)) (Unfixed Identifier) (Bit 0) (ap not (eq-eqb (field xs 0 8) 3 three)))
-      (accepted-andThen
+      (refuseIf-accepted (not (eqb (field xs 0 8) 3)) (Unfixed Identifier) (Bit 0) (ap not (eq-eqb (field xs 0 8) 3 three)))
+      (andThen-accepted
       (missing 8 7 xs)
       (first (missing 15 1 xs ∷ []))
-      (accepted-missing 8 7 xs (omega arith))
-      (accepted-andThen (missing 15 1 xs) Accepted (accepted-missing 15 1 xs long) refl))))
+      (missing-accepted 8 7 xs (omega arith))
+      (andThen-accepted (missing 15 1 xs) Accepted (missing-accepted 15 1 xs long) refl))))
 
   fit-legal : AllFit [] (c .records)
   fit-legal =
-      legal-fit (c .records) (each-map LegalRecord (λ (r : Record). 1 ≤ fieldOf r) (λ r h. h .shown) (c .records) (legal .each)) (legal .order) (legal .four)
+      legal-fit (c .records) (each-map LegalRecord (λ (r : Record). 1 ≤ fieldOf r) (λ r h. h .allowed) (c .records) (legal .each)) (legal .order) (legal .four)
 
   pub layout-accepted : length (layout c) ≤ 16384 → contentVerdict (layout c) ≡ Accepted
   unfolding contentVerdict
   layout-accepted short =
       let xs = bitsOf (layout c) in
-      accepted-andThen
+      andThen-accepted
       (headVerdict (layout c))
       (flagVerdict (flagIn xs) xs)
       (accepted-head short)

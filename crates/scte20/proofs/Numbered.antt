@@ -18,30 +18,30 @@ use Rattle.refusal.specs.declared.Verdict.{Verdict}
 use Rattle.refusal.specs.declared.Verdict.the-variants.{Accepted, Refused}
 use Rattle.refusal.specs.Numbers.{numberOf}
 use Rattle.refusal.specs.Checks.{refuseIf, andThen, first}
-use Rattle.refusal.proofs.Checks.{andThen-accepted, andThen-assoc}
+use Rattle.refusal.proofs.Checks.{accepted-andThen, andThen-assoc}
 use Rattle.bits.specs.Bits.{bitsOf, field}
 use Rattle.bits.proofs.Stream.{length-bitsOf}
 use Rattle.scte20.specs.declared.Record.{Record}
 use Rattle.scte20.specs.Value.{fieldOf, urgent}
 use Rattle.scte20.specs.Layout.{padding}
-use Rattle.scte20.specs.Rules.{falls, stays, recordVerdict}
+use Rattle.scte20.specs.Rules.{falls, notRising, recordVerdict}
 use Rattle.scte20.specs.Reading.{missing, zeroVerdict, constructAt, markerVerdict, constructsVerdict, sampledVerdict, restVerdict, headVerdict, flagIn, countIn, flagVerdict, contentVerdict}
-use Rattle.scte20.proofs.Constructs.{missing-accepted, constructs-within}
+use Rattle.scte20.proofs.Constructs.{accepted-missing, constructs-within}
 
 module _ (P : Reason → Item → Type 0) where
   -- a verdict that refuses only where P holds of the reason and the item
   abbrev pub Only : Verdict → Type 0
   Only verdict = (reason : Reason) (item : Item) → verdict ≡ Refused reason item → P reason item
 
-  abbrev Holds : Verdict → Type 0
-  Holds Accepted = Unit {0}
-  Holds (Refused reason item) = P reason item
+  abbrev Keeps : Verdict → Type 0
+  Keeps Accepted = Unit {0}
+  Keeps (Refused reason item) = P reason item
 
   accepted-only : Only Accepted
-  accepted-only reason item e = subst Holds e tt
+  accepted-only reason item e = subst Keeps e tt
 
   refuseIf-only : (fault : Bool) (reason : Reason) (item : Item) → P reason item → Only (refuseIf fault reason item)
-  refuseIf-only true reason item p r i e = subst Holds e p
+  refuseIf-only true reason item p r i e = subst Keeps e p
   refuseIf-only false reason item p r i e = accepted-only r i e
 
   -- a check is reached only where those before it accept
@@ -69,7 +69,7 @@ record-only low high limit at before r l m h =
     let field : at + 2 ≤ limit = omega arith in
     andThen-only P _ _ (bit-only low high limit (eqb (fieldOf r) 0) FieldNumberZero (at + 2) field (omega arith) (omega arith)) (λ e.
     andThen-only P _ _ (bit-only low high limit (falls before r) FieldFalls (at + 2) field (omega arith) (omega arith)) (λ e.
-    andThen-only P _ _ (bit-only low high limit (stays before r) LineDoesNotRise (at + 4) h (omega arith) (omega arith)) (λ e.
+    andThen-only P _ _ (bit-only low high limit (notRising before r) LineDoesNotRise (at + 4) h (omega arith) (omega arith)) (λ e.
     andThen-only P _ _ (bit-only low high limit (eqb (r .«cc_priority») 0 && ltb 3 (urgent (fieldOf r) before)) FifthPriority at priority (omega arith) (omega arith)) (λ e.
     accepted-only P))))
   where
@@ -115,7 +115,7 @@ module _ (xs : List ℕ) where
   constructs-only before zero at h = accepted-only InBits
   constructs-only before (suc k) at h =
       andThen-only InBits (missing at 26 xs) _ (missing-only at 26 h) (λ e.
-      let there : at + 26 ≤ length xs = missing-accepted at 26 xs e in
+      let there : at + 26 ≤ length xs = accepted-missing at 26 xs e in
       let line : at + 4 ≤ length xs = omega arith in
       let marker : at + 25 ≤ length xs = omega arith in
       andThen-only InBits _ _ (record-only 5 10 (length xs) at before (constructAt at xs) (omega arith) (omega arith) line) (λ f.
@@ -132,13 +132,13 @@ module _ (xs : List ℕ) where
 
   sampled-there : (at : ℕ) → sampledVerdict at xs ≡ Accepted → at + 4 ≤ length xs
   unfolding sampledVerdict
-  sampled-there at e = missing-accepted at 4 xs (andThen-accepted (missing at 4 xs) (first (refuseIf (not (eqb (field xs at 4) 0)) SampledVideo (Bit at) ∷ [])) e .0)
+  sampled-there at e = accepted-missing at 4 xs (accepted-andThen (missing at 4 xs) (first (refuseIf (not (eqb (field xs at 4) 0)) SampledVideo (Bit at) ∷ [])) e .0)
 
   flag-only : (f : ℕ) → 16 ≤ length xs → Only InBits (flagVerdict f xs)
   flag-only zero h = rest-only 16 h
   flag-only (suc f) h =
       andThen-only InBits (missing 16 5 xs) _ (missing-only 16 5 h) (λ e.
-      let counted : 21 ≤ length xs = missing-accepted 16 5 xs e in
+      let counted : 21 ≤ length xs = accepted-missing 16 5 xs e in
       andThen-only InBits (constructsVerdict [] (countIn xs) 21 xs) _ (constructs-only [] (countIn xs) 21 counted) (λ g.
       let there : 21 + 26 * countIn xs ≤ length xs = constructs-within [] (countIn xs) 21 xs counted g in
       andThen-only InBits (sampledVerdict (21 + 26 * countIn xs) xs) _ (sampled-only (21 + 26 * countIn xs) there) (λ i.
@@ -162,10 +162,10 @@ unfolding startVerdict
 start-only xs =
     let begins : 0 ≤ length xs = omega arith in
     andThen-only P (missing 0 8 xs) _ (missing-only xs 0 8 begins) (λ e.
-    let typed : 0 + 8 ≤ length xs = missing-accepted 0 8 xs e in
+    let typed : 0 + 8 ≤ length xs = accepted-missing 0 8 xs e in
     andThen-only P _ _ (check-only xs (not (eqb (field xs 0 8) 3)) (Unfixed Identifier) 0 begins (omega arith) (omega arith)) (λ f.
     andThen-only P (missing 8 7 xs) _ (missing-only xs 8 7 typed) (λ g.
-    let reserved : 8 + 7 ≤ length xs = missing-accepted 8 7 xs g in
+    let reserved : 8 + 7 ≤ length xs = accepted-missing 8 7 xs g in
     andThen-only P (missing 15 1 xs) _ (missing-only xs 15 1 reserved) (λ i.
     accepted-only P))))
   where
@@ -176,10 +176,10 @@ start-there : (xs : List ℕ) → startVerdict xs ≡ Accepted → 16 ≤ length
 unfolding startVerdict
 start-there xs e =
     let identifier = refuseIf (not (eqb (field xs 0 8) 3)) (Unfixed Identifier) (Bit 0) in
-    let one = andThen-accepted (missing 0 8 xs) (first (identifier ∷ missing 8 7 xs ∷ missing 15 1 xs ∷ [])) e in
-    let two = andThen-accepted identifier (first (missing 8 7 xs ∷ missing 15 1 xs ∷ [])) (one .1) in
-    let three = andThen-accepted (missing 8 7 xs) (first (missing 15 1 xs ∷ [])) (two .1) in
-    missing-accepted 15 1 xs (andThen-accepted (missing 15 1 xs) Accepted (three .1) .0)
+    let one = accepted-andThen (missing 0 8 xs) (first (identifier ∷ missing 8 7 xs ∷ missing 15 1 xs ∷ [])) e in
+    let two = accepted-andThen identifier (first (missing 8 7 xs ∷ missing 15 1 xs ∷ [])) (one .1) in
+    let three = accepted-andThen (missing 8 7 xs) (first (missing 15 1 xs ∷ [])) (two .1) in
+    accepted-missing 15 1 xs (accepted-andThen (missing 15 1 xs) Accepted (three .1) .0)
 
 -- behind the check of the body's length, every refusal is at a bit
 inner-only : (f : ℕ) (xs : List ℕ) → Only (AtBit 5 10 (length xs)) (andThen (startVerdict xs) (flagVerdict f xs))

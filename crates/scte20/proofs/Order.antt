@@ -17,8 +17,8 @@ use Rattle.refusal.specs.declared.Verdict.the-variants.{Accepted}
 use Rattle.refusal.specs.Checks.{refuseIf, andThen, first}
 use Rattle.refusal.proofs.Checks.{refused-not-accepted}
 use Rattle.scte20.specs.declared.Record.{Record}
-use Rattle.scte20.specs.Value.{fieldOf, one, urgent}
-use Rattle.scte20.specs.Rules.{falls, stays, recordVerdict}
+use Rattle.scte20.specs.Value.{fieldOf, countIf, urgent}
+use Rattle.scte20.specs.Rules.{falls, notRising, recordVerdict}
 use Rattle.scte20.specs.Inside.{lastOf, lastVerdict, kept, lastAfter}
 
 -- going back, the latest first, fields never rise
@@ -33,7 +33,7 @@ urgent-none f [] h = refl
 urgent-none f (r ∷ rs) h =
     let below : fieldOf r < f = h .0 in
     let other : fieldOf r ≡ f → ⊥ = λ e. omega arith in
-    ap₂ _+_ (ap (λ (t : Bool). one (t && eqb (r .«cc_priority») 0)) (ne-eqb (fieldOf r) f other)) (urgent-none f rs (h .1))
+    ap₂ _+_ (ap (λ (t : Bool). countIf (t && eqb (r .«cc_priority») 0)) (ne-eqb (fieldOf r) f other)) (urgent-none f rs (h .1))
 
 -- behind a latest record of a lower field, all are of lower fields
 pub back-below : (f : ℕ) (r : Record) (before : List Record) → Back (r ∷ before) → fieldOf r < f → Each (λ (s : Record). fieldOf s < f) (r ∷ before)
@@ -89,11 +89,11 @@ none-four false = refl
 pub last-record : (at : ℕ) (before : List Record) (r : Record) → Back before → lastVerdict at (lastOf before) r ≡ recordVerdict at before r
 unfolding lastVerdict recordVerdict
 last-record at [] r b =
-    later (eqb (fieldOf r) 0) _ _ _ _ (λ shown. rw (none-falls (fieldOf r), none-field (fieldOf r) shown, none-four (eqb (r .«cc_priority») 0)))
+    later (eqb (fieldOf r) 0) _ _ _ _ (λ allowed. rw (none-falls (fieldOf r), none-field (fieldOf r) allowed, none-four (eqb (r .«cc_priority») 0)))
 last-record at (last ∷ earlier) r b =
-    later (eqb (fieldOf r) 0) _ _ _ _ (λ shown.
+    later (eqb (fieldOf r) 0) _ _ _ _ (λ allowed.
     later (ltb (fieldOf r) (fieldOf last)) _ _ _ _ (λ rises.
-    later (stays (last ∷ earlier) r) _ _ _ _ (λ moves.
+    later (notRising (last ∷ earlier) r) _ _ _ _ (λ moves.
     ap (λ (t : Bool). andThen (refuseIf (eqb (r .«cc_priority») 0 && t) FifthPriority (Bit at)) Accepted)
     (kept-four (eqb (fieldOf last) (fieldOf r)) (urgent (fieldOf last) (last ∷ earlier))
     ∙ ap (ltb 3) (kept-urgent (fieldOf r) last earlier (eqb (fieldOf last) (fieldOf r)) refl b (ltb-false (fieldOf r) (fieldOf last) rises))))))
@@ -109,10 +109,10 @@ four-accepted false false false false p q s t i j k l e = (refl, refl, refl, ref
 
 -- what an accepted record's checks found: its field is not 0, its field does not fall, its line rises, and it is no fifth of priority 0
 pub record-checks : (at : ℕ) (before : List Record) (r : Record) → recordVerdict at before r ≡ Accepted
-    → (eqb (fieldOf r) 0 ≡ false) × (falls before r ≡ false) × (stays before r ≡ false) × ((eqb (r .«cc_priority») 0 && ltb 3 (urgent (fieldOf r) before)) ≡ false)
+    → (eqb (fieldOf r) 0 ≡ false) × (falls before r ≡ false) × (notRising before r ≡ false) × ((eqb (r .«cc_priority») 0 && ltb 3 (urgent (fieldOf r) before)) ≡ false)
 unfolding recordVerdict
 record-checks at before r e =
-    four-accepted (eqb (fieldOf r) 0) (falls before r) (stays before r) (eqb (r .«cc_priority») 0 && ltb 3 (urgent (fieldOf r) before))
+    four-accepted (eqb (fieldOf r) 0) (falls before r) (notRising before r) (eqb (r .«cc_priority») 0 && ltb 3 (urgent (fieldOf r) before))
     FieldNumberZero FieldFalls LineDoesNotRise FifthPriority (Bit (at + 2)) (Bit (at + 2)) (Bit (at + 4)) (Bit at) e
 
 accepted-rises : (at : ℕ) (last : Record) (earlier : List Record) (r : Record) → recordVerdict at (last ∷ earlier) r ≡ Accepted → fieldOf last ≤ fieldOf r
@@ -135,5 +135,5 @@ pub last-after : (at : ℕ) (before : List Record) (r : Record) → Back before 
 unfolding lastAfter
 last-after at before r b e =
     ap (λ (k : ℕ). record { «field_number» = r .«field_number»; «line_offset» = r .«line_offset»; urgent = k })
-    (counts-on at before r (one (eqb (r .«cc_priority») 0)) b e
-    ∙ ap (λ (t : Bool). min (one (t && eqb (r .«cc_priority») 0) + urgent (fieldOf r) before) 4) (sym (eq-eqb (fieldOf r) (fieldOf r) refl)))
+    (counts-on at before r (countIf (eqb (r .«cc_priority») 0)) b e
+    ∙ ap (λ (t : Bool). min (countIf (t && eqb (r .«cc_priority») 0) + urgent (fieldOf r) before) 4) (sym (eq-eqb (fieldOf r) (fieldOf r) refl)))

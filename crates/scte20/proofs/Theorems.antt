@@ -27,20 +27,20 @@ use Rattle.scte20.specs.declared.CaptionUnit.{CaptionUnit}
 use Rattle.scte20.specs.declared.Answer.{Answer}
 use Rattle.scte20.specs.declared.Head.{Head}
 use Rattle.scte20.specs.declared.Laid.{Laid}
-use Rattle.scte20.specs.Value.{Content, Legal, LegalUnit, Typed, blank, none, stored, held}
+use Rattle.scte20.specs.Value.{Content, Legal, LegalCaptionUnit, Typed, blank, none, stored, held}
 use Rattle.scte20.specs.Layout.{contentBits, contentBytes, layout, longest}
 use Rattle.scte20.specs.Reading.{contentVerdict, sizeIn, valueOf, answerOf, readOf, Reads}
-use Rattle.scte20.specs.Writing.{valueVerdict, writeVerdict, bodyVerdict, countedOf, leftOf, Writes}
+use Rattle.scte20.specs.Writing.{valueVerdict, writeVerdict, bodyVerdict, laidOf, bodyLeft, Writes}
 use Rattle.scte20.specs.Order.{readingChecks, writingChecks}
 use Rattle.scte20.specs.Lent.{recordsBytes, lentRecords, storedAt, unitIn, numbersOf, headOf, ReadsInto}
 use Rattle.scte20.specs.Inside.{lastOf, lastVerdict, lastAfter}
 use Rattle.scte20.specs.Rules.{recordVerdict}
 use Rattle.scte20.proofs.Order.{Back, last-record}
-use Rattle.scte20.proofs.Contents.{content-accepted, value-legal, value-layout}
+use Rattle.scte20.proofs.Contents.{accepted-content, value-legal, value-layout}
 use Rattle.scte20.proofs.Layouts.{layout-accepted, layout-value}
 use Rattle.scte20.proofs.Lending.{lent-unit}
 use Rattle.scte20.proofs.Numbered.{AtBit, content-placed}
-use Rattle.scte20.proofs.Writable.{write-accepted, accepted-write}
+use Rattle.scte20.proofs.Writable.{accepted-write, write-accepted}
 use Rattle.scte20.proofs.Sequence as sequence
 use Rattle.scte20.proofs.Sizes as sizes
 use Rattle.scte20.proofs.Zeros as zeros
@@ -63,7 +63,7 @@ pub accepted-exactly : (body : List ℕ) (r : Answer) → Reads body r → r .ve
 accepted-exactly body r p = (
   λ e.
       let ok : contentVerdict body ≡ Accepted = sym (told body r p) ∙ e in
-      (valueOf body, value-legal body (p .bytes) ok, content-accepted body ok .0 .short, value-layout body (p .bytes) ok),
+      (valueOf body, value-legal body (p .bytes) ok, accepted-content body ok .0 .short, value-layout body (p .bytes) ok),
   λ w.
       let short : length (layout (w .0)) ≤ 16384 = subst (λ (s : List ℕ). length s ≤ 16384) (sym (w .3)) (w .2) in
       told body r p ∙ ap contentVerdict (sym (w .3)) ∙ layout-accepted (w .0) (w .1) short,
@@ -77,7 +77,7 @@ only-one c d hc hd e = sym (layout-value c hc) ∙ ap valueOf e ∙ layout-value
 pub stored-held : (c : Content) → held (stored c) ≡ c
 stored-held c = ap (λ (rs : List Record). record { reserved = c .reserved; flag = c .flag; records = rs; z = c .z }) (take-append-seam (c .records) _)
 
-pub stored-legal : (c : Content) → Legal c → LegalUnit (stored c)
+pub stored-legal : (c : Content) → Legal c → LegalCaptionUnit (stored c)
 stored-legal c h = record { few = h .few; value = subst Legal (sym (stored-held c)) h }
 
 -- A refusal tells the verdict of all checks.
@@ -145,18 +145,18 @@ judged : (u : CaptionUnit) (before after : ℕ) (out : List ℕ) (r : Laid) (exi
 judged u before after out r exit w =
     ap (λ (a : Laid). a .verdict) (w .counted) ∙ kept (bodyVerdict u before after (length out))
   where
-    kept : (verdict : Verdict) → countedOf verdict (layout (held u)) .verdict ≡ verdict
+    kept : (verdict : Verdict) → laidOf verdict (layout (held u)) .verdict ≡ verdict
     kept Accepted = refl
     kept (Refused reason item) = refl
 
 -- Writing succeeds exactly when the value is legal and the result, with what stands before and after the body, fits limit and buffer.
 pub writes-exactly : (u : CaptionUnit) (before after : ℕ) (out : List ℕ) (r : Laid) (exit : List ℕ) → Writes u before after out r exit
-    → r .verdict ≡ Accepted ↔ (LegalUnit u × (before + length (layout (held u)) + after ≤ 16384) × (before + length (layout (held u)) + after ≤ length out))
+    → r .verdict ≡ Accepted ↔ (LegalCaptionUnit u × (before + length (layout (held u)) + after ≤ 16384) × (before + length (layout (held u)) + after ≤ length out))
 writes-exactly u before after out r exit w =
     let size = before + length (layout (held u)) + after in
     let within : length (layout (held u)) ≤ size = omega arith in (
-      λ e. write-accepted u size (length out) (w .typed) (sym (judged u before after out r exit w) ∙ e),
-      λ h. judged u before after out r exit w ∙ accepted-write u size (length out) (w .typed) (h .0) within (h .1) (h .2),
+      λ e. accepted-write u size (length out) (w .typed) (sym (judged u before after out r exit w) ∙ e),
+      λ h. judged u before after out r exit w ∙ write-accepted u size (length out) (w .typed) (h .0) within (h .1) (h .2),
     )
 
 -- Then exactly the layout stands in the buffer behind the bytes before it, and nothing else changed.
@@ -164,8 +164,8 @@ pub written-there : (u : CaptionUnit) (before after : ℕ) (out : List ℕ) (r :
     → r .verdict ≡ Accepted → (r ≡ record { verdict = Accepted; len = length (layout (held u)) }) × (exit ≡ overAt before (layout (held u)) out)
 written-there u before after out r exit w e =
     let ok : bodyVerdict u before after (length out) ≡ Accepted = sym (judged u before after out r exit w) ∙ e in (
-      w .counted ∙ ap (λ (v : Verdict). countedOf v (layout (held u))) ok,
-      w .left ∙ ap (λ (v : Verdict). leftOf v before (layout (held u)) out) ok,
+      w .counted ∙ ap (λ (v : Verdict). laidOf v (layout (held u))) ok,
+      w .left ∙ ap (λ (v : Verdict). bodyLeft v before (layout (held u)) out) ok,
     )
 
 -- A refusal tells the verdict of all checks.
@@ -192,7 +192,7 @@ refused-untouched u before after out r exit w h =
     (ap (λ (a : Laid). a .len) (w .counted) ∙ same .0, w .left ∙ same .1)
   where
     nothing : (verdict : Verdict) → (verdict ≡ Accepted → ⊥)
-        → (countedOf verdict (layout (held u)) .len ≡ 0) × (leftOf verdict before (layout (held u)) out ≡ out)
+        → (laidOf verdict (layout (held u)) .len ≡ 0) × (bodyLeft verdict before (layout (held u)) out ≡ out)
     nothing Accepted g = absurd (g refl)
     nothing (Refused reason item) g = (refl, refl)
 
@@ -243,8 +243,8 @@ bytes-of-determined u a b p q = p ∙ sym q
 pub judge-value-determined : (v : Numbers) (s : List ℕ) (a b : Verdict) → a ≡ valueVerdict (unitIn v s) → b ≡ valueVerdict (unitIn v s) → a ≡ b
 judge-value-determined v s a b p q = p ∙ sym q
 
-pub first-determined : (a b : Last) → a ≡ lastOf [] → b ≡ lastOf [] → a ≡ b
-first-determined a b p q = p ∙ sym q
+pub none-yet-determined : (a b : Last) → a ≡ lastOf [] → b ≡ lastOf [] → a ≡ b
+none-yet-determined a b p q = p ∙ sym q
 
 pub judge-record-determined : (at : ℕ) (last : Last) (r : Record) (a b : Verdict) → a ≡ lastVerdict at last r → b ≡ lastVerdict at last r → a ≡ b
 judge-record-determined at last r a b p q = p ∙ sym q

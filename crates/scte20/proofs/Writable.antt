@@ -18,18 +18,18 @@ use Rattle.refusal.specs.declared.Excess.the-variants.{Count, Reserved, Flag, S
 use Rattle.refusal.specs.declared.Item.the-variants.{Whole, Bit}
 use Rattle.refusal.specs.Numbers.{refusalOf}
 use Rattle.refusal.specs.Checks.{andThen, first, fitVerdict}
-use Rattle.refusal.proofs.Checks.{andThen-accepted, accepted-andThen, andThen-assoc, fit-accepted, accepted-fit, fit-long, fit-no-room}
+use Rattle.refusal.proofs.Checks.{accepted-andThen, andThen-accepted, andThen-assoc, accepted-fit, fit-accepted, fit-long, fit-no-room}
 use Rattle.refusal.proofs.Gives.{Gives, refuseIf-gives, andThen-gives, refused-gives}
 use Rattle.scte20.specs.declared.Record.{Record}
 use Rattle.scte20.specs.declared.CaptionUnit.{CaptionUnit}
-use Rattle.scte20.specs.Value.{fieldOf, urgent, Ranged, LegalRecord, ByteRecord, LegalUnit, Typed, held}
+use Rattle.scte20.specs.Value.{fieldOf, urgent, Ranged, LegalRecord, ByteRecord, LegalCaptionUnit, Typed, held}
 use Rattle.scte20.specs.Layout.{layout}
-use Rattle.scte20.specs.Rules.{falls, stays, recordVerdict}
+use Rattle.scte20.specs.Rules.{falls, notRising, recordVerdict}
 use Rattle.scte20.specs.Writing.{wholeVerdict, rangeVerdict, recordsVerdict, valueVerdict, writeVerdict}
-use Rattle.scte20.proofs.Fitting.{AllFit, record-fits, fits-record, fit-shown, fit-order, fit-four, legal-fit}
+use Rattle.scte20.proofs.Fitting.{AllFit, record-fits, fits-record, fit-allowed, fit-order, fit-four, legal-fit}
 use Rattle.scte20.proofs.Sizes.{length-layout}
 use Rattle.scte20.proofs.Holding as holding
-use Rattle.scte20.proofs.Holding.{whole-accepted, accepted-whole, range-accepted, accepted-range, length-held}
+use Rattle.scte20.proofs.Holding.{accepted-whole, whole-accepted, range-accepted, accepted-range, length-held}
 
 -- ---- the value
 
@@ -52,9 +52,9 @@ records-accepted : (before : List Record) (at : ℕ) (rs : List Record) → reco
 records-accepted before at [] e = (tt, tt)
 records-accepted before at (r ∷ rs) e =
     let later = recordsVerdict (r ∷ before) (at + 26) rs in
-    let one = andThen-accepted (rangeVerdict at r) (first (recordVerdict at before r ∷ later ∷ [])) e in
-    let two = andThen-accepted (recordVerdict at before r) (first (later ∷ [])) (one .1) in
-    let three = andThen-accepted later Accepted (two .1) in
+    let one = accepted-andThen (rangeVerdict at r) (first (recordVerdict at before r ∷ later ∷ [])) e in
+    let two = accepted-andThen (recordVerdict at before r) (first (later ∷ [])) (one .1) in
+    let three = accepted-andThen later Accepted (two .1) in
     let rest = records-accepted (r ∷ before) (at + 26) rs (three .0) in
     ((accepted-range at r (one .0), rest .0), (record-fits at before r (two .0), rest .1))
 
@@ -64,20 +64,20 @@ accepted-records before at (r ∷ rs) ranged fit =
     let later = recordsVerdict (r ∷ before) (at + 26) rs in
     let priority : r .«cc_priority» ≤ 3 = omega (arith, ranged .0 .priority) in
     let line : r .«line_offset» ≤ 31 = omega (arith, ranged .0 .line) in
-    accepted-andThen (rangeVerdict at r) (first (recordVerdict at before r ∷ later ∷ [])) (range-accepted at r (priority, ranged .0 .field, line))
-    (accepted-andThen (recordVerdict at before r) (first (later ∷ [])) (fits-record at before r (fit .0))
-    (accepted-andThen later Accepted (accepted-records (r ∷ before) (at + 26) rs (ranged .1) (fit .1)) refl))
+    andThen-accepted (rangeVerdict at r) (first (recordVerdict at before r ∷ later ∷ [])) (range-accepted at r (priority, ranged .0 .field, line))
+    (andThen-accepted (recordVerdict at before r) (first (later ∷ [])) (fits-record at before r (fit .0))
+    (andThen-accepted later Accepted (accepted-records (r ∷ before) (at + 26) rs (ranged .1) (fit .1)) refl))
 
 pub value-ranged : (u : CaptionUnit) → valueVerdict u ≡ Accepted → Each InRange (held u .records)
 unfolding valueVerdict
-value-ranged u e = records-accepted [] 21 (held u .records) (andThen-accepted (wholeVerdict u) (recordsVerdict [] 21 (held u .records)) e .1) .0
+value-ranged u e = records-accepted [] 21 (held u .records) (accepted-andThen (wholeVerdict u) (recordsVerdict [] 21 (held u .records)) e .1) .0
 
-pub accepted-unit : (u : CaptionUnit) → Typed u → valueVerdict u ≡ Accepted → LegalUnit u
+pub accepted-unit : (u : CaptionUnit) → Typed u → valueVerdict u ≡ Accepted → LegalCaptionUnit u
 unfolding valueVerdict
 accepted-unit u t e =
     let rs = held u .records in
-    let both = andThen-accepted (wholeVerdict u) (recordsVerdict [] 21 rs) e in
-    let whole = whole-accepted u (both .0) in
+    let both = accepted-andThen (wholeVerdict u) (recordsVerdict [] 21 rs) e in
+    let whole = accepted-whole u (both .0) in
     let known = records-accepted [] 21 rs (both .1) in
     let ranged = each-both ByteRecord InRange Ranged in-range rs (each-take ByteRecord (u .n) (u .records) (t .bytes)) (known .0) in
     let fit = known .1 in
@@ -87,14 +87,14 @@ accepted-unit u t e =
         reserved = omega (arith, whole .reserved);
         flag = omega (arith, whole .flag);
         few = omega (arith, whole .few, length-held u (t .places) (whole .few));
-        each = each-both (λ (r : Record). 1 ≤ fieldOf r) Ranged LegalRecord (λ r shown ranged. record { ranged = ranged; shown = shown }) rs (fit-shown rs fit) ranged;
+        each = each-both (λ (r : Record). 1 ≤ fieldOf r) Ranged LegalRecord (λ r allowed ranged. record { ranged = ranged; allowed = allowed }) rs (fit-allowed rs fit) ranged;
         order = fit-order rs fit;
         four = fit-four rs fit;
         bare = λ zero. ap (λ (n : ℕ). take n (u .records)) (whole .bare zero);
       };
     }
 
-pub unit-accepted : (u : CaptionUnit) → Typed u → LegalUnit u → u .z ≤ 16384 → valueVerdict u ≡ Accepted
+pub unit-accepted : (u : CaptionUnit) → Typed u → LegalCaptionUnit u → u .z ≤ 16384 → valueVerdict u ≡ Accepted
 unfolding valueVerdict
 unit-accepted u t h short =
     let rs = held u .records in
@@ -106,10 +106,10 @@ unit-accepted u t h short =
       stuffing = short;
       bare = λ zero. omega (arith, ap length (v .bare zero), length-held u (t .places) (h .few));
     } in
-    let shown = each-map LegalRecord (λ (r : Record). 1 ≤ fieldOf r) (λ r legal. legal .shown) rs (v .each) in
+    let allowed = each-map LegalRecord (λ (r : Record). 1 ≤ fieldOf r) (λ r legal. legal .allowed) rs (v .each) in
     let ranged = each-map LegalRecord Ranged (λ r legal. legal .ranged) rs (v .each) in
-    accepted-andThen (wholeVerdict u) (recordsVerdict [] 21 rs) (accepted-whole u whole)
-    (accepted-records [] 21 rs ranged (legal-fit rs shown (v .order) (v .four)))
+    andThen-accepted (wholeVerdict u) (recordsVerdict [] 21 rs) (whole-accepted u whole)
+    (accepted-records [] 21 rs ranged (legal-fit rs allowed (v .order) (v .four)))
 
 -- ---- and the result
 
@@ -117,16 +117,16 @@ unit-accepted u t h short =
 pub z-within : (u : CaptionUnit) → length (layout (held u)) ≤ 16384 → u .z ≤ 16384
 z-within u short = omega (arith, length-layout (held u))
 
-pub write-accepted : (u : CaptionUnit) (size room : ℕ) → Typed u → writeVerdict u size room ≡ Accepted → LegalUnit u × (size ≤ 16384) × (size ≤ room)
-write-accepted u size room t e =
-    let both = andThen-accepted (valueVerdict u) (fitVerdict 16384 size room) e in
-    let fit = fit-accepted 16384 size room (both .1) in
+pub accepted-write : (u : CaptionUnit) (size room : ℕ) → Typed u → writeVerdict u size room ≡ Accepted → LegalCaptionUnit u × (size ≤ 16384) × (size ≤ room)
+accepted-write u size room t e =
+    let both = accepted-andThen (valueVerdict u) (fitVerdict 16384 size room) e in
+    let fit = accepted-fit 16384 size room (both .1) in
     (accepted-unit u t (both .0), fit .0, fit .1)
 
-pub accepted-write : (u : CaptionUnit) (size room : ℕ) → Typed u → LegalUnit u → length (layout (held u)) ≤ size → size ≤ 16384 → size ≤ room
+pub write-accepted : (u : CaptionUnit) (size room : ℕ) → Typed u → LegalCaptionUnit u → length (layout (held u)) ≤ size → size ≤ 16384 → size ≤ room
     → writeVerdict u size room ≡ Accepted
-accepted-write u size room t h within short fits =
-    accepted-andThen (valueVerdict u) (fitVerdict 16384 size room) (unit-accepted u t h (z-within u (omega arith))) (accepted-fit 16384 size room short fits)
+write-accepted u size room t h within short fits =
+    andThen-accepted (valueVerdict u) (fitVerdict 16384 size room) (unit-accepted u t h (z-within u (omega arith))) (fit-accepted 16384 size room short fits)
 
 -- ---- which refusal
 
@@ -163,7 +163,7 @@ unfolding recordVerdict
 record-gives at before r =
     andThen-gives ForValue _ _ (refuseIf-gives ForValue (eqb (fieldOf r) 0) FieldNumberZero (Bit (at + 2)) (inr (inl refl)))
     (andThen-gives ForValue _ _ (refuseIf-gives ForValue (falls before r) FieldFalls (Bit (at + 2)) (inr (inr (inl refl))))
-    (andThen-gives ForValue _ _ (refuseIf-gives ForValue (stays before r) LineDoesNotRise (Bit (at + 4)) (inr (inr (inl refl))))
+    (andThen-gives ForValue _ _ (refuseIf-gives ForValue (notRising before r) LineDoesNotRise (Bit (at + 4)) (inr (inr (inl refl))))
     (andThen-gives ForValue _ _
     (refuseIf-gives ForValue (eqb (r .«cc_priority») 0 && ltb 3 (urgent (fieldOf r) before)) FifthPriority (Bit at) (inr (inr (inr refl)))) (inl refl))))
 

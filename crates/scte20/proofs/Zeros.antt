@@ -10,7 +10,7 @@ use lib.ListN.{length, replicate, length-replicate}
 use Rattle.lists.specs.Each.{Each}
 use Rattle.bits.specs.Bits.{bits, reversed}
 use Rattle.scte20.specs.declared.Record.{Record}
-use Rattle.scte20.specs.Value.{Content, fieldOf, one, urgent, LegalRecord, Legal}
+use Rattle.scte20.specs.Value.{Content, fieldOf, countIf, urgent, LegalRecord, Legal}
 use Rattle.scte20.specs.Layout.{constructsBits, flaggedBits, itemBits, padding, contentBits, longestFrom, longest}
 
 -- a run is no longer than the bits there are
@@ -58,7 +58,7 @@ longest-constructs (r ∷ rs) legal run rest h g =
     longest-fielded
     r
     (fieldOf r)
-    (legal .0 .shown)
+    (legal .0 .allowed)
     (legal .0 .ranged .field)
     run
     (constructsBits rs ++ rest)
@@ -119,7 +119,7 @@ widest =
     }
 
 few-urgent : (f : ℕ) → urgent f (widest .records) ≤ 4
-few-urgent f = omega (arith, ap one (and-false (eqb 2 f)))
+few-urgent f = omega (arith, ap countIf (and-false (eqb 2 f)))
 
 legal-widest : Legal widest
 legal-widest =
@@ -130,7 +130,7 @@ legal-widest =
       each = (
         record {
           ranged = record { priority = omega arith; field = omega arith; line = omega arith; bytes = record { data-1 = omega arith; data-2 = omega arith } };
-          shown = omega arith;
+          allowed = omega arith;
         },
         tt,
       );

@@ -14,7 +14,7 @@ use Rattle.refusal.specs.Checks.{refuseIf, first}
 use Rattle.bits.specs.Bits.{bitsOf, reversed}
 use Rattle.scte20.specs.declared.Record.{Record}
 use Rattle.scte20.specs.declared.Last.{Last}
-use Rattle.scte20.specs.Value.{fieldOf, one, urgent}
+use Rattle.scte20.specs.Value.{fieldOf, countIf, urgent}
 use Rattle.scte20.specs.Reading.{constructsVerdict, recordsAt}
 use Rattle.scte20.specs.Lent.{recordsBytes}
 
@@ -44,7 +44,7 @@ lastAfter last r =
     record {
       «field_number» = r .«field_number»;
       «line_offset» = r .«line_offset»;
-      urgent = min (one (eqb (r .«cc_priority») 0) + kept (eqb (last .«field_number» .0) (fieldOf r)) (last .urgent)) 4;
+      urgent = min (countIf (eqb (r .«cc_priority») 0) + kept (eqb (last .«field_number» .0) (fieldOf r)) (last .urgent)) 4;
     }
 
 -- a construct as one number of 26 bits, as it is taken from the stream

@@ -16,7 +16,7 @@ use Rattle.scte20.specs.declared.Record.{Record}
 use Rattle.scte20.specs.declared.CaptionUnit.{CaptionUnit}
 use Rattle.scte20.specs.Value.{fieldOf, urgent, held}
 use Rattle.scte20.specs.Layout.{padding}
-use Rattle.scte20.specs.Rules.{falls, stays}
+use Rattle.scte20.specs.Rules.{falls, notRising}
 use Rattle.scte20.specs.Reading.{constructAt, flagIn, countIn}
 
 -- READING
@@ -33,7 +33,7 @@ recordChecks at before r =
     -- 8: the field falls
     ∷ refuseIf (falls before r) FieldFalls (Bit (at + 2))
     -- 8: the line does not rise
-    ∷ refuseIf (stays before r) LineDoesNotRise (Bit (at + 4))
+    ∷ refuseIf (notRising before r) LineDoesNotRise (Bit (at + 4))
     -- 9: a fifth priority 0 in one field
     ∷ refuseIf (eqb (r .«cc_priority») 0 && ltb 3 (urgent (fieldOf r) before)) FifthPriority (Bit at)
     ∷ []

@@ -16,9 +16,9 @@ falls [] r = false
 falls (last ∷ earlier) r = ltb (fieldOf r) (fieldOf last)
 
 -- the field is the same, and the line no higher
-abbrev pub stays : List Record → Record → Bool
-stays [] r = false
-stays (last ∷ earlier) r = eqb (fieldOf last) (fieldOf r) && not (ltb (last .«line_offset») (r .«line_offset»))
+abbrev pub notRising : List Record → Record → Bool
+notRising [] r = false
+notRising (last ∷ earlier) r = eqb (fieldOf last) (fieldOf r) && not (ltb (last .«line_offset») (r .«line_offset»))
 
 -- 7 field_number 0; 8 field falls, or line does not rise; 9 a fifth priority 0 in one field. The construct begins at bit `at`
 unfoldable pub recordVerdict : ℕ → List Record → Record → Verdict
@@ -26,6 +26,6 @@ recordVerdict at before r =
     first
     (refuseIf (eqb (fieldOf r) 0) FieldNumberZero (Bit (at + 2))
     ∷ refuseIf (falls before r) FieldFalls (Bit (at + 2))
-    ∷ refuseIf (stays before r) LineDoesNotRise (Bit (at + 4))
+    ∷ refuseIf (notRising before r) LineDoesNotRise (Bit (at + 4))
     ∷ refuseIf (eqb (r .«cc_priority») 0 && ltb 3 (urgent (fieldOf r) before)) FifthPriority (Bit at)
     ∷ [])

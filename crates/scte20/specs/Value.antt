@@ -37,7 +37,7 @@ pub record Ranged (r : Record) : Type 0 where
 -- field_number 0 is forbidden
 pub record LegalRecord (r : Record) : Type 0 where
   pub ranged : Ranged r
-  pub shown : 1 ≤ fieldOf r
+  pub allowed : 1 ≤ fieldOf r
 
 -- a record may follow another of a lower field, or one of its own field on a lower line (000, 6.2, third requirement)
 abbrev pub Follows : Record → Record → Type 0
@@ -49,14 +49,14 @@ InOrder (r ∷ []) = Unit {0}
 InOrder (r ∷ next ∷ rs) = Follows r next × InOrder (next ∷ rs)
 
 -- 1 where a test holds, else 0
-abbrev pub one : Bool → ℕ
-one true = 1
-one false = 0
+abbrev pub countIf : Bool → ℕ
+countIf true = 1
+countIf false = 0
 
 -- how many records of one field have priority 0
 abbrev pub urgent : ℕ → List Record → ℕ
 urgent f [] = 0
-urgent f (r ∷ rs) = one (eqb (fieldOf r) f && eqb (r .«cc_priority») 0) + urgent f rs
+urgent f (r ∷ rs) = countIf (eqb (fieldOf r) f && eqb (r .«cc_priority») 0) + urgent f rs
 
 -- 01, "Legal records"
 pub record Legal (c : Content) : Type 0 where
@@ -92,7 +92,7 @@ abbrev pub held : CaptionUnit → Content
 held u = record { reserved = u .reserved; flag = u .«vbi_data_flag»; records = take (u .n) (u .records); z = u .z }
 
 -- the same of the struct that the code holds a value in: n is no more than its array has places, and the value is legal
-pub record LegalUnit (u : CaptionUnit) : Type 0 where
+pub record LegalCaptionUnit (u : CaptionUnit) : Type 0 where
   pub few : u .n ≤ 31
   pub value : Legal (held u)
 

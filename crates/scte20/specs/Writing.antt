@@ -63,16 +63,16 @@ abbrev pub bodyVerdict : CaptionUnit → ℕ → ℕ → ℕ → Verdict
 bodyVerdict u before after room = writeVerdict u (before + length (layout (held u)) + after) room
 
 -- a refusal counts nothing and leaves the output as it was
-abbrev pub countedOf : Verdict → List ℕ → Laid
-countedOf Accepted laid = record { verdict = Accepted; len = length laid }
-countedOf (Refused reason item) laid = record { verdict = Refused reason item; len = 0 }
+abbrev pub laidOf : Verdict → List ℕ → Laid
+laidOf Accepted laid = record { verdict = Accepted; len = length laid }
+laidOf (Refused reason item) laid = record { verdict = Refused reason item; len = 0 }
 
-abbrev pub leftOf : Verdict → ℕ → List ℕ → List ℕ → List ℕ
-leftOf Accepted at laid out = overAt at laid out
-leftOf (Refused reason item) at laid out = out
+abbrev pub bodyLeft : Verdict → ℕ → List ℕ → List ℕ → List ℕ
+bodyLeft Accepted at laid out = overAt at laid out
+bodyLeft (Refused reason item) at laid out = out
 
 -- the promise of `write`. By its type the struct's data bytes are bytes and its array has 31 places; the code shows that too
 pub record Writes (u : CaptionUnit) (before after : ℕ) (out : List ℕ) (answer : Laid) (exit : List ℕ) : Type 0 where
   pub typed : Typed u
-  pub counted : answer ≡ countedOf (bodyVerdict u before after (length out)) (layout (held u))
-  pub left : exit ≡ leftOf (bodyVerdict u before after (length out)) before (layout (held u)) out
+  pub counted : answer ≡ laidOf (bodyVerdict u before after (length out)) (layout (held u))
+  pub left : exit ≡ bodyLeft (bodyVerdict u before after (length out)) before (layout (held u)) out

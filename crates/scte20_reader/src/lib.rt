@@ -136,7 +136,7 @@ fn read_constructs(body: &[u8], n: usize, records: &mut [u8; LENT_RECORDS]) -> V
     requires { ⌜ length (now records) ≡ 155 ⌝ }
     ensures { λ r. ⌜ Runs (now (body .entry)) n (now (records .entry)) r (now (records .exit)) ⌝ }
 {
-    let mut last = scte20_rules::first();
+    let mut last = scte20_rules::none_yet();
     let mut i = 0;
     while i < n {
         let at = CONSTRUCTS + CONSTRUCT_BITS * i;

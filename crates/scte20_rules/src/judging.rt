@@ -25,7 +25,7 @@ pub fn judge_value(v: Numbers, records: &[u8; LENT_RECORDS]) -> Verdict
     if let Verdict::Refused(_, _) = whole {
         return whole;
     }
-    let mut last = rules::first();
+    let mut last = rules::none_yet();
     let mut i = 0;
     while i < v.n {
         let record = scte20::record_in(records, i);

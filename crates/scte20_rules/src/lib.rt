@@ -6,5 +6,5 @@ mod rules;
 
 pub use judging::judge_value;
 pub use rules::after;
-pub use rules::first;
 pub use rules::judge_record;
+pub use rules::none_yet;

@@ -2,7 +2,7 @@
 ghost use mathlib.Core.Path.{_≡_};
 ghost use Prim.Native.Nat.{_+_, min};
 ghost use mathlib.Core.List.{[]};
-ghost use Rattle.scte20.specs.Value.{one};
+ghost use Rattle.scte20.specs.Value.{countIf};
 ghost use Rattle.scte20.specs.Inside.{lastOf, lastAfter, lastVerdict};
 use refusal::Item;
 use refusal::Reason;
@@ -42,7 +42,7 @@ pub fn judge_record(last: Last, r: Record, at: u32) -> Verdict
 }
 
 // Before the first record. No record has field 0.
-pub fn first() -> Last
+pub fn none_yet() -> Last
     ensures { λ l. ⌜ l ≡ lastOf [] ⌝ }
 {
     Last {
@@ -72,7 +72,7 @@ pub fn after(last: Last, r: Record) -> Last
 
 // One more where there is one, and no more than four.
 fn counted(kept: u8, more: bool) -> u8
-    ensures { λ n. ⌜ n ≡ min (one more + kept) 4 ⌝ }
+    ensures { λ n. ⌜ n ≡ min (countIf more + kept) 4 ⌝ }
 {
     let all = if more { kept as u16 + 1 } else { kept as u16 };
     if all < 4 { all as u8 } else { 4 }

@@ -71,16 +71,16 @@ second-byte r f h g =
     bits-add 7 1 (r * 2 + f) ∙ ap₂ (λ (x : ℕ) (ys : List ℕ). bits 7 x ++ ys) high low
 
 -- with flag 0
-bare : (r : ℕ) (rs : List Record) (z : ℕ) → r < 128 → layout (record { reserved = r; flag = 0; records = rs; z = z }) ≡ 3 ∷ (r * 2 + 0) ∷ replicate z 0
+flag-0 : (r : ℕ) (rs : List Record) (z : ℕ) → r < 128 → layout (record { reserved = r; flag = 0; records = rs; z = z }) ≡ 3 ∷ (r * 2 + 0) ∷ replicate z 0
 unfolding padding
-bare r rs z h =
+flag-0 r rs z h =
     let two : num (bits 7 r ++ bits 1 0) ≡ r * 2 + 0 = num-append (bits 7 r) (bits 1 0) ∙ ap (λ (n : ℕ). n * 2 + 0) (num-bits-small 7 r h) in
     ap (λ (b : ℕ). 3 ∷ b ∷ replicate z 0) two
 
 pub bare-layout : (c : Content) → c .flag ≡ 0 → c .reserved < 128 → layout c ≡ 3 ∷ (c .reserved * 2 + c .flag) ∷ replicate (c .z) 0
 bare-layout c e h =
     subst (λ (f : ℕ). layout (record { reserved = c .reserved; flag = f; records = c .records; z = c .z }) ≡ 3 ∷ (c .reserved * 2 + f) ∷ replicate (c .z) 0) (sym e)
-    (bare (c .reserved) (c .records) (c .z) h)
+    (flag-0 (c .reserved) (c .records) (c .z) h)
 
 -- with flag 1
 module _ (r : ℕ) (rs : List Record) (z : ℕ) where

@@ -6,7 +6,7 @@ use mathlib.Core.List.{List}
 use lib.ListN.{length, getD, drop}
 use Rattle.lists.specs.Sum.{sum}
 use Rattle.refusal.specs.declared.Verdict.the-variants.{Accepted}
-use Rattle.refusal.proofs.Checks.{andThen-accepted, equal-accepted, within-accepted}
+use Rattle.refusal.proofs.Checks.{accepted-andThen, accepted-equal, accepted-within}
 use Rattle.sdp.specs.Layout.{userLength}
 use Rattle.sdp.specs.User.{descriptorsIn, descriptorsVerdict, structuresIn, structuresVerdict, headVerdict, tailVerdict}
 
@@ -23,21 +23,21 @@ pub record Head (dc : ℕ) (u : List ℕ) : Type 0 where
 pub accepted-head : (dc : ℕ) (u : List ℕ) → headVerdict dc u ≡ Accepted → Head dc u
 unfolding headVerdict
 accepted-head dc u e =
-    let long = andThen-accepted _ _ e in
-    let first = andThen-accepted _ _ (long .1) in
-    let second = andThen-accepted _ _ (first .1) in
-    let counted = andThen-accepted _ _ (second .1) in
-    let format = andThen-accepted _ _ (counted .1) in
-    let lines = andThen-accepted _ _ (format .1) in
-    let whole = andThen-accepted _ _ (lines .1) in
+    let long = accepted-andThen _ _ e in
+    let first = accepted-andThen _ _ (long .1) in
+    let second = accepted-andThen _ _ (first .1) in
+    let counted = accepted-andThen _ _ (second .1) in
+    let format = accepted-andThen _ _ (counted .1) in
+    let lines = accepted-andThen _ _ (format .1) in
+    let whole = accepted-andThen _ _ (lines .1) in
     record {
-      long = within-accepted _ _ _ _ (long .0);
-      first = equal-accepted _ _ _ _ (first .0);
-      second = equal-accepted _ _ _ _ (second .0);
-      counted = equal-accepted _ _ _ _ (counted .0);
-      format = equal-accepted _ _ _ _ (format .0);
+      long = accepted-within _ _ _ _ (long .0);
+      first = accepted-equal _ _ _ _ (first .0);
+      second = accepted-equal _ _ _ _ (second .0);
+      counted = accepted-equal _ _ _ _ (counted .0);
+      format = accepted-equal _ _ _ _ (format .0);
       lines = lines .0;
-      whole = equal-accepted _ _ _ _ (whole .0);
+      whole = accepted-equal _ _ _ _ (whole .0);
     }
 
 -- the structures and what stands behind them
@@ -49,7 +49,7 @@ pub record Tail (dc : ℕ) (u : List ℕ) : Type 0 where
 pub accepted-tail : (dc : ℕ) (u : List ℕ) → tailVerdict dc u ≡ Accepted → Tail dc u
 unfolding tailVerdict
 accepted-tail dc u e =
-    let fixed = andThen-accepted _ _ e in
-    let footer = andThen-accepted _ _ (fixed .1) in
-    let total = andThen-accepted _ _ (footer .1) in
-    record { fixed = fixed .0; footer = equal-accepted _ _ _ _ (footer .0); total = equal-accepted _ _ _ _ (total .0) }
+    let fixed = accepted-andThen _ _ e in
+    let footer = accepted-andThen _ _ (fixed .1) in
+    let total = accepted-andThen _ _ (footer .1) in
+    record { fixed = fixed .0; footer = accepted-equal _ _ _ _ (footer .0); total = accepted-equal _ _ _ _ (total .0) }

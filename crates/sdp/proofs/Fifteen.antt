@@ -17,7 +17,7 @@ use Rattle.refusal.specs.declared.Excess.the-variants.{SlotMark, SlotLine, Slot
 use Rattle.refusal.specs.declared.Item.the-variants.{Whole}
 use Rattle.refusal.specs.Numbers.{refusalOf}
 use Rattle.refusal.specs.Checks.{refuseIf, andThen, first}
-use Rattle.refusal.proofs.Checks.{refuseIf-accepted, within-accepted, andThen-accepted, andThen-assoc, andThen-last}
+use Rattle.refusal.proofs.Checks.{accepted-refuseIf, accepted-within, accepted-andThen, andThen-assoc, andThen-last}
 use Rattle.refusal.proofs.Gives.{Gives, refuseIf-gives, andThen-gives, refused-gives}
 use Rattle.sdp.specs.Value.{SlotRow, descriptor, emptyRow, LegalLine, Row}
 use Rattle.sdp.specs.User.{lineVerdict}
@@ -50,17 +50,17 @@ slot-split x = simp (andThen-assoc, andThen-last)
 accepted-holdable : (x : SlotRow) → numbers x ≡ Accepted → Holdable x
 unfolding numbers
 accepted-holdable x e =
-    let mark = andThen-accepted _ _ e in
-    let line = andThen-accepted _ _ (mark .1) in
-    let reserved = andThen-accepted _ _ (line .1) in
-    let field = andThen-accepted _ _ (reserved .1) in
-    let writable = andThen-accepted _ _ (field .1) in
+    let mark = accepted-andThen _ _ e in
+    let line = accepted-andThen _ _ (mark .1) in
+    let reserved = accepted-andThen _ _ (line .1) in
+    let field = accepted-andThen _ _ (reserved .1) in
+    let writable = accepted-andThen _ _ (field .1) in
     record {
-      mark = within-accepted 1 (x .slot .full) _ _ (mark .0);
-      line = within-accepted 31 (x .slot .line) _ _ (line .0);
-      reserved = within-accepted 3 (x .slot .reserved) _ _ (reserved .0);
-      field = within-accepted 1 (x .slot .field .0) _ _ (field .0);
-      writable = refuseIf-accepted _ _ _ (writable .0);
+      mark = accepted-within 1 (x .slot .full) _ _ (mark .0);
+      line = accepted-within 31 (x .slot .line) _ _ (line .0);
+      reserved = accepted-within 3 (x .slot .reserved) _ _ (reserved .0);
+      field = accepted-within 1 (x .slot .field .0) _ _ (field .0);
+      writable = accepted-refuseIf _ _ _ (writable .0);
     }
 
 holdable-accepted : (x : SlotRow) → Holdable x → numbers x ≡ Accepted

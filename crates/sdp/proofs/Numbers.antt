@@ -13,7 +13,7 @@ use Rattle.lists.specs.Each.{Each}
 use Rattle.lists.proofs.Each.{each-map, each-both}
 use Rattle.refusal.specs.declared.Verdict.the-variants.{Accepted}
 use Rattle.refusal.specs.declared.Item.the-variants.{Whole}
-use Rattle.refusal.proofs.Checks.{refuseIf-accepted, andThen-accepted, each-accepted, accepted-each, within-accepted}
+use Rattle.refusal.proofs.Checks.{accepted-refuseIf, accepted-andThen, accepted-each, each-accepted, accepted-within}
 use Rattle.sdp.specs.declared.Slot.{Slot}
 use Rattle.sdp.specs.declared.Packet.{Packet}
 use Rattle.sdp.specs.Value.{SlotRow, Sdp, descriptor, zeros, together, emptyRow, LegalLine, FullSlot, LegalSlot, Legal, beside, held, Row, Typed}
@@ -75,20 +75,20 @@ pub accepted-slot : (x : SlotRow) → Row (x .row) → slotVerdict x ≡ Accepte
 unfolding slotVerdict
 accepted-slot x typed e =
     let s = x .slot in
-    let full = andThen-accepted _ _ e in
-    let line = andThen-accepted _ _ (full .1) in
-    let reserved = andThen-accepted _ _ (line .1) in
-    let field = andThen-accepted _ _ (reserved .1) in
-    let writable = andThen-accepted _ _ (field .1) in
-    let legal = andThen-accepted _ _ (writable .1) in
+    let full = accepted-andThen _ _ e in
+    let line = accepted-andThen _ _ (full .1) in
+    let reserved = accepted-andThen _ _ (line .1) in
+    let field = accepted-andThen _ _ (reserved .1) in
+    let writable = accepted-andThen _ _ (field .1) in
+    let legal = accepted-andThen _ _ (writable .1) in
     let small : Small s =
     record {
-      full = within-accepted 1 (s .full) _ _ (full .0);
-      line = within-accepted 31 (s .line) _ _ (line .0);
-      reserved = within-accepted 3 (s .reserved) _ _ (reserved .0);
-      field = within-accepted 1 (s .field .0) _ _ (field .0);
+      full = accepted-within 1 (s .full) _ _ (full .0);
+      line = accepted-within 31 (s .line) _ _ (line .0);
+      reserved = accepted-within 3 (s .reserved) _ _ (reserved .0);
+      field = accepted-within 1 (s .field .0) _ _ (field .0);
     } in
-    legal-marked x typed small (accepted-line Whole (s .line) (legal .0)) (s .full) refl (refuseIf-accepted _ _ _ (writable .0))
+    legal-marked x typed small (accepted-line Whole (s .line) (legal .0)) (s .full) refl (accepted-refuseIf _ _ _ (writable .0))
 
 empty-accepted : slotVerdict emptyRow ≡ Accepted
 unfolding slotVerdict lineVerdict
@@ -128,10 +128,10 @@ abbrev pub RowSlot : SlotRow → Type 0
 RowSlot x = Row (x .row)
 
 pub slots-accepted : (xs : List SlotRow) → Each LegalSlot xs → slotsVerdict xs ≡ Accepted
-slots-accepted xs h = accepted-each slotVerdict xs (each-map LegalSlot Passes slot-accepted xs h)
+slots-accepted xs h = each-accepted slotVerdict xs (each-map LegalSlot Passes slot-accepted xs h)
 
 pub accepted-slots : (xs : List SlotRow) → Each RowSlot xs → slotsVerdict xs ≡ Accepted → Each LegalSlot xs
-accepted-slots xs h e = each-both RowSlot Passes LegalSlot accepted-slot xs h (each-accepted slotVerdict xs e)
+accepted-slots xs h e = each-both RowSlot Passes LegalSlot accepted-slot xs h (accepted-each slotVerdict xs e)
 
 -- LENGTHS
 

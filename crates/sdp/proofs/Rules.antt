@@ -13,7 +13,7 @@ use Rattle.lists.proofs.Each.{each-at, each-take, each-drop}
 use Rattle.lists.proofs.Part.{length-part}
 use Rattle.lists.proofs.Sum.{sum-append}
 use Rattle.refusal.specs.declared.Verdict.the-variants.{Accepted}
-use Rattle.refusal.proofs.Checks.{accepted-andThen}
+use Rattle.refusal.proofs.Checks.{andThen-accepted}
 use Rattle.sdp.specs.Value.{SlotRow, Sdp, descriptor, Legal}
 use Rattle.sdp.specs.Layout.{descriptorsOf, count, structures, userLength, footer, body, sdpChecksum, userBytes}
 use Rattle.sdp.specs.User.{descriptorsVerdict, structuresVerdict, descriptorsIn, structuresIn, headVerdict, tailVerdict, userVerdict, slotsIn, counterIn, userValue}
@@ -102,7 +102,7 @@ module _ (v : Sdp) (h : Legal v) where
 
   -- they are let through,
   pub user-accepted : (dc : ℕ) → userVerdict dc (userBytes v) ≡ Accepted
-  user-accepted dc = accepted-andThen (headVerdict dc (userBytes v)) (tailVerdict dc (userBytes v)) (head-user dc) (tail-user dc)
+  user-accepted dc = andThen-accepted (headVerdict dc (userBytes v)) (tailVerdict dc (userBytes v)) (head-user dc) (tail-user dc)
 
   -- and hold the value
   pub value-user : userValue (userBytes v) ≡ v

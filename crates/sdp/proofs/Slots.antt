@@ -13,7 +13,7 @@ use Rattle.lists.specs.Bytes.{Bytes}
 use Rattle.refusal.specs.declared.Verdict.the-variants.{Accepted}
 use Rattle.refusal.specs.declared.Item.{Item}
 use Rattle.refusal.specs.declared.Item.the-variants.{Word}
-use Rattle.refusal.proofs.Checks.{refuseIf-accepted, accepted-andThen}
+use Rattle.refusal.proofs.Checks.{accepted-refuseIf, andThen-accepted}
 use Rattle.sdp.specs.Value.{SlotRow, descriptor, empty, LegalLine, FullSlot, LegalSlot}
 use Rattle.sdp.specs.Layout.{descriptorsOf}
 use Rattle.sdp.specs.User.{lineVerdict, descriptorsVerdict, markOf, slotOf}
@@ -29,7 +29,7 @@ accepted-line item zero e = inl refl
 accepted-line item (suc m) e =
     let some : 0 < suc m = omega arith in
     let both : (ltb (suc m) 6 || ltb 22 (suc m)) ≡ false =
-    sym (ap (λ (b : Bool). b && (ltb (suc m) 6 || ltb 22 (suc m))) (lt-ltb 0 (suc m) some)) ∙ refuseIf-accepted _ _ _ e in
+    sym (ap (λ (b : Bool). b && (ltb (suc m) 6 || ltb 22 (suc m))) (lt-ltb 0 (suc m) some)) ∙ accepted-refuseIf _ _ _ e in
     let each = or-false-both (ltb (suc m) 6) (ltb 22 (suc m)) both in
     inr (ltb-false (suc m) 6 (each .0), ltb-false 22 (suc m) (each .1))
 
@@ -104,4 +104,4 @@ legal-line x h = ⊎-elim (λ e. subst (λ (y : SlotRow). LegalLine (descriptor 
 pub lines-accepted : (at : ℕ) (xs : List SlotRow) → Each LegalSlot xs → descriptorsVerdict at (descriptorsOf xs) ≡ Accepted
 lines-accepted at [] h = refl
 lines-accepted at (x ∷ xs) h =
-    accepted-andThen _ _ (line-accepted (Word at) (descriptor (x .slot) % 32) (legal-line x (h .0))) (lines-accepted (suc at) xs (h .1))
+    andThen-accepted _ _ (line-accepted (Word at) (descriptor (x .slot) % 32) (legal-line x (h .0))) (lines-accepted (suc at) xs (h .1))

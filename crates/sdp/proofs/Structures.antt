@@ -12,7 +12,7 @@ use Rattle.lists.specs.Bytes.{Bytes}
 use Rattle.lists.proofs.Each.{each-take, each-drop}
 use Rattle.refusal.specs.declared.Verdict.the-variants.{Accepted}
 use Rattle.refusal.specs.declared.Item.the-variants.{Word}
-use Rattle.refusal.proofs.Checks.{andThen-accepted, equal-accepted}
+use Rattle.refusal.proofs.Checks.{accepted-andThen, accepted-equal}
 use Rattle.sdp.specs.Value.{SlotRow, together, descriptor, zeros, FullSlot, LegalSlot}
 use Rattle.sdp.specs.Layout.{descriptorsOf, count, structure, structures}
 use Rattle.sdp.specs.User.{lineVerdict, descriptorsVerdict, structureVerdict, structuresVerdict, slotOf, rowIn, behind, slotsIn}
@@ -100,12 +100,12 @@ begins at [] h e = let f : ⊥ = omega arith in absurd f
 begins at (a ∷ []) h e = let f : ⊥ = omega arith in absurd f
 begins at (a ∷ b ∷ []) h e = let f : ⊥ = omega arith in absurd f
 begins at (a ∷ b ∷ c ∷ u) h e =
-    let one = andThen-accepted _ _ e in
-    let two = andThen-accepted _ _ (one .1) in
-    let three = andThen-accepted _ _ (two .1) in
-    let first : a ≡ 0x55 = equal-accepted a 0x55 _ _ (one .0) in
-    let second : b ≡ 0x55 = equal-accepted b 0x55 _ _ (two .0) in
-    let third : c ≡ 0x27 = equal-accepted c 0x27 _ _ (three .0) in
+    let one = accepted-andThen _ _ e in
+    let two = accepted-andThen _ _ (one .1) in
+    let three = accepted-andThen _ _ (two .1) in
+    let first : a ≡ 0x55 = accepted-equal a 0x55 _ _ (one .0) in
+    let second : b ≡ 0x55 = accepted-equal b 0x55 _ _ (two .0) in
+    let third : c ≡ 0x27 = accepted-equal c 0x27 _ _ (three .0) in
     λ i. first i ∷ second i ∷ third i ∷ u
 
 -- the structure of a descriptor that is not 0, and what stands behind it
@@ -133,10 +133,10 @@ pub structures-laid : (at item : ℕ) (ds u : List ℕ) → Bytes ds → Bytes u
     → structuresVerdict at (count ds) u ≡ Accepted → 45 * count ds ≤ length u → Laid ds u
 structures-laid at item [] u hd hu lines fixed long = record { legal = tt; same = refl; told = refl }
 structures-laid at item (zero ∷ ds) u hd hu lines fixed long =
-    laid-empty ds u (structures-laid at (suc item) ds u (hd .1) hu (andThen-accepted (lineVerdict (Word item) 0) (descriptorsVerdict (suc item) ds) lines .1) fixed long)
+    laid-empty ds u (structures-laid at (suc item) ds u (hd .1) hu (accepted-andThen (lineVerdict (Word item) 0) (descriptorsVerdict (suc item) ds) lines .1) fixed long)
 structures-laid at item (suc d ∷ ds) u hd hu lines fixed long =
-    let line = andThen-accepted (lineVerdict (Word item) (suc d % 32)) (descriptorsVerdict (suc item) ds) lines in
-    let now = andThen-accepted (structureVerdict at u) (structuresVerdict (at + 45) (count ds) (drop 45 u)) fixed in
+    let line = accepted-andThen (lineVerdict (Word item) (suc d % 32)) (descriptorsVerdict (suc item) ds) lines in
+    let now = accepted-andThen (structureVerdict at u) (structuresVerdict (at + 45) (count ds) (drop 45 u)) fixed in
     let far : 45 + 45 * count ds ≤ length u = omega arith in
     let left : 45 * count ds ≤ length (drop 45 u) = omega (arith, length-drop 45 u) in
     let more = structures-laid (at + 45) (suc item) ds (drop 45 u) (hd .1) (each-drop (λ (b : ℕ). b < 256) 45 u hu) (line .1) (now .1) left in

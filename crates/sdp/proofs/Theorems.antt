@@ -17,7 +17,7 @@ use Rattle.refusal.specs.declared.Verdict.{Verdict}
 use Rattle.refusal.specs.declared.Verdict.the-variants.{Accepted}
 use Rattle.refusal.specs.Numbers.{refusalOf}
 use Rattle.refusal.specs.Checks.{first}
-use Rattle.refusal.proofs.Checks.{andThen-accepted}
+use Rattle.refusal.proofs.Checks.{accepted-andThen}
 use Rattle.anc.specs.Words.{byteOf}
 use Rattle.sdp.specs.declared.Slot.{Slot}
 use Rattle.sdp.specs.declared.Packet.{Packet}
@@ -41,7 +41,7 @@ refused number = record { number = number; place = 0 }
 
 users : (dc : ℕ) (u : List ℕ) → Bytes u → userVerdict dc u ≡ Accepted → Users u
 users dc u bytes e =
-    let both = andThen-accepted (headVerdict dc u) (tailVerdict dc u) e in
+    let both = accepted-andThen (headVerdict dc u) (tailVerdict dc u) e in
     user-back dc u bytes (accepted-head dc u (both .0)) (accepted-tail dc u (both .1))
 
 -- User bytes are accepted exactly when they are those of some legal value.

@@ -5,7 +5,7 @@ use mathlib.Core.Path.{_≡_}
 use mathlib.Core.List.{List}
 use lib.ListN.{length, getD}
 use Rattle.refusal.specs.declared.Verdict.the-variants.{Accepted}
-use Rattle.refusal.proofs.Checks.{andThen-accepted, equal-accepted, within-accepted}
+use Rattle.refusal.proofs.Checks.{accepted-andThen, accepted-equal, accepted-within}
 use Rattle.anc.specs.Words.{wordsVerdict, sumVerdict, checksumOf}
 use Rattle.sdp.specs.User.{headVerdict, tailVerdict}
 use Rattle.sdp.proofs.Accepted.{Head, accepted-head, Tail, accepted-tail}
@@ -24,19 +24,19 @@ pub record Form (s : List ℕ) : Type 0 where
 pub accepted-form : (s : List ℕ) → formVerdict s ≡ Accepted → Form s
 unfolding formVerdict
 accepted-form s e =
-    let short = andThen-accepted _ _ e in
-    let long = andThen-accepted _ _ (short .1) in
-    let flag0 = andThen-accepted _ _ (long .1) in
-    let flag1 = andThen-accepted _ _ (flag0 .1) in
-    let flag2 = andThen-accepted _ _ (flag1 .1) in
-    let words = andThen-accepted _ _ (flag2 .1) in
-    let last = andThen-accepted _ _ (words .1) in
+    let short = accepted-andThen _ _ e in
+    let long = accepted-andThen _ _ (short .1) in
+    let flag0 = accepted-andThen _ _ (long .1) in
+    let flag1 = accepted-andThen _ _ (flag0 .1) in
+    let flag2 = accepted-andThen _ _ (flag1 .1) in
+    let words = accepted-andThen _ _ (flag2 .1) in
+    let last = accepted-andThen _ _ (words .1) in
     record {
-      short = within-accepted _ _ _ _ (short .0);
-      long = within-accepted _ _ _ _ (long .0);
-      flag0 = equal-accepted _ _ _ _ (flag0 .0);
-      flag1 = equal-accepted _ _ _ _ (flag1 .0);
-      flag2 = equal-accepted _ _ _ _ (flag2 .0);
+      short = accepted-within _ _ _ _ (short .0);
+      long = accepted-within _ _ _ _ (long .0);
+      flag0 = accepted-equal _ _ _ _ (flag0 .0);
+      flag1 = accepted-equal _ _ _ _ (flag1 .0);
+      flag2 = accepted-equal _ _ _ _ (flag2 .0);
       words = words .0;
       last = last .0;
     }
@@ -50,14 +50,14 @@ pub record Header (s : List ℕ) : Type 0 where
 pub accepted-header : (s : List ℕ) → headerVerdict s ≡ Accepted → Header s
 unfolding headerVerdict
 accepted-header s e =
-    let did = andThen-accepted _ _ e in
-    let sdid = andThen-accepted _ _ (did .1) in
-    let dc = andThen-accepted _ _ (sdid .1) in
-    record { did = equal-accepted _ _ _ _ (did .0); sdid = equal-accepted _ _ _ _ (sdid .0); dc = equal-accepted _ _ _ _ (dc .0) }
+    let did = accepted-andThen _ _ e in
+    let sdid = accepted-andThen _ _ (did .1) in
+    let dc = accepted-andThen _ _ (sdid .1) in
+    record { did = accepted-equal _ _ _ _ (did .0); sdid = accepted-equal _ _ _ _ (sdid .0); dc = accepted-equal _ _ _ _ (dc .0) }
 
 pub accepted-checksum : (s : List ℕ) → checksumVerdict s ≡ Accepted → lastOf s ≡ checksumOf (coveredIn s)
 unfolding checksumVerdict
-accepted-checksum s e = equal-accepted _ _ _ _ e
+accepted-checksum s e = accepted-equal _ _ _ _ e
 
 -- the whole packet
 pub record Whole (s : List ℕ) : Type 0 where
@@ -70,11 +70,11 @@ pub record Whole (s : List ℕ) : Type 0 where
 pub accepted-packet : (s : List ℕ) → packetVerdict s ≡ Accepted → Whole s
 unfolding packetVerdict
 accepted-packet s e =
-    let form = andThen-accepted _ _ e in
-    let header = andThen-accepted _ _ (form .1) in
-    let user = andThen-accepted _ _ (header .1) in
-    let checksum = andThen-accepted _ _ (user .1) in
-    let both = andThen-accepted (headVerdict 5 (userIn s)) (tailVerdict 5 (userIn s)) (user .0) in
+    let form = accepted-andThen _ _ e in
+    let header = accepted-andThen _ _ (form .1) in
+    let user = accepted-andThen _ _ (header .1) in
+    let checksum = accepted-andThen _ _ (user .1) in
+    let both = accepted-andThen (headVerdict 5 (userIn s)) (tailVerdict 5 (userIn s)) (user .0) in
     record {
       form = accepted-form s (form .0);
       header = accepted-header s (header .0);

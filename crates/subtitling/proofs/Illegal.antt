@@ -15,7 +15,7 @@ use Rattle.refusal.specs.declared.Excess.the-variants.{Counter, SlotMark, SlotL
 use Rattle.refusal.specs.declared.Item.the-variants.{Whole}
 use Rattle.refusal.specs.Numbers.{refusalOf}
 use Rattle.refusal.specs.Checks.{refuseIf, andThen, first, fitVerdict}
-use Rattle.refusal.proofs.Checks.{andThen-accepted, andThen-assoc, within-accepted}
+use Rattle.refusal.proofs.Checks.{accepted-andThen, andThen-assoc, accepted-within}
 use Rattle.refusal.proofs.Gives.{Gives, refuseIf-gives, andThen-gives, each-gives, refused-gives}
 use Rattle.sdp.specs.declared.Packet.{Packet}
 use Rattle.sdp.specs.Value.{SlotRow, Sdp, Typed, Legal, descriptor, held}
@@ -60,7 +60,7 @@ illegal-15-or-7 p rows room t h =
     let v = held p rows in
     let refused : andThen (counted v) (slotsVerdict (v .slots)) ≡ Accepted → ⊥ =
     λ e.
-    let both = andThen-accepted (counted v) (slotsVerdict (v .slots)) e in
-    h (legal-held p rows t (within-accepted 65535 (p .counter) _ _ (both .0)) (both .1)) in
+    let both = accepted-andThen (counted v) (slotsVerdict (v .slots)) e in
+    h (legal-held p rows t (accepted-within 65535 (p .counter) _ _ (both .0)) (both .1)) in
     subst (λ (verdict : Verdict). Is15or7 (refusalOf verdict)) (sym (value-first v room))
     (refused-gives Is15or7 (andThen (counted v) (slotsVerdict (v .slots))) (rest v room) (value-gives v) refused)

@@ -7,7 +7,7 @@ use mathlib.Core.List.{List}
 use borrow.Author.Tests.{le-ltb}
 use lib.ListN.{length, length-append, length-map}
 use Rattle.refusal.specs.declared.Verdict.the-variants.{Accepted}
-use Rattle.refusal.proofs.Checks.{andThen-accepted, within-accepted, fit-accepted}
+use Rattle.refusal.proofs.Checks.{accepted-andThen, accepted-within, accepted-fit}
 use Rattle.sdp.specs.Value.{Sdp, Legal}
 use Rattle.sdp.specs.Layout.{descriptorsOf, count, userBytes}
 use Rattle.sdp.proofs.Numbers.{Shaped, legal-shaped, length-user-shaped}
@@ -36,11 +36,11 @@ pub record Writable (v : Sdp) (room : ℕ) : Type 0 where
 pub accepted-value : (v : Sdp) (room : ℕ) → valueVerdict v room ≡ Accepted → Writable v room
 unfolding valueVerdict
 accepted-value v room e =
-    let count = andThen-accepted _ _ e in
-    let slots = andThen-accepted _ _ (count .1) in
-    let fit = fit-accepted 245 (length (layout v)) room (andThen-accepted _ _ (slots .1) .0) in
+    let count = accepted-andThen _ _ e in
+    let slots = accepted-andThen _ _ (count .1) in
+    let fit = accepted-fit 245 (length (layout v)) room (accepted-andThen _ _ (slots .1) .0) in
     record {
-      few = within-accepted 65535 (v .counter) _ _ (count .0);
+      few = accepted-within 65535 (v .counter) _ _ (count .0);
       each = slots .0;
       short = fit .0;
       fits = fit .1;

@@ -13,7 +13,7 @@ use Rattle.lists.proofs.Part.{length-part}
 use Rattle.refusal.specs.declared.Verdict.{Verdict}
 use Rattle.refusal.specs.declared.Verdict.the-variants.{Accepted}
 use Rattle.refusal.specs.Checks.{andThen, first}
-use Rattle.refusal.proofs.Checks.{andThen-assoc, andThen-last, andThen-accepted, andThen-refused}
+use Rattle.refusal.proofs.Checks.{andThen-assoc, andThen-last, accepted-andThen, andThen-refused}
 use Rattle.refusal.proofs.Sequence.{first-append, andThen-agree, first-refused}
 use Rattle.anc.specs.Words.{byteOf}
 use Rattle.anc.proofs.Sequence.{words-order, sum-order}
@@ -55,7 +55,7 @@ reading-order s =
     let outer = andThen (formVerdict s) (headerVerdict s) in
     let inner = andThen (userVerdict 5 (userIn s)) (checksumVerdict s) in
     simp andThen-last (sym (andThen-assoc (formVerdict s) (headerVerdict s) inner))
-    ∙ andThen-agree outer inner (first (innerChecks s)) (λ e. reached (andThen-accepted (formVerdict s) (headerVerdict s) e))
+    ∙ andThen-agree outer inner (first (innerChecks s)) (λ e. reached (accepted-andThen (formVerdict s) (headerVerdict s) e))
     ∙ ap (λ (v : Verdict). andThen v (first (innerChecks s))) (outer-order s)
     ∙ sym (first-append (outerChecks s) (innerChecks s))
   where

@@ -36,17 +36,17 @@ noted-more seen span some (x ∷ xs) e =
     let more : length (x ∷ xs) + 1 ≡ length (x ∷ (xs ++ (span ∷ []))) = omega (arith, length-append xs (span ∷ [])) in
     ap (λ (t : Seen). made (t .count + 1) (t .unit) (t .end)) e ∙ ap (λ (n : ℕ). made n (x .unit) (x .end)) more
 
-pub told-none : (seen : Seen) → seen .count ≡ 0 → (spans : List Span) → seen ≡ seenOf spans → found.Nowhere ≡ foundOf Accepted spans
-told-none seen none [] e = refl
-told-none seen none (x ∷ xs) e = let f : ⊥ = omega (arith, count-seen seen (x ∷ xs) e) in absurd f
+pub seen-none : (seen : Seen) → seen .count ≡ 0 → (spans : List Span) → seen ≡ seenOf spans → found.Nowhere ≡ foundOf Accepted spans
+seen-none seen none [] e = refl
+seen-none seen none (x ∷ xs) e = let f : ⊥ = omega (arith, count-seen seen (x ∷ xs) e) in absurd f
 
-pub told-one : (seen : Seen) → seen .count ≡ 1 → (spans : List Span) → seen ≡ seenOf spans → found.At (seen .unit) (seen .end) ≡ foundOf Accepted spans
-told-one seen one [] e = let f : ⊥ = omega (arith, count-seen seen [] e) in absurd f
-told-one seen one (x ∷ []) e = ap (λ (t : Seen). found.At (t .unit) (t .end)) e
-told-one seen one (x ∷ y ∷ xs) e = let f : ⊥ = omega (arith, count-seen seen (x ∷ y ∷ xs) e) in absurd f
+pub seen-one : (seen : Seen) → seen .count ≡ 1 → (spans : List Span) → seen ≡ seenOf spans → found.At (seen .unit) (seen .end) ≡ foundOf Accepted spans
+seen-one seen one [] e = let f : ⊥ = omega (arith, count-seen seen [] e) in absurd f
+seen-one seen one (x ∷ []) e = ap (λ (t : Seen). found.At (t .unit) (t .end)) e
+seen-one seen one (x ∷ y ∷ xs) e = let f : ⊥ = omega (arith, count-seen seen (x ∷ y ∷ xs) e) in absurd f
 
-pub told-many : (seen : Seen) → (seen .count ≡ 0 → ⊥) → (seen .count ≡ 1 → ⊥) → (spans : List Span) → seen ≡ seenOf spans
+pub seen-many : (seen : Seen) → (seen .count ≡ 0 → ⊥) → (seen .count ≡ 1 → ⊥) → (spans : List Span) → seen ≡ seenOf spans
     → found.Many (seen .count) ≡ foundOf Accepted spans
-told-many seen some more [] e = absurd (some (count-seen seen [] e))
-told-many seen some more (x ∷ []) e = absurd (more (count-seen seen (x ∷ []) e))
-told-many seen some more (x ∷ y ∷ xs) e = ap found.Many (count-seen seen (x ∷ y ∷ xs) e)
+seen-many seen some more [] e = absurd (some (count-seen seen [] e))
+seen-many seen some more (x ∷ []) e = absurd (more (count-seen seen (x ∷ []) e))
+seen-many seen some more (x ∷ y ∷ xs) e = ap found.Many (count-seen seen (x ∷ y ∷ xs) e)

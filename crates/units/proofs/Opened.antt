@@ -13,7 +13,7 @@ use Rattle.refusal.specs.declared.Verdict.the-variants.{Accepted, Refused}
 use Rattle.refusal.specs.declared.Reason.the-variants.{TooLong, NoStart}
 use Rattle.refusal.specs.declared.Item.the-variants.{Whole}
 use Rattle.refusal.specs.Checks.{refuseIf, andThen, first}
-use Rattle.refusal.proofs.Checks.{andThen-accepted, refuseIf-accepted, within-accepted}
+use Rattle.refusal.proofs.Checks.{accepted-andThen, accepted-refuseIf, accepted-within}
 use Rattle.units.specs.Layout.{prefixed}
 use Rattle.units.specs.Split.{opened, empty, frontVerdict}
 use Rattle.units.proofs.Reach.{first-other, second-other, third-other, three-here}
@@ -74,7 +74,7 @@ front-unopened (b ∷ s) h some e = ap₂ checked (le-ltb 16384 (length (b ∷ s
 -- a front that is accepted is short,
 pub accepted-short : (s : List ℕ) → frontVerdict s ≡ Accepted → length s ≤ 16384
 unfolding frontVerdict
-accepted-short s e = within-accepted 16384 (length s) TooLong Whole (andThen-accepted (refuseIf (ltb 16384 (length s)) TooLong Whole) _ e .0)
+accepted-short s e = accepted-within 16384 (length s) TooLong Whole (accepted-andThen (refuseIf (ltb 16384 (length s)) TooLong Whole) _ e .0)
 
 -- and begins with 00 00 01 where it is not empty
 pub accepted-prefixed : (s : List ℕ) → frontVerdict s ≡ Accepted → 0 < length s → prefixed s ≡ true
@@ -82,6 +82,6 @@ unfolding frontVerdict
 accepted-prefixed [] e h = let f : ⊥ = omega arith in absurd f
 accepted-prefixed (b ∷ s) e h =
     let lacks = not (opened (b ∷ s)) in
-    let second = andThen-accepted (refuseIf (ltb 16384 (length (b ∷ s))) TooLong Whole) (andThen (refuseIf lacks NoStart Whole) Accepted) e .1 in
-    let opens = not-false (opened (b ∷ s)) (refuseIf-accepted lacks NoStart Whole (andThen-accepted (refuseIf lacks NoStart Whole) Accepted second .0)) in
+    let second = accepted-andThen (refuseIf (ltb 16384 (length (b ∷ s))) TooLong Whole) (andThen (refuseIf lacks NoStart Whole) Accepted) e .1 in
+    let opens = not-false (opened (b ∷ s)) (accepted-refuseIf lacks NoStart Whole (accepted-andThen (refuseIf lacks NoStart Whole) Accepted second .0)) in
     and-eq-true-iff (prefixed (b ∷ s)) (eqb (getD (b ∷ s) 3 0) 0xB2) .0 opens .0

@@ -133,5 +133,5 @@ next-pass s i h other = go (eqb (getD s (i + 2) 0) 1) refl
 pub passes : (s : List ℕ) (i r : ℕ) → 0 < r → nextOf s i ≡ nextOf s (i + r) → i + r ≤ length s → Passes s i r
 passes s i r some e h = record { here = λ z. let f : ⊥ = omega arith in absurd f; ahead = λ n. e; within = h }
 
-pub stays : (s : List ℕ) (i : ℕ) → prefixed (drop i s) ≡ true → i ≤ length s → Passes s i 0
-stays s i e h = record { here = λ z. e; ahead = λ n. let f : ⊥ = omega arith in absurd f; within = omega arith }
+pub passes-none : (s : List ℕ) (i : ℕ) → prefixed (drop i s) ≡ true → i ≤ length s → Passes s i 0
+passes-none s i e h = record { here = λ z. e; ahead = λ n. let f : ⊥ = omega arith in absurd f; within = omega arith }

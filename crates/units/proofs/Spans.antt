@@ -26,41 +26,41 @@ never e = let f : ⊥ = omega arith in absurd f
 
 -- WHAT AN ANSWER TELLS
 
-told-nowhere : (verdict : Verdict) (spans : List Span) → foundOf verdict spans ≡ found.Nowhere → (verdict ≡ Accepted) × (spans ≡ [])
-told-nowhere (Refused reason item) spans e = never (cc)
-told-nowhere Accepted [] e = (refl, refl)
-told-nowhere Accepted (span ∷ []) e = never (cc)
-told-nowhere Accepted (span ∷ next ∷ spans) e = never (cc)
+foundOf-nowhere : (verdict : Verdict) (spans : List Span) → foundOf verdict spans ≡ found.Nowhere → (verdict ≡ Accepted) × (spans ≡ [])
+foundOf-nowhere (Refused reason item) spans e = never (cc)
+foundOf-nowhere Accepted [] e = (refl, refl)
+foundOf-nowhere Accepted (span ∷ []) e = never (cc)
+foundOf-nowhere Accepted (span ∷ next ∷ spans) e = never (cc)
 
-told-at : (verdict : Verdict) (spans : List Span) (unit end : ℕ) → foundOf verdict spans ≡ found.At unit end
+foundOf-at : (verdict : Verdict) (spans : List Span) (unit end : ℕ) → foundOf verdict spans ≡ found.At unit end
     → (verdict ≡ Accepted) × (spans ≡ record { unit = unit; end = end } ∷ [])
-told-at (Refused reason item) spans unit end e = never (cc)
-told-at Accepted [] unit end e = never (cc)
-told-at Accepted (span ∷ []) unit end e =
+foundOf-at (Refused reason item) spans unit end e = never (cc)
+foundOf-at Accepted [] unit end e = never (cc)
+foundOf-at Accepted (span ∷ []) unit end e =
     let first : span .unit ≡ unit = cc in
     let behind : span .end ≡ end = cc in
     (refl, λ i. record { unit = first i; end = behind i } ∷ [])
-told-at Accepted (span ∷ next ∷ spans) unit end e = never (cc)
+foundOf-at Accepted (span ∷ next ∷ spans) unit end e = never (cc)
 
-told-many : (verdict : Verdict) (spans : List Span) (k : ℕ) → foundOf verdict spans ≡ found.Many k → (verdict ≡ Accepted) × (2 ≤ k) × (k ≡ length spans)
-told-many (Refused reason item) spans k e = never (cc)
-told-many Accepted [] k e = never (cc)
-told-many Accepted (span ∷ []) k e = never (cc)
-told-many Accepted (span ∷ next ∷ spans) k e =
+foundOf-many : (verdict : Verdict) (spans : List Span) (k : ℕ) → foundOf verdict spans ≡ found.Many k → (verdict ≡ Accepted) × (2 ≤ k) × (k ≡ length spans)
+foundOf-many (Refused reason item) spans k e = never (cc)
+foundOf-many Accepted [] k e = never (cc)
+foundOf-many Accepted (span ∷ []) k e = never (cc)
+foundOf-many Accepted (span ∷ next ∷ spans) k e =
     let many : length (span ∷ next ∷ spans) ≡ k = cc in
     (refl, omega arith, sym many)
 
-many-told : (spans : List Span) → 2 ≤ length spans → foundOf Accepted spans ≡ found.Many (length spans)
-many-told [] h = let f : ⊥ = omega arith in absurd f
-many-told (span ∷ []) h = let f : ⊥ = omega arith in absurd f
-many-told (span ∷ next ∷ spans) h = refl
+many-found : (spans : List Span) → 2 ≤ length spans → foundOf Accepted spans ≡ found.Many (length spans)
+many-found [] h = let f : ⊥ = omega arith in absurd f
+many-found (span ∷ []) h = let f : ⊥ = omega arith in absurd f
+many-found (span ∷ next ∷ spans) h = refl
 
-told-refused : (verdict : Verdict) (spans : List Span) (reason : Reason) (item : Item) → foundOf verdict spans ≡ found.Refused reason item
+foundOf-refused : (verdict : Verdict) (spans : List Span) (reason : Reason) (item : Item) → foundOf verdict spans ≡ found.NotUnits reason item
     → verdict ≡ Refused reason item
-told-refused (Refused why what) spans reason item e = cc
-told-refused Accepted [] reason item e = never (cc)
-told-refused Accepted (span ∷ []) reason item e = never (cc)
-told-refused Accepted (span ∷ next ∷ spans) reason item e = never (cc)
+foundOf-refused (Refused why what) spans reason item e = cc
+foundOf-refused Accepted [] reason item e = never (cc)
+foundOf-refused Accepted (span ∷ []) reason item e = never (cc)
+foundOf-refused Accepted (span ∷ next ∷ spans) reason item e = never (cc)
 
 -- THE SPANS OF UNITS
 
@@ -188,9 +188,9 @@ pub nowhere-exactly : (ours : List ℕ → Bool) (s : List ℕ) → scanOf ours 
     ↔ ((bodies : List (List ℕ)) × Each Clean bodies × Each (λ (b : List ℕ). ours b ≡ false) bodies × (length s ≤ 16384) × (layout bodies ≡ s))
 nowhere-exactly ours s = (
   λ e.
-      let told = told-nowhere (splitVerdict s) (spansOf ours 0 (cutOf s .pieces)) e in
-      let foreign = none-spans ours 0 (bodiesOf s) (sym (scan-split ours s (told .0)) ∙ told .1) in
-      (bodiesOf s, split-clean s (told .0), foreign, split-short s (told .0), split-layout s (told .0)),
+      let verdict-told = foundOf-nowhere (splitVerdict s) (spansOf ours 0 (cutOf s .pieces)) e in
+      let foreign = none-spans ours 0 (bodiesOf s) (sym (scan-split ours s (verdict-told .0)) ∙ verdict-told .1) in
+      (bodiesOf s, split-clean s (verdict-told .0), foreign, split-short s (verdict-told .0), split-layout s (verdict-told .0)),
   λ w.
       let short : length (layout (w .0)) ≤ 16384 = omega (arith, w .3, ap length (w .4)) in
       ap (λ (t : List ℕ). scanOf ours t) (sym (w .4))
@@ -229,10 +229,10 @@ part-body before body after unit end starts ends =
 -- One unit of the kind is told only in such an area,
 pub found-at : (ours : List ℕ → Bool) (s : List ℕ) (unit end : ℕ) → scanOf ours s ≡ found.At unit end → Alone ours s unit end
 found-at ours s unit end e =
-    let told = told-at (splitVerdict s) (spansOf ours 0 (cutOf s .pieces)) unit end e in
-    let only = only-spans ours 0 (bodiesOf s) (record { unit = unit; end = end }) (sym (scan-split ours s (told .0)) ∙ told .1) in
-    let whole : layout (only .before ++ (only .body ∷ only .after)) ≡ s = ap layout (only .whole) ∙ split-layout s (told .0) in
-    let clean = append-each Clean (only .before) (only .body ∷ only .after) (subst (λ (bodies : List (List ℕ)). Each Clean bodies) (sym (only .whole)) (split-clean s (told .0))) in
+    let verdict-told = foundOf-at (splitVerdict s) (spansOf ours 0 (cutOf s .pieces)) unit end e in
+    let only = only-spans ours 0 (bodiesOf s) (record { unit = unit; end = end }) (sym (scan-split ours s (verdict-told .0)) ∙ verdict-told .1) in
+    let whole : layout (only .before ++ (only .body ∷ only .after)) ≡ s = ap layout (only .whole) ∙ split-layout s (verdict-told .0) in
+    let clean = append-each Clean (only .before) (only .body ∷ only .after) (subst (λ (bodies : List (List ℕ)). Each Clean bodies) (sym (only .whole)) (split-clean s (verdict-told .0))) in
     let starts : unit ≡ length (layout (only .before)) = omega (arith, only .starts) in
     record {
       before = only .before;
@@ -244,7 +244,7 @@ found-at ours s unit end e =
       foreign-before = only .foreign-before;
       foreign-after = only .foreign-after;
       mine = only .mine;
-      short = split-short s (told .0);
+      short = split-short s (verdict-told .0);
       whole = whole;
       starts = starts;
       ends = only .ends;
@@ -273,19 +273,19 @@ length-scan ours s e = ap length (scan-split ours s e) ∙ length-spans ours 0 (
 pub many-second : (ours : List ℕ → Bool) (s : List ℕ) (k : ℕ) → scanOf ours s ≡ found.Many k
     → (2 ≤ k) × (k ≡ count ours (bodiesOf s)) × (splitVerdict s ≡ Accepted)
 many-second ours s k e =
-    let told = told-many (splitVerdict s) (spansOf ours 0 (cutOf s .pieces)) k e in
-    (told .1, told .2 ∙ length-scan ours s (told .0), told .0)
+    let verdict-told = foundOf-many (splitVerdict s) (spansOf ours 0 (cutOf s .pieces)) k e in
+    (verdict-told .1, verdict-told .2 ∙ length-scan ours s (verdict-told .0), verdict-told .0)
 
 -- and where there are several the answer says so.
 pub second-many : (ours : List ℕ → Bool) (s : List ℕ) → splitVerdict s ≡ Accepted → 2 ≤ count ours (bodiesOf s) → scanOf ours s ≡ found.Many (count ours (bodiesOf s))
 second-many ours s e h =
     let spans = spansOf ours 0 (cutOf s .pieces) in
     let counted : length spans ≡ count ours (bodiesOf s) = length-scan ours s e in
-    ap (λ (verdict : Verdict). foundOf verdict spans) e ∙ many-told spans (omega arith) ∙ ap (λ (k : ℕ). found.Many k) counted
+    ap (λ (verdict : Verdict). foundOf verdict spans) e ∙ many-found spans (omega arith) ∙ ap (λ (k : ℕ). found.Many k) counted
 
 -- What is no list of units is refused as the split refuses it.
-pub refused-split : (ours : List ℕ → Bool) (s : List ℕ) (reason : Reason) (item : Item) → scanOf ours s ≡ found.Refused reason item ↔ splitVerdict s ≡ Refused reason item
+pub refused-split : (ours : List ℕ → Bool) (s : List ℕ) (reason : Reason) (item : Item) → scanOf ours s ≡ found.NotUnits reason item ↔ splitVerdict s ≡ Refused reason item
 refused-split ours s reason item = (
-  λ e. told-refused (splitVerdict s) (spansOf ours 0 (cutOf s .pieces)) reason item e,
+  λ e. foundOf-refused (splitVerdict s) (spansOf ours 0 (cutOf s .pieces)) reason item e,
   λ e. ap (λ (verdict : Verdict). foundOf verdict (spansOf ours 0 (cutOf s .pieces))) e,
 )

@@ -16,7 +16,7 @@ use Rattle.refusal.specs.declared.Verdict.the-variants.{Accepted}
 use Rattle.refusal.specs.declared.Reason.the-variants.{TooLong, NoStart, StartCode}
 use Rattle.refusal.specs.declared.Item.the-variants.{Whole}
 use Rattle.refusal.specs.Checks.{refuseIf, andThen}
-use Rattle.refusal.proofs.Checks.{refuseIf-accepted, within-accepted, andThen-accepted}
+use Rattle.refusal.proofs.Checks.{accepted-refuseIf, accepted-within, accepted-andThen}
 use Rattle.units.specs.Layout.{prefixed, Clean, layoutUnit, layout}
 use Rattle.units.specs.Split.{Cut, cutAt, cutOf, opened, allOpened, empty, frontVerdict, splitVerdict, bodiesOf}
 use Rattle.units.proofs.Cuts.{prefixed-front, unprefixed-code, joined, cut-whole, cut-start, Piece, each-piece, piece-clean, cut-clean}
@@ -35,14 +35,14 @@ checked s e =
     let long = refuseIf (ltb 16384 (length s)) TooLong Whole in
     let unstarted = refuseIf (not (empty s) && not (opened s)) NoStart Whole in
     let code = refuseIf (not (allOpened (cutOf s .pieces))) StartCode Whole in
-    let both = andThen-accepted (andThen long (andThen unstarted Accepted)) (andThen code Accepted) e in
-    let front = andThen-accepted long (andThen unstarted Accepted) (both .0) in
-    let second = andThen-accepted unstarted Accepted (front .1) .0 in
-    let third = andThen-accepted code Accepted (both .1) .0 in
+    let both = accepted-andThen (andThen long (andThen unstarted Accepted)) (andThen code Accepted) e in
+    let front = accepted-andThen long (andThen unstarted Accepted) (both .0) in
+    let second = accepted-andThen unstarted Accepted (front .1) .0 in
+    let third = accepted-andThen code Accepted (both .1) .0 in
     record {
-      short = within-accepted 16384 (length s) TooLong Whole (front .0);
-      front = refuseIf-accepted (not (empty s) && not (opened s)) NoStart Whole second;
-      each = not-false (allOpened (cutOf s .pieces)) (refuseIf-accepted (not (allOpened (cutOf s .pieces))) StartCode Whole third);
+      short = accepted-within 16384 (length s) TooLong Whole (front .0);
+      front = accepted-refuseIf (not (empty s) && not (opened s)) NoStart Whole second;
+      each = not-false (allOpened (cutOf s .pieces)) (accepted-refuseIf (not (allOpened (cutOf s .pieces))) StartCode Whole third);
     }
 
 pub split-short : (s : List ℕ) → splitVerdict s ≡ Accepted → length s ≤ 16384
@@ -76,9 +76,9 @@ before-none (b ∷ s) e =
 
 pub split-layout : (s : List ℕ) → splitVerdict s ≡ Accepted → layout (bodiesOf s) ≡ s
 split-layout s e =
-    let told = checked s e in
-    pieces-layout (cutOf s .pieces) (told .each)
-    ∙ ap (λ (front : List ℕ). front ++ joined (cutOf s .pieces)) (sym (before-none s (told .front)))
+    let fine = checked s e in
+    pieces-layout (cutOf s .pieces) (fine .each)
+    ∙ ap (λ (front : List ℕ). front ++ joined (cutOf s .pieces)) (sym (before-none s (fine .front)))
     ∙ cut-whole s
 
 pieces-clean : (pieces : List (List ℕ)) → Each Piece pieces → Each Clean (map (λ (piece : List ℕ). drop 4 piece) pieces)

@@ -43,7 +43,7 @@ pub record Going (ours : List ℕ → Bool) (s : List ℕ) (seen : Seen) (at : �
   pub answers : scanOf ours s ≡ answer ours at (cutOf (drop at s) .pieces) spans
 
 -- where the front is refused the search answers so
-pub front-refused : (ours : List ℕ → Bool) (s : List ℕ) (reason : Reason) (item : Item) → frontVerdict s ≡ Refused reason item → scanOf ours s ≡ found.Refused reason item
+pub front-refused : (ours : List ℕ → Bool) (s : List ℕ) (reason : Reason) (item : Item) → frontVerdict s ≡ Refused reason item → scanOf ours s ≡ found.NotUnits reason item
 unfolding splitVerdict
 front-refused ours s reason item e =
     ap
@@ -71,7 +71,7 @@ module _ {ours : List ℕ → Bool} {s : List ℕ} {seen : Seen} {at : ℕ} (goi
   room more = omega (arith, count-seen seen (going .spans) (going .kept), going .few, going .short)
 
   -- 00 00 01 without B2
-  pub refused : at < length s → (getD s (at + 3) 0 ≡ 0xB2 → ⊥) → scanOf ours s ≡ found.Refused StartCode Whole
+  pub refused : at < length s → (getD s (at + 3) 0 ≡ 0xB2 → ⊥) → scanOf ours s ≡ found.NotUnits StartCode Whole
   refused more other =
       let pieces = cutOf (drop at s) .pieces in
       going .answers

@@ -75,7 +75,7 @@ spansOf ours at (piece ∷ pieces) =
     putIf (ours (drop 4 piece)) (record { unit = at; end = at + length piece }) (spansOf ours (at + length piece) pieces)
 
 abbrev pub foundOf : Verdict → List Span → Found
-foundOf (Refused reason item) spans = found.Refused reason item
+foundOf (Refused reason item) spans = found.NotUnits reason item
 foundOf Accepted [] = found.Nowhere
 foundOf Accepted (span ∷ []) = found.At (span .unit) (span .end)
 foundOf Accepted (span ∷ next ∷ spans) = found.Many (length (span ∷ next ∷ spans))

@@ -26,7 +26,7 @@ const BLOCK: usize = 64;
 // What the search for the units of one kind found.
 pub enum Found {
     // The area is no list of units: 1, 2 or 3.
-    Refused(Reason, Item),
+    NotUnits(Reason, Item),
     Nowhere,
     // One unit: its first byte, and the first behind it.
     At { unit: usize, end: usize },
@@ -53,7 +53,7 @@ pub fn scan(s: &[u8], kind: Kind) -> Found
 {
     let front = judge_front(s);
     if let Verdict::Refused(reason, item) = front {
-        return Found::Refused(reason, item);
+        return Found::NotUnits(reason, item);
     }
     let mut seen = Seen {
         count: 0,
@@ -64,10 +64,10 @@ pub fn scan(s: &[u8], kind: Kind) -> Found
     'units: while at < s.len() {
         // 00 00 01 stands at `at`.
         if s.len() - at < START_BYTES {
-            return Found::Refused(Reason::StartCode, Item::Whole);
+            return Found::NotUnits(Reason::StartCode, Item::Whole);
         }
         if s[at + 3] != USER_DATA {
-            return Found::Refused(Reason::StartCode, Item::Whole);
+            return Found::NotUnits(Reason::StartCode, Item::Whole);
         }
         let body = at + START_BYTES;
         let mut next = s.len();
@@ -90,7 +90,7 @@ pub fn scan(s: &[u8], kind: Kind) -> Found
         }
         seen = noted(seen, unit, next);
     }
-    told(seen)
+    found_in(seen)
 }
 
 // 1 and 2.
@@ -140,7 +140,7 @@ fn noted(seen: Seen, unit: usize, end: usize) -> Seen
     }
 }
 
-fn told(seen: Seen) -> Found
+fn found_in(seen: Seen) -> Found
     ensures { λ r. ⌜ Tells seen r ⌝ }
 {
     if seen.count == 0 {

@@ -7,6 +7,6 @@ use Rattle.vectors.specs.declared.tally.Tally.{Tally}
 abbrev pub oneMore : ℕ → ℕ
 oneMore n = min (n + 1) 18446744073709551615
 
-abbrev pub countedOf : Tally → Bool → Tally
-countedOf t true = record { ran = oneMore (t .ran); differ = oneMore (t .differ) }
-countedOf t false = record { ran = oneMore (t .ran); differ = t .differ }
+abbrev pub talliedOf : Tally → Bool → Tally
+talliedOf t true = record { ran = oneMore (t .ran); differ = oneMore (t .differ) }
+talliedOf t false = record { ran = oneMore (t .ran); differ = t .differ }

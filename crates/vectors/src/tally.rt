@@ -1,6 +1,6 @@
 // Counting vectors, and saying what became of them.
 ghost use mathlib.Core.Path.{_≡_};
-ghost use Rattle.vectors.specs.Tallies.{countedOf, oneMore};
+ghost use Rattle.vectors.specs.Tallies.{talliedOf, oneMore};
 use crate::line::field;
 
 // How many vectors ran, and how many of them differed.
@@ -17,7 +17,7 @@ pub fn none() -> Tally
 
 // A tally after one more vector.
 pub fn counted(t: Tally, differs: bool) -> Tally
-    ensures { λ r. ⌜ r ≡ countedOf t differs ⌝ }
+    ensures { λ r. ⌜ r ≡ talliedOf t differs ⌝ }
 {
     if differs {
         return Tally {

@@ -20,7 +20,7 @@ use Rattle.line21.specs.Layout.{layout, layoutUnit, layoutUnits}
 use Rattle.line21.specs.Writing.{unitVerdict}
 use Rattle.line21.specs.Lent.{unitIn, unitsIn, payloadIn}
 use Rattle.line21.proofs.Layouts.{length-layoutUnits, layoutUnits-more}
-use Rattle.line21.proofs.Numbers.{Writable, accepted-value, length-held, length-layout-held, units-accepted-at}
+use Rattle.line21.proofs.Numbers.{Writable, accepted-value, length-held, length-layout-held, accepted-unit-at}
 use Rattle.line21_writer.proofs.put.Statement.{statement}
 use Rattle.line21_writer.proofs.put.Tie as tie
 
@@ -58,7 +58,7 @@ module _ (c : tie.Start Inv-loop μ-loop) where
   passed i below =
       let inside : i < length (held p .units) = omega (arith, length-held p (places (now (c .args .units))) (writable .few)) in
       ap unitVerdict (sym (getD-take (c .args .m) (unitsIn (now (c .args .units))) i blank below))
-      ∙ units-accepted-at (held p .units) (writable .each) i inside
+      ∙ accepted-unit-at (held p .units) (writable .each) i inside
 
 -- what the loop knows of its output at its head
 module _ (c : tie.At-loop Inv-loop μ-loop) where

@@ -12,7 +12,7 @@ use Rattle.lists.proofs.Each.{each-take}
 use Rattle.scte20.specs.declared.CaptionUnit.{CaptionUnit}
 use Rattle.scte20.specs.declared.Record.{Record}
 use Rattle.scte20.specs.Value.{blank}
-use Rattle.listing.specs.Texts.{Holds, headText, recordsText}
+use Rattle.listing.specs.Texts.{HoldsText, headText, recordsText}
 use Rattle.listing.specs.Inside.{Appends}
 use Rattle.listing.proofs.Building.{appends-both, appends-first, appends-none, appends-same}
 use Rattle.listing.proofs.Lengths.{ByteRecord, listed-fits}
@@ -39,13 +39,13 @@ module _ (c : tie.At-loop Inv-loop μ-loop) where
   types = typed unit _ (c .before .before .before .before .good .0)
 
   -- where the records passed are the first n
-  whole : (n : ℕ) → take (c .loop .i) (unit .records) ≡ take n (unit .records) → Holds (headText ++ recordsText (take n (unit .records))) (c .loop .t)
+  whole : (n : ℕ) → take (c .loop .i) (unit .records) ≡ take n (unit .records) → HoldsText (headText ++ recordsText (take n (unit .records))) (c .loop .t)
   whole n e =
       let passed = take (c .loop .i) (unit .records) in
-      let head : Holds headText (c .before .with .result) = appends-first (c .before .before .before .empty .ensures) (c .before .with .ensures) (omega arith) in
+      let head : HoldsText headText (c .before .with .result) = appends-first (c .before .before .before .empty .ensures) (c .before .with .ensures) (omega arith) in
       let bytes = each-take ByteRecord (c .loop .i) (unit .records) (types .1) in
       let few : length passed ≤ 31 = omega (arith, length-take (c .loop .i) (unit .records), types .0) in
-      subst (λ (rs : List Record). Holds (headText ++ recordsText rs) (c .loop .t)) e
+      subst (λ (rs : List Record). HoldsText (headText ++ recordsText rs) (c .loop .t)) e
       (c .loop .inv .1 .behind headText head (listed-fits passed bytes few))
 
 returns : tie.Need-returns Inv-loop μ-loop

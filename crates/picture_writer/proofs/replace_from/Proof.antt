@@ -23,8 +23,8 @@ abbrev unit : tie.Start → CaptionUnit
 unit c = unitIn (c .args .v) (now (c .args .records))
 
 -- the old area's refusal
-told : (c : tie.After-read-old) → c .read-old .result .refusal ≡ refusalOf (areaVerdict (now (c .before .before .before .before .args .s)))
-told c =
+old-refusal : (c : tie.After-read-old) → c .read-old .result .refusal ≡ refusalOf (areaVerdict (now (c .before .before .before .before .args .s)))
+old-refusal c =
     let s = now (c .before .before .before .before .args .s) in
     let read = c .read-old .ensures .head in
     ap (λ (r : Head). r .refusal) (read .answer) ∙ refused-in-order s (readOf s) (record { bytes = read .bytes; answer = refl })
@@ -43,14 +43,14 @@ refused c =
     record {
       bytes = answered .read-old .ensures .head .bytes;
       typed = typed c;
-      wrote = replace-refused (now (start .args .s)) (unit start) (now (start .args .out)) (answered .read-old .result .refusal) (told answered) (past .if1 .taken);
+      wrote = replace-refused (now (start .args .s)) (unit start) (now (start .args .out)) (answered .read-old .result .refusal) (old-refusal answered) (past .if1 .taken);
     }
 
 -- past the test the area is accepted
 accepts : (c : tie.Else1) → areaVerdict (now (c .before .before .before .before .before .before .before .args .s)) ≡ Accepted
 accepts c =
     let answered = c .before .before .before in
-    told-accepted _ (sym (ap (λ (r : Refusal). r .number) (told answered)) ∙ c .if1 .left)
+    told-accepted _ (sym (ap (λ (r : Refusal). r .number) (old-refusal answered)) ∙ c .if1 .left)
 
 exchange-requires : tie.Need-exchange-requires
 exchange-requires c κs =

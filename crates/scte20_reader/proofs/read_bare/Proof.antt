@@ -11,7 +11,7 @@ use Rattle.lists.proofs.Each.{each-of}
 use Rattle.scte20.specs.declared.Head.{Head}
 use Rattle.scte20.specs.Reading.{contentVerdict}
 use Rattle.scte20.specs.Lent.{ReadsInto}
-use Rattle.scte20.proofs.Contents.{head-accepted}
+use Rattle.scte20.proofs.Contents.{accepted-head}
 use Rattle.scte20.proofs.Answers.{refused-into, accepted-into, head-long, bare-verdict, bare-value}
 use Rattle.scte20_reader.proofs.read_bare.Statement.{statement}
 use Rattle.scte20_reader.proofs.read_bare.Tie as tie
@@ -19,7 +19,7 @@ use Rattle.scte20_reader.proofs.read_bare.Tie as tie
 judge-rest-requires : tie.Need-judge-rest-requires
 judge-rest-requires c κs =
     let body = now (c .before .args .body) in
-    (head-accepted body (c .before .pre .0) .short, omega (arith, head-long body (c .before .pre .0)))
+    (accepted-head body (c .before .pre .0) .short, omega (arith, head-long body (c .before .pre .0)))
 
 -- the rest decides
 judged : (c : tie.After-judge-rest) → c .judge-rest .result ≡ contentVerdict (now (c .before .before .args .body))

@@ -40,7 +40,7 @@ loop-holds c =
     let start = c .before .before in
     let body = now (start .args .body) in
     let lent = now (start .args .records) in
-    subst (λ (last : Last). Going (bitsOf body) (start .args .n) lent lent last 0) (sym (c .first .ensures)) (going-first (bitsOf body) (start .args .n) lent)
+    subst (λ (last : Last). Going (bitsOf body) (start .args .n) lent lent last 0) (sym (c .none-yet .ensures)) (going-first (bitsOf body) (start .args .n) lent)
 
 -- a turn of the loop
 module _ (c : tie.In-loop Inv-loop μ-loop) where

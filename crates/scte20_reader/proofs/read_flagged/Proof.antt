@@ -12,14 +12,14 @@ use Rattle.lists.proofs.Each.{each-of}
 use Rattle.refusal.specs.declared.Verdict.{Verdict}
 use Rattle.refusal.specs.declared.Verdict.the-variants.{Accepted}
 use Rattle.refusal.specs.Checks.{andThen}
-use Rattle.refusal.proofs.Checks.{andThen-accepted, refused-first, accepted-first}
+use Rattle.refusal.proofs.Checks.{accepted-andThen, refused-first, accepted-first}
 use Rattle.bits.specs.Bits.{bitsOf}
 use Rattle.scte20.specs.declared.Head.{Head}
 use Rattle.scte20.specs.Reading.{countIn, constructsVerdict, recordsAt, sampledVerdict, restVerdict, contentVerdict}
 use Rattle.scte20.specs.Lent.{ReadsInto}
 use Rattle.scte20.proofs.Bytewise.{missing-some, missing-none, count-in}
 use Rattle.scte20.proofs.Constructs.{length-records}
-use Rattle.scte20.proofs.Contents.{head-accepted}
+use Rattle.scte20.proofs.Contents.{accepted-head}
 use Rattle.scte20.proofs.Answers.{refused-into, accepted-into, sampled-long, head-long, flagged-verdict, flagged-value}
 use Rattle.scte20.proofs.Lending.{lent-over}
 use Rattle.scte20_reader.proofs.read_flagged.Statement.{statement}
@@ -61,7 +61,7 @@ module _ (c : tie.After-shared-slice-known2) where
   counted = sym (count-in bodyOf (bytes (c .before .before)) long)
 
   short : length bodyOf ≤ 16384
-  short = head-accepted bodyOf (c .before .before .before .pre .0) .short
+  short = accepted-head bodyOf (c .before .before .before .pre .0) .short
 
   -- what is left to judge
   left :
@@ -105,7 +105,7 @@ module _ (c : tie.After-judge-tail) where
   room e =
       let known = c .before .before .before .before .before in
       let n = nOf known in
-      let both = andThen-accepted (sampledVerdict (21 + 26 * n) (bitsOf (bodyOf known))) _ (sym followed ∙ e) in
+      let both = accepted-andThen (sampledVerdict (21 + 26 * n) (bitsOf (bodyOf known))) _ (sym followed ∙ e) in
       sampled-long (21 + 26 * n) (bodyOf known) (both .0)
 
 wrong : tie.Need-returns-3

@@ -45,8 +45,8 @@ module _ (c : tie.After-shared-slice-known2) where
   two : 1 < length bodyOf
   two = head-long bodyOf accepted
 
-bare : tie.Need-read-bare-requires
-bare c κs =
+flag-0 : tie.Need-read-bare-requires
+flag-0 c κs =
     let known = c .before .before in
     (accepted known, flag-in (bodyOf known) (bytes (known .before .before .before .before)) (two known) ∙ c .before .if1 .taken)
 
@@ -69,7 +69,7 @@ read-into-spec =
     refuses
     (λ c. search needs)
     (λ c. two c)
-    bare
+    flag-0
     (λ c. c .read-bare .ensures)
     flagged
     (λ c. c .read-flagged .ensures))

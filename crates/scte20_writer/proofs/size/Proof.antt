@@ -12,8 +12,8 @@ size-flagged : (flag n : ℕ) → (flag ≡ 0 → ⊥) → sizeIn flag n ≡ (21
 size-flagged zero n h = absurd (h refl)
 size-flagged (suc flag) n h = omega arith
 
-bare : tie.Need-returns
-bare c =
+flag-0 : tie.Need-returns
+flag-0 c =
     let v = c .before .before .before .args .v in
     ap (λ (flag : ℕ). sizeIn flag (v .n) + v .z) (sym (c .before .if1 .taken))
 
@@ -27,7 +27,7 @@ size-spec =
     tie.close
     (tie.spec
     (λ c. omega (arith, c .before .before .before .pre .1))
-    bare
+    flag-0
     (λ c. omega (arith, c .before .before .before .pre .0))
     (λ c. omega (arith, c .before .before .before .pre .0))
     (λ c. omega (arith, c .before .before .before .pre .0))

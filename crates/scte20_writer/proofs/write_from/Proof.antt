@@ -16,12 +16,12 @@ use Rattle.refusal.specs.declared.Item.{Item}
 use Rattle.refusal.specs.declared.Verdict.{Verdict}
 use Rattle.refusal.specs.declared.Verdict.the-variants.{Accepted, Refused}
 use Rattle.refusal.specs.Checks.{fitVerdict}
-use Rattle.refusal.proofs.Checks.{refused-first, accepted-first, fit-accepted}
+use Rattle.refusal.proofs.Checks.{refused-first, accepted-first, accepted-fit}
 use Rattle.scte20.specs.declared.CaptionUnit.{CaptionUnit}
 use Rattle.scte20.specs.Value.{held, Typed}
 use Rattle.scte20.specs.Lent.{unitIn}
 use Rattle.scte20.specs.Layout.{layout}
-use Rattle.scte20.specs.Writing.{valueVerdict, bodyVerdict, countedOf, leftOf, Writes}
+use Rattle.scte20.specs.Writing.{valueVerdict, bodyVerdict, laidOf, bodyLeft, Writes}
 use Rattle.scte20.proofs.Lending.{lent-typed}
 use Rattle.scte20.proofs.Holding.{Whole, value-whole, length-layout-held}
 use Rattle.scte20_writer.proofs.write_from.Statement.{statement}
@@ -30,7 +30,7 @@ use Rattle.scte20_writer.proofs.write_from.Tie as tie
 -- what fits with so many bytes behind it fits
 fits-within : (a n b room : ℕ) (v : Verdict) → v ≡ fitVerdict 16384 (a + n + b) room → v ≡ Accepted → (a + n ≤ 16384) × (a + n ≤ room)
 fits-within a n b room v told e =
-    let both : (a + n + b ≤ 16384) × (a + n + b ≤ room) = fit-accepted 16384 (a + n + b) room (sym told ∙ e) in
+    let both : (a + n + b ≤ 16384) × (a + n + b ≤ room) = accepted-fit 16384 (a + n + b) room (sym told ∙ e) in
     (omega (arith, both .0), omega (arith, both .1))
 
 -- what each verdict answers
@@ -40,8 +40,8 @@ module _ (u : CaptionUnit) (before after : ℕ) (out : List ℕ) (known : Typed 
       let body : bodyVerdict u before after (length out) ≡ Refused reason item = sym told ∙ e in
       record {
         typed = known;
-        counted = ap (λ (v : Verdict). record { verdict = v; len = 0 }) e ∙ ap (λ (v : Verdict). countedOf v (layout (held u))) (sym body);
-        left = ap (λ (v : Verdict). leftOf v before (layout (held u)) out) (sym body);
+        counted = ap (λ (v : Verdict). record { verdict = v; len = 0 }) e ∙ ap (λ (v : Verdict). laidOf v (layout (held u))) (sym body);
+        left = ap (λ (v : Verdict). bodyLeft v before (layout (held u)) out) (sym body);
       }
 
   writes : (n : ℕ) → n ≡ length (layout (held u)) → (exit : List ℕ) → exit ≡ overAt before (layout (held u)) out → verdict ≡ Accepted
@@ -50,8 +50,8 @@ module _ (u : CaptionUnit) (before after : ℕ) (out : List ℕ) (known : Typed 
       let body : bodyVerdict u before after (length out) ≡ Accepted = sym told ∙ e in
       record {
         typed = known;
-        counted = ap₂ (λ (v : Verdict) (k : ℕ). record { verdict = v; len = k }) e long ∙ ap (λ (v : Verdict). countedOf v (layout (held u))) (sym body);
-        left = laid ∙ ap (λ (v : Verdict). leftOf v before (layout (held u)) out) (sym body);
+        counted = ap₂ (λ (v : Verdict) (k : ℕ). record { verdict = v; len = k }) e long ∙ ap (λ (v : Verdict). laidOf v (layout (held u))) (sym body);
+        left = laid ∙ ap (λ (v : Verdict). bodyLeft v before (layout (held u)) out) (sym body);
       }
 
 -- a part that comes back with something of its length in it

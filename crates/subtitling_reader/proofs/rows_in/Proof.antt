@@ -21,14 +21,14 @@ use Rattle.subtitling_reader.proofs.rows_in.Statement.{statement}
 use Rattle.subtitling_reader.proofs.rows_in.Tie as tie
 
 -- the five descriptors, and the rows of their slots
-abbrev told : List ℕ → List ℕ
-told user = descriptorsIn (map byteOf user)
+abbrev descriptors : List ℕ → List ℕ
+descriptors user = descriptorsIn (map byteOf user)
 
 abbrev allRows : List ℕ → List (List ℕ)
-allRows user = rowsIn (told user) (drop 9 (map byteOf user))
+allRows user = rowsIn (descriptors user) (drop 9 (map byteOf user))
 
 abbrev Inv-loop : tie.InvT-loop
-Inv-loop user rows₀ at₀ i₀ rows at i = (i ≤ 5) × (at ≡ 9 + 45 * count (take i (told user))) × (rows ≡ filled (take i (allRows user)) 5 zeros)
+Inv-loop user rows₀ at₀ i₀ rows at i = (i ≤ 5) × (at ≡ 9 + 45 * count (take i (descriptors user))) × (rows ≡ filled (take i (allRows user)) 5 zeros)
 
 abbrev μ-loop : tie.MeasureT-loop
 μ-loop user rows₀ at₀ i₀ rows at i = 5 - i
@@ -41,10 +41,10 @@ module _ (c : tie.After-shared-slice-known2 Inv-loop μ-loop) where
   here :
       let user = now (c .before .before .before .before .args .user) in
       let i = c .before .before .loop .i in
-      getD (told user) i 0 ≡ byteOf (getD user (4 + i) 0)
+      getD (descriptors user) i 0 ≡ byteOf (getD user (4 + i) 0)
   here = descriptor-at (now (c .before .before .before .before .args .user)) (c .before .before .loop .i) (c .before .loop-test .taken)
 
-  inside : c .before .before .loop .i < length (told (now (c .before .before .before .before .args .user)))
+  inside : c .before .before .loop .i < length (descriptors (now (c .before .before .before .before .args .user)))
   inside =
       let user = now (c .before .before .before .before .args .user) in
       let long : 9 ≤ length user = omega arith in
@@ -53,13 +53,13 @@ module _ (c : tie.After-shared-slice-known2 Inv-loop μ-loop) where
   next :
       let user = now (c .before .before .before .before .args .user) in
       let i = c .before .before .loop .i in
-      count (take (i + 1) (told user)) ≡ count (take i (told user)) + markOf (getD (told user) i 0)
-  next = count-more (told (now (c .before .before .before .before .args .user))) (c .before .before .loop .i) inside
+      count (take (i + 1) (descriptors user)) ≡ count (take i (descriptors user)) + markOf (getD (descriptors user) i 0)
+  next = count-more (descriptors (now (c .before .before .before .before .args .user))) (c .before .before .loop .i) inside
 
 -- its structure is within the user words
 fits : (c : tie.Then1 Inv-loop μ-loop) → c .before .before .before .loop .at + 45 ≤ length (now (c .before .before .before .before .before .args .user))
 fits c =
-    let ds = told (now (c .before .before .before .before .before .args .user)) in
+    let ds = descriptors (now (c .before .before .before .before .before .args .user)) in
     let i = c .before .before .before .loop .i in
     let some = mark-some (getD ds i 0) (λ e. c .if1 .taken (sym (here (c .before)) ∙ e)) in
     omega (arith, c .before .before .before .loop .inv .1, next (c .before), count-front ds (i + 1), c .before .before .before .before .before .pre)
@@ -68,7 +68,7 @@ loop-again : tie.Need-loop-again Inv-loop μ-loop
 loop-again c =
     let turn = c .before in
     let user = now (turn .before .before .before .before .args .user) in
-    let ds = told user in
+    let ds = descriptors user in
     let u = map byteOf user in
     let at = turn .before .before .loop in
     let i = at .i in
@@ -95,7 +95,7 @@ returns c =
     let start = c .before .before .before in
     let user = now (start .args .user) in
     let long : 9 ≤ length user = omega arith in
-    let five : length (allRows user) ≡ 5 = length-rowsIn (told user) (drop 9 (map byteOf user)) ∙ length-descriptors user long in
+    let five : length (allRows user) ≡ 5 = length-rowsIn (descriptors user) (drop 9 (map byteOf user)) ∙ length-descriptors user long in
     c .before .loop .inv .2 ∙ filled-all (allRows user) 5 zeros five (c .before .loop .i) (c .loop-test .left)
 
 pub rows-in-spec : {M : Type 1} → statement M

@@ -45,8 +45,8 @@ abbrev space : tie.Start Inv-loop μ-loop → Verdict
 space c = roomFor c (count (map descriptor (c .args .t1 .slots)))
 
 -- what the checks say of the value, as long as no slot was refused
-told : (c : tie.At-loop Inv-loop μ-loop) → verdictOf (c .before .before) ≡ andThen (slotsVerdict (drop (c .loop .i) (slotsOf (c .before .before)))) (space (c .before .before))
-told c =
+verdict-told : (c : tie.At-loop Inv-loop μ-loop) → verdictOf (c .before .before) ≡ andThen (slotsVerdict (drop (c .loop .i) (slotsOf (c .before .before)))) (space (c .before .before))
+verdict-told c =
     let start = c .before .before in
     verdict-few (start .args .t1) (now (start .args .rows)) (types start) (c .before .if1 .left) (start .args .room)
     ∙ ap (λ (v : Verdict). andThen v (space start)) (c .loop .inv .1)
@@ -75,7 +75,7 @@ returns-2 c =
     judged
     ∙ ap (λ (v : Verdict). andThen (andThen v rest) (space start)) (sym judged ∙ c .before .before .judge-slot .ensures)
     ∙ ap (λ (v : Verdict). andThen v (space start)) (sym (held-from (start .args .t1) (now (start .args .rows)) (types start) i (turn .loop-test .taken)))
-    ∙ sym (told (turn .before))
+    ∙ sym (verdict-told (turn .before))
 
 loop-again : tie.Need-loop-again Inv-loop μ-loop
 loop-again c =
@@ -93,7 +93,7 @@ loop-again c =
 decided : (c : tie.After-count Inv-loop μ-loop) → verdictOf (c .before .before .before .before) ≡ roomFor (c .before .before .before .before) (c .count .result)
 decided c =
     let start = c .before .before .before .before in
-    told (c .before .before)
+    verdict-told (c .before .before)
     ∙ ap₂ (λ (xs : List SlotRow) (k : ℕ). andThen (slotsVerdict xs) (roomFor start k)) (none-left (c .before)) (sym (c .count .ensures))
 
 returns-3 : tie.Need-returns-3 Inv-loop μ-loop

@@ -26,18 +26,18 @@ types c = c .by-types .ensures
 abbrev verdictOf : tie.Start → Verdict
 verdictOf c = valueVerdict (held (c .args .p) (now (c .args .rows))) (length (now (c .args .out)))
 
-told : (c : tie.After-told) → c .told .result ≡ refusalOf (verdictOf (c .before .before .before .before .before))
-told c = c .told .ensures ∙ ap refusalOf (c .before .judge-value .ensures)
+verdict-told : (c : tie.After-told) → c .told .result ≡ refusalOf (verdictOf (c .before .before .before .before .before))
+verdict-told c = c .told .ensures ∙ ap refusalOf (c .before .judge-value .ensures)
 
 -- past the test the value is accepted
 zero : (c : tie.Else1) → refusalOf (verdictOf (c .before .before .before .before .before .before .before)) .number ≡ 0
-zero c = sym (ap (λ (r : Refusal). r .number) (told (c .before .before))) ∙ c .if1 .left
+zero c = sym (ap (λ (r : Refusal). r .number) (verdict-told (c .before .before))) ∙ c .if1 .left
 
 few : (c : tie.After-count) → c .count .result ≤ 5
 few c =
-    let told = c .before .before .before .before .before .before .before in
-    let start = told .before .before .before .before .before in
-    omega (arith, c .count .ensures, few-structures (start .args .p) (now (start .args .rows)) (types (told .before .before)))
+    let verdict-told = c .before .before .before .before .before .before .before in
+    let start = verdict-told .before .before .before .before .before in
+    omega (arith, c .count .ensures, few-structures (start .args .p) (now (start .args .rows)) (types (verdict-told .before .before)))
 
 refused : tie.Need-returns
 refused c =
@@ -49,8 +49,8 @@ refused c =
     record {
       typed = types typed;
       wrote =
-          subst (λ (r : Refusal). Wrote verdict laid out (record { refusal = r; len = 0 }) out) (sym (told (c .before .before)))
-          (wrote-nothing verdict laid out (λ e. c .if1 .taken (ap (λ (r : Refusal). r .number) (told (c .before .before)) ∙ e)));
+          subst (λ (r : Refusal). Wrote verdict laid out (record { refusal = r; len = 0 }) out) (sym (verdict-told (c .before .before)))
+          (wrote-nothing verdict laid out (λ e. c .if1 .taken (ap (λ (r : Refusal). r .number) (verdict-told (c .before .before)) ∙ e)));
     }
 
 accepted : tie.Need-returns-2
@@ -67,7 +67,7 @@ accepted c =
       typed = types typed;
       wrote =
           subst₃ (λ (r : Refusal) (n : ℕ) (exit : List ℕ). Wrote verdict (layout (held p rows)) out (record { refusal = r; len = n }) exit)
-          (sym (told (past .before .before)))
+          (sym (verdict-told (past .before .before)))
           long
           (sym (c .before .before .before .put .ensures))
           (wrote-laid verdict (layout (held p rows)) out (zero past));

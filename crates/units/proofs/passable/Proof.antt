@@ -5,7 +5,7 @@ use mathlib.Core.Logic.{⊎-elim}
 use borrow.Author.Needs.{needs}
 use borrow.Author.Tests.{eqb-true, eqb-false}
 use denote.Ref.{now}
-use Rattle.units.proofs.Reach.{three-here, next-one, next-third, next-second, next-first, passes, stays}
+use Rattle.units.proofs.Reach.{three-here, next-one, next-third, next-second, next-first, passes, passes-none}
 use Rattle.units.proofs.passable.Statement.{statement}
 use Rattle.units.proofs.passable.Tie as tie
 
@@ -31,7 +31,7 @@ found c =
     let s = now (start .args .s) in
     let inside = start .pre in
     let here = three-here s (start .args .i) inside (eqb-true _ _ (c .if4 .taken)) (second .if3 .taken) (omega (arith, one .if2 .left, one .before .if1 .left)) in
-    stays s (start .args .i) here (omega (arith, inside))
+    passes-none s (start .args .i) here (omega (arith, inside))
 
 three-further : tie.Need-returns-4
 three-further c =

@@ -112,7 +112,7 @@ units-again-2 c =
 returns : tie.Need-returns-4 Inv-loop μ-loop Inv-units μ-units
 returns c =
     let going = c .before .before .units .inv in
-    c .told .ensures (going .spans) (going .kept) ∙ sym (ended going (c .before .units-test .left))
+    c .found-in .ensures (going .spans) (going .kept) ∙ sym (ended going (c .before .units-test .left))
 
 pub scan-spec : {M : Type 1} → statement M
 scan-spec =

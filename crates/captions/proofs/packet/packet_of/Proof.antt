@@ -18,14 +18,14 @@ use Rattle.captions.proofs.packet.packet_of.Statement.{statement}
 use Rattle.captions.proofs.packet.packet_of.Tie as tie
 
 -- the slots that the bytes tell, and the one that stands in a place that is not filled yet
-abbrev told : List ℕ → List Slot
-told s = taken slotIn 4 5 s
+abbrev slotsIn : List ℕ → List Slot
+slotsIn s = taken slotIn 4 5 s
 
 abbrev blank : Slot
 blank = slotOf 0
 
 abbrev Inv-loop : tie.InvT-loop
-Inv-loop counter bytes slots₀ i₀ slots i = slots ≡ filled (take i (told bytes)) 5 blank
+Inv-loop counter bytes slots₀ i₀ slots i = slots ≡ filled (take i (slotsIn bytes)) 5 blank
 
 abbrev μ-loop : tie.MeasureT-loop
 μ-loop counter bytes slots₀ i₀ slots i = 5 - i
@@ -38,8 +38,8 @@ loop-again c =
     let turn = c .before in
     let at = turn .before .loop in
     let s = now (turn .before .before .before .before .args .bytes) in
-    let inside : at .i < length (told s) = omega (arith, length-taken slotIn 4 5 s) in
-    filled-next (told s) 5 blank (at .i) (turn .loop-test .taken) inside (at .slots) (c .slot-from .result) (at .inv)
+    let inside : at .i < length (slotsIn s) = omega (arith, length-taken slotIn 4 5 s) in
+    filled-next (slotsIn s) 5 blank (at .i) (turn .loop-test .taken) inside (at .slots) (c .slot-from .result) (at .inv)
     (c .slot-from .ensures ∙ sym (getD-taken slotIn 4 blank 5 (at .i) s (turn .loop-test .taken)))
 
 returns : tie.Need-returns Inv-loop μ-loop
@@ -47,7 +47,7 @@ returns c =
     let start = c .before .before .before .before in
     let s = now (start .args .bytes) in
     ap (λ (slots : List Slot). record { counter = start .args .counter; slots = slots })
-    (c .before .loop .inv ∙ filled-all (told s) 5 blank (length-taken slotIn 4 5 s) (c .before .loop .i) (c .loop-test .left))
+    (c .before .loop .inv ∙ filled-all (slotsIn s) 5 blank (length-taken slotIn 4 5 s) (c .before .loop .i) (c .loop-test .left))
 
 pub packet-of-spec : {M : Type 1} → statement M
 packet-of-spec =

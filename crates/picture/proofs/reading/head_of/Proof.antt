@@ -23,7 +23,7 @@ no-list c =
     let known = c .before .before .before .before in
     let start = known .before in
     let told = c .before .before .found .given in
-    found-into (now (start .args .s)) (now (start .args .records)) (bytes known) (found.Refused (told .0 .0) (told .0 .1 .0)) (start .pre ∙ told .1)
+    found-into (now (start .args .s)) (now (start .args .records)) (bytes known) (found.NotUnits (told .0 .0) (told .0 .1 .0)) (start .pre ∙ told .1)
     _ (c .nothing .ensures) _ refl
 
 nowhere : tie.Need-returns-2

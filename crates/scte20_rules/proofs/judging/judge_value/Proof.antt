@@ -20,7 +20,7 @@ use Rattle.scte20.specs.Lent.{unitIn}
 use Rattle.scte20.specs.Inside.{lastVerdict}
 use Rattle.scte20.specs.Writing.{wholeVerdict, rangeVerdict, recordsVerdict, valueVerdict}
 use Rattle.scte20.proofs.Lending.{lent-length}
-use Rattle.scte20.proofs.Holding.{whole-accepted, length-held}
+use Rattle.scte20.proofs.Holding.{accepted-whole, length-held}
 use Rattle.scte20.proofs.Judged.{Judging, judging-first, records-here, judging-next, judging-accepted}
 use Rattle.scte20_rules.proofs.judging.judge_value.Statement.{statement}
 use Rattle.scte20_rules.proofs.judging.judge_value.Tie as tie
@@ -32,9 +32,9 @@ abbrev μ-loop : tie.MeasureT-loop
 μ-loop v records last₀ i₀ last i = v .n - i
 
 -- the checks of the whole value do not look at the records
-bare : (v : Numbers) (s : List ℕ) → wholeVerdict (unitIn v []) ≡ wholeVerdict (unitIn v s)
+flag-0 : (v : Numbers) (s : List ℕ) → wholeVerdict (unitIn v []) ≡ wholeVerdict (unitIn v s)
 unfolding wholeVerdict
-bare v s = refl
+flag-0 v s = refl
 
 -- what `judge_whole` answers
 module _ (c : tie.After-judge-whole Inv-loop μ-loop) where
@@ -42,7 +42,7 @@ module _ (c : tie.After-judge-whole Inv-loop μ-loop) where
   unitOf = unitIn (c .before .args .v) (now (c .before .args .records))
 
   whole-told : c .judge-whole .result ≡ wholeVerdict unitOf
-  whole-told = c .judge-whole .ensures ∙ bare (c .before .args .v) (now (c .before .args .records))
+  whole-told = c .judge-whole .ensures ∙ flag-0 (c .before .args .v) (now (c .before .args .records))
 
 unholdable : tie.Need-returns Inv-loop μ-loop
 unfolding valueVerdict
@@ -51,7 +51,7 @@ unholdable c = refused-first _ (whole-told (c .before .before)) (c .enum-told .g
 loop-holds : tie.Need-loop-holds Inv-loop μ-loop
 loop-holds c =
     let rs = held (unitOf (c .before .before .before)) .records in
-    subst (λ (last : Last). Judging rs last 0) (sym (c .first .ensures)) (judging-first rs)
+    subst (λ (last : Last). Judging rs last 0) (sym (c .none-yet .ensures)) (judging-first rs)
 
 -- the checks of the whole value are past
 module _ (c : tie.At-loop Inv-loop μ-loop) where
@@ -59,7 +59,7 @@ module _ (c : tie.At-loop Inv-loop μ-loop) where
   unit = unitOf (c .before .before .before .before)
 
   few : unit .n ≤ 31
-  few = whole-accepted unit (sym (whole-told (c .before .before .before .before)) ∙ c .before .before .enum-told2 .given .1) .few
+  few = accepted-whole unit (sym (whole-told (c .before .before .before .before)) ∙ c .before .before .enum-told2 .given .1) .few
 
   length-records : length (held unit .records) ≡ unit .n
   length-records = length-held unit (lent-length (now (c .before .before .before .before .before .args .records))) few

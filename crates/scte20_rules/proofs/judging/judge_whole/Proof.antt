@@ -34,9 +34,9 @@ stuffing c =
       lt-ltb _ _ (c .if4 .taken),
     )
 
-bare : tie.Need-returns-5
+flag-0 : tie.Need-returns-5
 unfolding wholeVerdict
-bare c =
+flag-0 c =
     let past = c .before .before .before .before in
     simp (
       le-ltb _ _ (past .before .before .before .before .before .before .if1 .left),
@@ -69,4 +69,4 @@ accepted c =
     )
 
 pub judge-whole-spec : {M : Type 1} → statement M
-judge-whole-spec = tie.close (tie.spec count reserved flag stuffing bare accepted)
+judge-whole-spec = tie.close (tie.spec count reserved flag stuffing flag-0 accepted)

@@ -9,7 +9,7 @@ use borrow.Author.Tests.{eq-eqb, ne-eqb}
 use lib.Dec.{eqb}
 use Rattle.scte20.specs.declared.Record.{Record}
 use Rattle.scte20.specs.declared.Last.{Last}
-use Rattle.scte20.specs.Value.{fieldOf, one}
+use Rattle.scte20.specs.Value.{fieldOf, countIf}
 use Rattle.scte20.specs.Inside.{kept, lastAfter}
 use Rattle.scte20_rules.proofs.rules.after.Statement.{statement}
 use Rattle.scte20_rules.proofs.rules.after.Tie as tie
@@ -37,7 +37,7 @@ unfolding lastAfter made
 returns c =
     let joined = c .before .before in
     let r = joined .before .before .before .before .args .r in
-    ap (made r) (c .counted .ensures ∙ ap (λ (k : ℕ). min (one (eqb (r .«cc_priority») 0) + k) 4) (counted joined))
+    ap (made r) (c .counted .ensures ∙ ap (λ (k : ℕ). min (countIf (eqb (r .«cc_priority») 0) + k) 4) (counted joined))
 
 pub after-spec : {M : Type 1} → statement M
 after-spec = tie.close (tie.spec (λ c κs. search needs) returns)

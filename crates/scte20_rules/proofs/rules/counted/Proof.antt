@@ -5,13 +5,13 @@ use native.Mathlib.Omega.{arith}
 use mathlib.Core.Path.{_≡_, ap}
 use mathlib.Core.Logic.{⊎-elim}
 use borrow.Author.Needs.{needs}
-use Rattle.scte20.specs.Value.{one}
+use Rattle.scte20.specs.Value.{countIf}
 use Rattle.scte20_rules.proofs.rules.counted.Statement.{statement}
 use Rattle.scte20_rules.proofs.rules.counted.Tie as tie
 
 -- what the first test leaves
-sum : (c : tie.Joined1) → c .if1 .all ≡ one (c .before .args .more) + c .before .args .kept
-sum c = ⊎-elim (λ w. omega (arith, w .1, ap one (w .0 .taken))) (λ w. omega (arith, w .1, ap one (w .0 .left))) (c .if1 .came)
+sum : (c : tie.Joined1) → c .if1 .all ≡ countIf (c .before .args .more) + c .before .args .kept
+sum c = ⊎-elim (λ w. omega (arith, w .1, ap countIf (w .0 .taken))) (λ w. omega (arith, w .1, ap countIf (w .0 .left))) (c .if1 .came)
 
 fewer : tie.Need-returns
 fewer c = omega (arith, sum (c .before .before), c .before .if2 .taken)

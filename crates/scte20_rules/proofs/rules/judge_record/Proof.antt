@@ -51,8 +51,8 @@ same-field c =
     let same : args .last .«field_number» .0 ≡ fieldOf (args .r) = omega arith in
     simp (some (fieldOf (args .r)) (c .before .before .if1 .left), le-ltb _ _ (c .before .if2 .left), eq-eqb _ _ same)
 
-stays : tie.Need-returns-4
-stays c = simp (same-field (c .before .before .before), le-ltb _ _ (c .if4 .taken))
+not-rising : tie.Need-returns-4
+not-rising c = simp (same-field (c .before .before .before), le-ltb _ _ (c .if4 .taken))
 
 -- on a higher line
 later : tie.Need-returns-5
@@ -86,7 +86,7 @@ judge-record-spec =
     falls
     rises
     (λ c. omega arith)
-    stays
+    not-rising
     later
     fifth
     fourth)

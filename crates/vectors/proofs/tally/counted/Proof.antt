@@ -4,17 +4,17 @@ use mathlib.Core.Path.{_≡_}
 use mathlib.Core.Bool.{Bool, true, false}
 use borrow.Author.Needs.{needs}
 use Rattle.vectors.specs.declared.tally.Tally.{Tally}
-use Rattle.vectors.specs.Tallies.{countedOf, oneMore}
+use Rattle.vectors.specs.Tallies.{talliedOf, oneMore}
 use Rattle.vectors.proofs.tally.counted.Statement.{statement}
 use Rattle.vectors.proofs.tally.counted.Tie as tie
 
 both : (t : Tally) (d : Bool) (a b : ℕ) → a ≡ oneMore (t .ran) → b ≡ oneMore (t .differ) → d ≡ true →
-    _≡_ {A = Tally} (record { ran = a; differ = b }) (countedOf t d)
+    _≡_ {A = Tally} (record { ran = a; differ = b }) (talliedOf t d)
 both t true a b p q e = cc
 both t false a b p q e = cc
 
 one : (t : Tally) (d : Bool) (a : ℕ) → a ≡ oneMore (t .ran) → d ≡ false →
-    _≡_ {A = Tally} (record { ran = a; differ = t .differ }) (countedOf t d)
+    _≡_ {A = Tally} (record { ran = a; differ = t .differ }) (talliedOf t d)
 one t true a p e = cc
 one t false a p e = cc
 

@@ -4,7 +4,7 @@ use mathlib.Core.Path.{_≡_}
 use mathlib.Core.List.{List, [], _∷_}
 use lib.ListN.{length}
 use Rattle.scte20.specs.declared.Numbers.{Numbers}
-use Rattle.scte20.specs.Value.{LegalUnit}
+use Rattle.scte20.specs.Value.{LegalCaptionUnit}
 use Rattle.scte20.specs.Value as scte20
 use Rattle.scte20.specs.Lent.{unitIn}
 use Rattle.picture.specs.Value.{Area, replaced}
@@ -27,12 +27,12 @@ plain reserved flag n z = record { reserved = reserved; «vbi_data_flag» = flag
 -- numbers and the bytes of records: the value is legal, and its unit fits limit and buffer
 abbrev pub Fits : List ℕ → List ℕ → Numbers → Type 0
 Fits records out v =
-    LegalUnit (unitIn v records) × (length (unitBytes (scte20.held (unitIn v records))) ≤ 16384) × (length (unitBytes (scte20.held (unitIn v records))) ≤ length out)
+    LegalCaptionUnit (unitIn v records) × (length (unitBytes (scte20.held (unitIn v records))) ≤ 16384) × (length (unitBytes (scte20.held (unitIn v records))) ≤ length out)
 
 -- and in an area: the area is a legal value's, and the whole new area fits
 abbrev pub FitsIn : List ℕ → List ℕ → List ℕ → Numbers → Type 0
 FitsIn s records out v =
-    (x : Area) × area.Legal x × (area.layout x ≡ s) × LegalUnit (unitIn v records)
+    (x : Area) × area.Legal x × (area.layout x ≡ s) × LegalCaptionUnit (unitIn v records)
     × (length (area.layout (replaced x (scte20.held (unitIn v records)))) ≤ 16384)
     × (length (area.layout (replaced x (scte20.held (unitIn v records)))) ≤ length out)
 
