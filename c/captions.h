@@ -5,8 +5,8 @@
  * Subtitling packet  RDD 8 (OP-47), as ancillary data words
  * Line 21 payload    the ISMA RTP payload, what follows the RTP header
  *
- * The rules are those of docs/01-scope.md. What is not ours passes byte for byte. What is ours is read whole or
- * refused by number. Nothing is repaired. docs/C-API.md is the manual.
+ * docs/RULES.md has the rules: what is not ours passes byte for byte, a unit of ours is read whole or refused with a
+ * number, and nothing is repaired. docs/C-API.md is the manual.
  *
  * Every function takes every value of its arguments and returns. It keeps nothing, allocates nothing, and calls
  * nothing outside the library but C's memcpy and memset, so that any number of threads may call it.
@@ -49,24 +49,24 @@ extern "C" {
 
 /* ---- Refusals ---- */
 
-/* The numbers of a refusal, as document 01 has them. 0 is no refusal. */
+/* The numbers of a refusal (RULES, "Refusals"). 0 is no refusal. */
 enum {
     CAPTIONS_ACCEPTED = 0,
-    CAPTIONS_TOO_LONG = 1,        /* longer than 16,384 bytes, 245 words or 1,456 bytes */
+    CAPTIONS_TOO_LONG = 1,        /* above 16,384 bytes of an area, 245 words of a packet, 1,456 bytes of a payload */
     CAPTIONS_NO_START = 2,        /* no start code, flag words or flags byte where the input must begin with them */
-    CAPTIONS_START_CODE = 3,      /* 00 00 01 not followed by B2 */
-    CAPTIONS_SECOND_UNIT = 4,     /* a second caption unit in one area */
-    CAPTIONS_ENDS = 5,            /* the input ends before the next item */
-    CAPTIONS_FIXED = 6,           /* a fixed bit, byte or word is another */
-    CAPTIONS_FIELD_OR_LINE = 7,   /* field_number 0, or a descriptor's line 1 to 5 or 23 to 31 */
-    CAPTIONS_ORDER = 8,           /* a field number falls, or a line does not rise within its field */
-    CAPTIONS_FIFTH_PRIORITY = 9,  /* a fifth record of priority 0 in one field */
-    CAPTIONS_SAMPLED_VIDEO = 10,  /* a sampled video count above 0 */
-    CAPTIONS_WORD = 11,           /* a word above 1023, or its parity bits wrong */
-    CAPTIONS_CHECKSUM = 12,       /* the SDP checksum or CS is wrong */
-    CAPTIONS_LENGTH = 13,         /* DC, LENGTH or the payload's length does not fit */
-    CAPTIONS_NO_ROOM = 14,        /* the output is too short */
-    CAPTIONS_UNHOLDABLE = 15      /* a number that its layout cannot hold */
+    CAPTIONS_START_CODE = 3,      /* a 00 00 01 with no B2 behind it */
+    CAPTIONS_SECOND_UNIT = 4,     /* more than one caption unit in an area */
+    CAPTIONS_ENDS = 5,            /* the input is over before an item is complete */
+    CAPTIONS_FIXED = 6,           /* a bit, a byte or a word that can only have one value has another */
+    CAPTIONS_FIELD_OR_LINE = 7,   /* a record of field 0; a descriptor of line 1 to 5 or 23 to 31 */
+    CAPTIONS_ORDER = 8,           /* a record of a lower field than the one before, or of the same and no higher line */
+    CAPTIONS_FIFTH_PRIORITY = 9,  /* more than four records of priority 0 in a field */
+    CAPTIONS_SAMPLED_VIDEO = 10,  /* the count of sampled video is not 0 */
+    CAPTIONS_WORD = 11,           /* a word of more than ten bits, or with wrong parity bits */
+    CAPTIONS_CHECKSUM = 12,       /* the sum of the user bytes, or CS, does not come out */
+    CAPTIONS_LENGTH = 13,         /* a length that fits nothing: DC, LENGTH, or that of a payload */
+    CAPTIONS_NO_ROOM = 14,        /* the lent output is shorter than the result */
+    CAPTIONS_UNHOLDABLE = 15      /* a number out of its range, records under flag 0, or a slot at odds with its mark */
 };
 
 /* Why a call was refused. Both are 0 in an accepted one. */
@@ -97,7 +97,7 @@ typedef struct captions_record {
     uint8_t cc_data_2;
 } captions_record;
 
-/* What captions_area_read answers. All zero but for the refusal where the call is refused or no caption unit stands there. */
+/* What captions_area_read answers. All zero but for the refusal where it is refused, or where no caption unit stands. */
 typedef struct captions_unit {
     captions_refusal refusal;
     bool present;          /* whether a caption unit stands in the area */
@@ -172,7 +172,7 @@ typedef struct captions_packet {
 /*
  * Reads a packet. Each 10-bit word stands in a 16-bit number.
  *
- * Refuses with 1; 5; 2; 11; 6; 13; 6; 13; 6; 7; 13; 6; 12 in the order of document 01. The place is 0.
+ * Refuses with 1; 5; 2; 11; 6; 13; 6; 13; 6; 7; 13; 6; 12 in the order of checks (RULES). The place is 0.
  * Lent: all of `rows` is stored to where the call is accepted: the 42 bytes of each full slot, zeros for an empty one.
  */
 captions_packet captions_packet_read(const uint16_t *words, size_t len,

@@ -378,6 +378,6 @@ int main(int argc, char **argv)
         printf("differences %zu\n", 2 * total.records - total.data_equal - total.field_equal + total.other_count);
     else
         printf("no captions handed on\n");
-    printf("SUMMARY picture area, %s: areas observed %zu, our answer as 01 has it %zu\n", peer_name(), area_case_count, as_expected);
+    printf("SUMMARY picture area, %s: areas observed %zu, our answer as RULES has it %zu\n", peer_name(), area_case_count, as_expected);
     return !all_equal() || as_expected != area_case_count;
 }

@@ -20,7 +20,7 @@ struct area {
 
 /* One area by name, for the table of observations. */
 struct area_case {
-    int number;       /* the refusal that 01 gives; 0 for a legal area */
+    int number;       /* the refusal that RULES gives; 0 for a legal area */
     const char *what; /* what is wrong or special */
     void (*make)(struct area *);
 };

@@ -452,6 +452,6 @@ int main(int argc, char **argv)
     bool equal = equal_test();
     for (size_t i = 0; i < DEFECTS; i++)
         as_expected += observe(&defects[i]);
-    printf("SUMMARY subtitling packet: packets observed %d, our answer as 01 has it %zu\n", DEFECTS, as_expected);
+    printf("SUMMARY subtitling packet: packets observed %d, our answer as RULES has it %zu\n", DEFECTS, as_expected);
     return !equal || as_expected != DEFECTS;
 }

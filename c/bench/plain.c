@@ -1,4 +1,4 @@
-/* plain.c: the picture area; see plain.h. Sections named in comments are those of docs/01-scope.md. */
+/* plain.c: the picture area; see plain.h. Sections named in comments are those of docs/RULES.md. */
 #include "plain_area.h"
 
 enum {
@@ -127,7 +127,7 @@ typedef struct last {
     uint8_t urgent; /* how many records of this field have priority 0 */
 } last;
 
-/* 7, 8, 9 ("Legal records"). No record has field 0, so that any first one opens a field. */
+/* 7, 8, 9 ("Picture area"). No record has field 0, so that any first one opens a field. */
 static uint8_t judge_record(last *before, captions_record r)
 {
     uint8_t urgent = before->urgent;

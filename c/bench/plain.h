@@ -1,7 +1,7 @@
 /*
  * plain.h: the seven calls of captions.h in plain C, to measure the library against.
  *
- * Each does the same work as its namesake: the checks of docs/01-scope.md in its order, the same refusals and places,
+ * Each does the same work as its namesake: the checks of docs/RULES.md in their order, the same refusals and places,
  * the same answers, and no lent memory changed in a refusal.
  */
 #ifndef PLAIN_H

@@ -1,4 +1,4 @@
-/* plain_packet.c: the subtitling packet; see plain.h. Sections named in comments are those of docs/01-scope.md. */
+/* plain_packet.c: the subtitling packet; see plain.h. Sections named in comments are those of docs/RULES.md. */
 #include "plain.h"
 
 #include <string.h>
@@ -48,13 +48,13 @@ static bool words_hold(const uint16_t *words, size_t len)
     return wrong == 0 && words[len - 1] == cs_word(words[len - 1]);
 }
 
-/* 01 calls line 0, and 6 to 22, legal. */
+/* Legal are line 0, and lines 6 to 22 ("Subtitling packet"). */
 static bool line_holds(uint8_t line)
 {
     return line == 0 || (line >= 6 && line <= 22);
 }
 
-/* "Which refusal comes first", from 1 to DC against k. Every word's upper bits follow from its byte once 11 is judged. */
+/* "Order of checks", from 1 to DC against k. Every word's upper bits follow from its byte once 11 is judged. */
 static uint8_t judge_head(const uint16_t *words, size_t len)
 {
     if (len > CAPTIONS_PACKET_WORDS) {
@@ -152,7 +152,7 @@ static bool row_is_zero(const captions_row *row)
     return memcmp(row, &zeros, sizeof zeros) == 0;
 }
 
-/* 15, then 7. A slot is empty exactly when its descriptor is 0, and then its row is zero too. */
+/* 15, then 7. The mark says what the descriptor says, and an empty slot has a row of zeros. */
 static uint8_t judge_slot(captions_slot slot, const captions_row *row)
 {
     if (slot.full > 1 || slot.line > 31 || slot.reserved > 3 || slot.field > 1) {

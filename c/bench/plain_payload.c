@@ -1,4 +1,4 @@
-/* plain_payload.c: the line 21 payload; see plain.h. Sections named in comments are those of docs/01-scope.md. */
+/* plain_payload.c: the line 21 payload; see plain.h. Sections named in comments are those of docs/RULES.md. */
 #include "plain.h"
 
 #include <string.h>

@@ -4,7 +4,7 @@
 #include <stdio.h>
 #include <string.h>
 
-/* A foreign unit, the caption unit of document 01's case A, and a foreign unit behind it. */
+/* A foreign unit, the caption unit of case A (docs/RULES.md), and a foreign unit behind it. */
 static const uint8_t area[] = {
     0x00, 0x00, 0x01, 0xB2, 'D', 'T', 'G', '1', 0x41,
     0x00, 0x00, 0x01, 0xB2, 0x03, 0x81, 0x08, 0xAC, 0xA4, 0xD2, 0x00,

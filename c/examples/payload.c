@@ -5,7 +5,7 @@
 
 int main(void)
 {
-    /* Document 01's case M: the flags byte, then one access unit. */
+    /* Case M of docs/RULES.md: the flags byte, then one access unit. */
     static const uint8_t payload[] = { 0x00, 0x80, 0x94, 0x2C, 0x00, 0x00 };
     captions_access_unit units[CAPTIONS_ACCESS_UNITS];
     captions_payload head = captions_payload_read(payload, sizeof payload, units);

@@ -52,7 +52,7 @@ static uint8_t pattern_byte(const question *q, size_t i)
 }
 
 /*
- * What 01 says of every call: in a refusal all else is zero and outputs stay untouched; in an accepted answer number and
+ * What RULES says of every call: in a refusal all else is zero and no output has changed; in an accepted answer number and
  * place are 0, and a success changes only what it counts as written.
  */
 static const char *broken_rule(const question *q, const outcome *got)

@@ -15,7 +15,7 @@ typedef struct empty_case {
     operation op;
     bool input, output; /* which of them is empty */
     bool legal;         /* whether the value to write is */
-    uint8_t number;     /* 01's refusal */
+    uint8_t number;     /* the refusal by RULES */
     size_t len;         /* how many elements a writer wrote */
 } empty_case;
 
@@ -160,7 +160,7 @@ static void run(const empty_case *c, side at)
     if (differs != NULL)
         complain(c, differs);
     else if (by_library.numbers[0] != c->number || (is_writer(c->op) && by_library.numbers[2] != c->len))
-        complain(c, "not the number or the length that 01 has");
+        complain(c, "not the number or the length that RULES has");
     alter(c);
     if (!touches(ask_eagerly, &q)) {
         printf("NOT NOTICED: %s: a touch before the length was looked at\n", c->what);

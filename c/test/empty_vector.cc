@@ -1,7 +1,7 @@
 /*
  * empty_vector.cc: the calls from C++, with what an empty std::vector gives: in practice a null pointer, and length 0.
  *
- * Each answer and all lent memory are compared with what 01 says. The status is 1 where one differs.
+ * Each answer and all lent memory are compared with what RULES says. The status is 1 where one differs.
  */
 #include <cstdio>
 #include <cstring>

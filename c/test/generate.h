@@ -1,4 +1,4 @@
-/* generate.h: random values and inputs. What is called legal here is accepted by 01's rules. */
+/* generate.h: random values and inputs. What is called legal here is accepted by RULES. */
 #ifndef GENERATE_H
 #define GENERATE_H
 

@@ -1,5 +1,5 @@
 /*
- * layout.h: bytes and words made from values, as 01's tables lay them out.
+ * layout.h: bytes and words made from values, as the tables of RULES lay them out.
  *
  * Nothing is judged here and no reader is used: a number that its place cannot hold loses its upper bits. So a test can
  * also lay out a value that no writer would take.
@@ -9,7 +9,7 @@
 
 #include "captions.h"
 
-/* The values of 01: what a unit, a packet and a payload are written from. */
+/* The values of RULES: what a unit, a packet and a payload are written from. */
 typedef struct unit_value {
     uint32_t reserved;
     uint32_t vbi_data_flag;

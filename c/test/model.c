@@ -1,4 +1,4 @@
-/* model.c: the picture area by 01. The packet and the payload are in model_words.c. */
+/* model.c: the picture area by RULES. The packet and the payload are in model_words.c. */
 #include "model.h"
 
 #include <string.h>
@@ -90,7 +90,7 @@ static unsigned take_bits(bit_source *bits, unsigned count)
     return value;
 }
 
-/* The two data bytes travel least significant bit first, so that the first bit is worth 1. */
+/* A data byte comes with its lowest bit first: bit i of the stream is worth 2 to the i. */
 static uint8_t take_data(bit_source *bits)
 {
     unsigned value = 0;
@@ -100,7 +100,7 @@ static uint8_t take_data(bit_source *bits)
     return (uint8_t)value;
 }
 
-/* Field numbers never fall, and within one field line offsets rise strictly (000, 6.2, third requirement). */
+/* Record i is of a lower field than the one before it, or of the same and no higher line (000, 6.2, third requirement). */
 static bool out_of_order(const captions_record *records, size_t i)
 {
     if (i == 0)
@@ -209,7 +209,7 @@ captions_unit model_area_read(const uint8_t *area, size_t len, captions_record *
     return unit;
 }
 
-/* ---- Writing (01, "Which refusal comes first", last paragraph) ---- */
+/* ---- Writing (RULES, "Order of checks") ---- */
 
 static captions_written refusal(uint8_t number, size_t place)
 {

@@ -1,8 +1,8 @@
 /*
- * model.h: the seven calls of captions.h once more, written from docs/01-scope.md alone.
+ * model.h: the seven calls of captions.h once more, written from document 01, the source of docs/RULES.md, alone.
  *
- * The model shares nothing with the library but the types of captions.h. It is meant to be read beside 01: one check
- * after the other, in 01's order, bit by bit, and slow.
+ * The model shares nothing with the library but the types of captions.h. It is meant to be read beside RULES: one check
+ * after the other, in the order of checks, bit by bit, and slow.
  */
 #ifndef MODEL_H
 #define MODEL_H

@@ -1,4 +1,4 @@
-/* model_words.c: the subtitling packet and the Line 21 payload by 01. */
+/* model_words.c: the subtitling packet and the Line 21 payload by RULES. */
 #include "model.h"
 
 #include <string.h>
@@ -67,7 +67,7 @@ static bool sdp_checksum_is_right(const uint8_t *bytes, size_t len)
     return sum % 256 == 0;
 }
 
-/* CS: the low nine bits from DID through the last user word, modulo 512. */
+/* CS: the sum of nine bits of each word, DID the first and the last user word the last, modulo 512. */
 static bool cs_is_right(const uint16_t *words, size_t len)
 {
     unsigned sum = 0;
@@ -157,7 +157,7 @@ static bool row_is_zero(const captions_row *row)
     return true;
 }
 
-/* A full slot with descriptor 0, and an empty one that holds anything else, cannot be written. */
+/* No packet holds a full slot whose descriptor is 0, or an empty one that is not all zero. */
 static uint8_t judge_slot(const captions_slot *slot, const captions_row *row)
 {
     bool zero = slot->line == 0 && slot->reserved == 0 && slot->field == 0;

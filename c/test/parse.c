@@ -85,7 +85,7 @@ static void question_fields(cursor *c, question *q)
 
 /* ---- The answer behind ` => ` ---- */
 
-/* `refused N at P`. What may follow as ` or P2` is of no use here: in the rules `base`, P is what 01 says. */
+/* `refused N at P`. What may follow as ` or P2` is of no use here: in the state `base`, P is what RULES says. */
 static void refused_answer(cursor *c, outcome *to)
 {
     to->numbers[0] = take_number(c, 15);

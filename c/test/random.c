@@ -84,7 +84,7 @@ static const char *row_name(int i)
     return i == ROW_REPLACE_AREA ? "  area refused" : operation_names[i];
 }
 
-/* The refusals that 01 names for each operation; all others are 0. */
+/* The refusals that RULES has for each operation; all others are 0. */
 static bool can_refuse(int i, unsigned number)
 {
     static const uint8_t all[ROWS][REFUSALS] = {
