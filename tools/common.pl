@@ -3,14 +3,17 @@
 use strict;
 use warnings;
 use utf8;
-use Cwd qw(abs_path);
-use Encode qw(decode encode_utf8 FB_CROAK LEAVE_SRC);
-use File::Basename qw(dirname);
+use Encode qw(decode FB_CROAK LEAVE_SRC);
 use File::Find ();
+use File::Spec ();
+use FindBin ();
 
+# A relative folder in SOURCES counts from where the script was called.
+$ENV{SOURCES} = File::Spec->rel2abs($ENV{SOURCES}) if defined $ENV{SOURCES};
+chdir "$FindBin::Bin/.." or die "the root of the repository: $!\n";
 binmode STDOUT, ':encoding(UTF-8)';
 binmode STDERR, ':encoding(UTF-8)';
-chdir dirname(abs_path(__FILE__)) . '/..' or die "common.pl: the root of the repository: $!\n";
+$| = 1;
 
 # An ID of a clause, as in D-1, PA-12, OR-5.3.
 our $ID = qr/[A-Z]+-[A-Z0-9]+(?:\.[0-9]+)?/;
@@ -97,30 +100,40 @@ sub documents_folder {
 
 # ---- The rule book ----
 
+# What looks like the head of a clause and is none: a slip that would turn a clause into mere explanation.
+sub is_slip {
+    my ($head) = @_;
+    return 0 if $head !~ /\A\**$ID(?![A-Za-z0-9])(.*)\z/;
+    my $rest = $1;
+    return $rest =~ /ours|\{/ || $rest !~ /[^ .,:;*()]/;
+}
+
+# A clause from its head, `ID` or `ID, ours`, its braces (undef where there are none) and its text.
+# What is wrong with it goes to the sub TELL; nothing comes back where it is no clause.
+sub clause_of {
+    my ($head, $braces, $text, $line, $tell) = @_;
+    if ($head !~ /\A($ID)(, ours)?\z/) {
+        $tell->($line, "a clause begins with an ID, or with an ID and `, ours`; here stands: $head") if is_slip($head);
+        return;
+    }
+    my ($id, $ours) = ($1, defined $2);
+    my @carriages = defined $braces ? split(/, */, $braces, -1) : ();
+    my %seen;
+    if (defined $braces && (!@carriages || grep { !/\A[a-z][a-z0-9]*\z/ || $seen{$_}++ } @carriages)) {
+        $tell->($line, "$id: in braces stand names of carriages, each once, between commas; here stands: $braces");
+        @carriages = ();
+    }
+    return { id => $id, line => $line, text => $text, ours => $ours, carriages => \@carriages };
+}
+
 # The clauses of docs/RULES.md in their order. Each has id, line, text, ours and carriages (names; none: one row).
-# Defects of form are told by `complain` where TELL is set: one script tells them, the others only read.
+# Defects of form are told where TELL is set: one script tells them, the others only read.
 sub clauses_of_rules {
-    my ($tell) = @_;
+    my ($telling) = @_;
     my $path = 'docs/RULES.md';
-    my (@clauses, $open, $fenced);
+    my $tell = sub { complain("$path:$_[0]", $_[1]) if $telling };
+    my (@clauses, $open, $fenced, %first_line);
     my $number = 0;
-    my $defect = sub { complain("$path:$number", $_[0]) if $tell };
-    my $begin = sub {
-        my ($head, $braces, $text) = @_;
-        my ($id, $ours) = $head =~ /\A($ID)(, ours)?\z/;
-        my @carriages = defined $braces ? split(/, */, $braces, -1) : ();
-        my %seen;
-        if (!defined $id) {
-            $defect->("a clause begins with an ID, or with an ID and `, ours`; here stands: $head");
-            return;
-        }
-        if (defined $braces && (!@carriages || grep { !/\A[a-z][a-z0-9]*\z/ || $seen{$_}++ } @carriages)) {
-            $defect->("$id: in braces stand names of carriages, each once, between commas; here stands: $braces");
-            @carriages = ();
-        }
-        $open = { id => $id, line => $number, text => $text, ours => defined $ours, carriages => \@carriages };
-        push @clauses, $open;
-    };
     for my $line (lines_of($path)) {
         $number++;
         if ($line =~ /\A\s*```/) {
@@ -133,33 +146,107 @@ sub clauses_of_rules {
         } elsif ($line =~ /\A\s*\|/) {
             undef $open;
             my ($first, @others) = cells_of($line);
-            next if $first !~ /\A\**[A-Z]+-[A-Z0-9]/;
             my ($head, $braces) = $first =~ /\A(.*?)(?: *\{([^{}]*)\})?\z/;
-            $begin->($head, $braces, join ' | ', @others);
-            undef $open;
+            my $clause = clause_of($head, $braces, join(' | ', @others), $number, $tell);
+            push @clauses, $clause if $clause;
         } else {
-            my $item = $line =~ s/\A\s*(?:[-*+]|[0-9]+[.)]) +//;
-            undef $open if $item;
-            if ($line =~ /\A\s*\*\*([A-Z]+-[A-Z0-9][^*]*)\*\*(?: *\{([^{}]*)\})?(.*)\z/) {
-                my ($head, $braces, $text) = ($1, $2, $3);
-                $defect->('a clause begins in the midst of another: a blank line is missing') if $open;
-                $begin->($head, $braces, $text);
+            my $is_item = $line =~ s/\A\s*(?:[-*+]|[0-9]+[.)]) +//;
+            undef $open if $is_item;
+            my ($head, $braces, $text) = $line =~ /\A\s*\*\*([^*]+)\*\*(?: *\{([^{}]*)\})?(.*)\z/;
+            my $clause = defined $head ? clause_of($head, $braces, $text, $number, $tell) : undef;
+            if ($clause) {
+                $tell->($number, "the clause $clause->{id} begins inside $open->{id}: no blank line before it") if $open;
+                $open = $clause;
+                push @clauses, $clause;
             } elsif ($open) {
                 $open->{text} .= " $line";
             }
         }
     }
-    $number++;
-    my %line_of;
     for my $clause (@clauses) {
         my ($id, $at) = @$clause{qw(id line)};
         $clause->{text} = folded($clause->{text});
-        next if !$tell;
-        complain("$path:$at", "the clause $id has no text") if $clause->{text} !~ /[^ |]/;
-        complain("$path:$at", "the clause $id stands here twice, first on line $line_of{$id}") if $line_of{$id};
-        $line_of{$id} //= $at;
+        $tell->($at, "the clause $id has no text") if $clause->{text} !~ /[^ |]/;
+        $tell->($at, "the clause $id stands here twice, first on line $first_line{$id}") if $first_line{$id};
+        $first_line{$id} //= $at;
     }
     return @clauses;
+}
+
+# ---- Code and proofs, without their comments ----
+
+# A text without its comments. Their line ends are kept, so that lines keep their numbers. Block comments nest, and one
+# that does not end reaches to the end of the text: what might be comment never counts as code.
+sub without_comments {
+    my ($text, $opens, $closes, $piece) = @_;
+    my ($out, $depth) = ('', 0);
+    pos($text) = 0;
+    while (pos($text) < length $text) {
+        if ($text =~ /\G$opens/gc) {
+            $depth++;
+        } elsif ($depth && $text =~ /\G$closes/gc) {
+            $depth--;
+        } elsif ($depth) {
+            $text =~ /\G(.)/gcs;
+            $out .= "\n" if $1 eq "\n";
+        } else {
+            $text =~ /\G$piece/gc;
+            $out .= $1 // '';
+        }
+    }
+    return $out;
+}
+
+# The next piece: a line comment, or what is kept, which is a quoted text or a run without quotes and comments.
+# In antt a name may hold dashes, so `--` opens a comment only where no name stands before it.
+my $name_letter = qr/[^\s(){}.;,\@"«»]/;
+my $antt_run = qr/(?:[^-"{]|\{(?!-)|-(?!-)|(?<=$name_letter)-)+/;
+my $antt_piece = qr/--[^\n]*|("(?:[^"\\\n]|\\.)*"|$antt_run|.)/s;
+my $code_piece = qr{//[^\n]*|('(?:[^'\\\n]|\\.)'|"(?:[^"\\]|\\.)*"|[^'"/]+|.)}s;
+
+sub bare_antt { return without_comments(text_of($_[0]), qr/\{-/, qr/-\}/, $antt_piece) }
+sub bare_code { return without_comments(text_of($_[0]), qr{/\*}, qr{\*/}, $code_piece) }
+
+# The theorems of an .antt file in their order: what is declared `pub NAME : ..` and defined below, `NAME .. = ..`.
+# Each has name, line and statement (`NAME : ..`, white space folded; behind it the heads of the modules around it, which
+# bind its variables). An abbrev, a record, a data type and what is unfoldable have another word before `pub` or behind
+# it, and the parts of a record are not defined: these are none.
+sub theorems_of {
+    my ($path) = @_;
+    my (@theorems, @modules, $head, $stating, $defining, %declared);
+    my $number = 0;
+    for my $line (split /\n/, bare_antt($path)) {
+        $number++;
+        next if $line !~ /\A(\s*)(\S+)/;
+        my ($indent, $word) = (length $1, $2);
+        if ($head) {
+            $head->{text} .= " $line";
+            undef $head if $line =~ /\swhere\s*\z/;
+            next;
+        }
+        pop @modules while @modules && $modules[-1]{indent} >= $indent;
+        if ($stating && $indent > $stating->{indent}) {
+            $stating->{statement} .= " $line";
+            next;
+        }
+        undef $stating;
+        undef $defining if $defining && $indent <= $defining->{indent};
+        delete $declared{$_} for grep { $_ > $indent } keys %declared;
+        if ($line =~ /\A\s*(?:pub )?module\s/) {
+            push @modules, { indent => $indent, text => $line };
+            $head = $modules[-1] if $line !~ /\swhere\s*\z/;
+        } elsif ($line =~ /\A\s*pub (\S+) +([:{(].*)/ && $1 ne 'record' && $1 ne 'data') {
+            my @around = map { '[' . folded($_->{text}) . ']' } @modules;
+            $stating = { name => $1, line => $number, indent => $indent, statement => "$1 $2", around => \@around };
+            push @theorems, $stating;
+            $declared{$indent}{$1} = $stating;
+        } else {
+            $defining //= $declared{$indent}{$word};
+            $defining->{defined} = 1 if $defining && $line =~ /\s=(?:\s|\z)/;
+        }
+    }
+    $_->{statement} = folded(join ' ', $_->{statement}, @{ $_->{around} }) for @theorems;
+    return grep { $_->{defined} } @theorems;
 }
 
 1;
