@@ -225,7 +225,7 @@ sub theorems_of {
             next;
         }
         pop @modules while @modules && $modules[-1]{indent} >= $indent;
-        if ($stating && $indent > $stating->{indent}) {
+        if ($stating && ($indent > $stating->{indent} || $word =~ /\A[)\]}]/)) {
             $stating->{statement} .= " $line";
             next;
         }
@@ -235,9 +235,9 @@ sub theorems_of {
         if ($line =~ /\A\s*(?:pub )?module\s/) {
             push @modules, { indent => $indent, text => $line };
             $head = $modules[-1] if $line !~ /\swhere\s*\z/;
-        } elsif ($line =~ /\A\s*pub (\S+) +([:{(].*)/ && $1 ne 'record' && $1 ne 'data') {
+        } elsif ($line =~ /\A\s*pub (\S+)(\s*\z| +[:{(].*)/ && $1 ne 'record' && $1 ne 'data') {
             my @around = map { '[' . folded($_->{text}) . ']' } @modules;
-            $stating = { name => $1, line => $number, indent => $indent, statement => "$1 $2", around => \@around };
+            $stating = { name => $1, line => $number, indent => $indent, statement => "$1$2", around => \@around };
             push @theorems, $stating;
             $declared{$indent}{$1} = $stating;
         } else {
