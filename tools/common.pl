@@ -3,16 +3,13 @@
 use strict;
 use warnings;
 use utf8;
-use Encode qw(decode FB_CROAK LEAVE_SRC);
-use File::Find ();
-use File::Spec ();
-use FindBin ();
+use Cwd qw(getcwd);
 
 # A relative folder in SOURCES counts from where the script was called.
-$ENV{SOURCES} = File::Spec->rel2abs($ENV{SOURCES}) if defined $ENV{SOURCES};
-chdir "$FindBin::Bin/.." or die "the root of the repository: $!\n";
-binmode STDOUT, ':encoding(UTF-8)';
-binmode STDERR, ':encoding(UTF-8)';
+$ENV{SOURCES} = getcwd() . "/$ENV{SOURCES}" if defined $ENV{SOURCES} && $ENV{SOURCES} !~ m{\A/};
+chdir __FILE__ =~ s{[^/]*\z}{..}r or die "the root of the repository: $!\n";
+binmode STDOUT, ':utf8';
+binmode STDERR, ':utf8';
 $| = 1;
 
 # An ID of a clause, as in D-1, PA-12, OR-5.3.
@@ -38,10 +35,9 @@ sub text_of {
     my ($path) = @_;
     open my $file, '<:raw', $path or die "$path: $!\n";
     local $/;
-    my $bytes = <$file> // '';
-    close $file;
-    my $text = eval { decode('UTF-8', $bytes, FB_CROAK | LEAVE_SRC) };
-    return defined $text ? $text : decode('ISO-8859-1', $bytes);
+    my $text = <$file> // '';
+    utf8::decode($text);
+    return $text;
 }
 
 # The lines of a file, without their ends.
@@ -54,15 +50,17 @@ sub lines_of {
 
 # Every file and folder of the repository, by its path from the root. Build output is left out: no page may link to it.
 sub all_paths {
-    my %present;
-    my $see = sub {
-        if (/\A(?:\.git|target)\z/) {
-            $File::Find::prune = 1;
-            return;
+    my %present = ('.' => 1);
+    my @folders = ('');
+    while (@folders) {
+        my $folder = shift @folders;
+        opendir my $entries, $folder eq '' ? '.' : $folder or next;
+        for my $entry (grep { !/\A(?:\.|\.\.|\.git|target)\z/ } readdir $entries) {
+            my $path = "$folder$entry";
+            $present{$path} = 1;
+            push @folders, "$path/" if -d $path && !-l $path;
         }
-        $present{ $File::Find::name =~ s{\A\./}{}r } = 1;
-    };
-    File::Find::find($see, '.');
+    }
     return \%present;
 }
 
@@ -155,7 +153,7 @@ sub clauses_of_rules {
             my ($head, $braces, $text) = $line =~ /\A\s*\*\*([^*]+)\*\*(?: *\{([^{}]*)\})?(.*)\z/;
             my $clause = defined $head ? clause_of($head, $braces, $text, $number, $tell) : undef;
             if ($clause) {
-                $tell->($number, "the clause $clause->{id} begins inside $open->{id}: no blank line before it") if $open;
+                $tell->($number, "the clause $clause->{id} begins inside the clause $open->{id}") if $open;
                 $open = $clause;
                 push @clauses, $clause;
             } elsif ($open) {
@@ -208,9 +206,9 @@ sub bare_antt { return without_comments(text_of($_[0]), qr/\{-/, qr/-\}/, $antt_
 sub bare_code { return without_comments(text_of($_[0]), qr{/\*}, qr{\*/}, $code_piece) }
 
 # The theorems of an .antt file in their order: what is declared `pub NAME : ..` and defined below, `NAME .. = ..`.
-# Each has name, line and statement (`NAME : ..`, white space folded; behind it the heads of the modules around it, which
-# bind its variables). An abbrev, a record, a data type and what is unfoldable have another word before `pub` or behind
-# it, and the parts of a record are not defined: these are none.
+# Each has name, line and statement (`NAME : ..`, white space folded; behind it the heads of the modules around it,
+# which bind its variables). An abbrev, a record, a data type and what is unfoldable have another word before `pub` or
+# behind it, and the parts of a record are not defined: these are none.
 sub theorems_of {
     my ($path) = @_;
     my (@theorems, @modules, $head, $stating, $defining, %declared);
