@@ -24,7 +24,7 @@ abbrev pub written : ℕ → Written
 written n = record { refusal = accepted; len = n }
 
 abbrev pub countedOf : Verdict → List ℕ → Written
-countedOf Accepted laid = record { refusal = refusalOf Accepted; len = length laid }
+countedOf Accepted laid = written (length laid)
 countedOf (Refused reason item) laid = record { refusal = refusalOf (Refused reason item); len = 0 }
 
 abbrev pub leftOf : Verdict → List ℕ → List ℕ → List ℕ

@@ -1,4 +1,4 @@
--- Document 01, "Which refusal comes first": an order of checks is a list of verdicts, of which the first that refuses decides.
+-- RULES, "Order of checks": an order of checks is a list of verdicts, of which the first that refuses decides.
 use Prim.Native.Nat.{ℕ}
 use mathlib.Core.Bool.{Bool, true, false}
 use mathlib.Core.List.{List, [], _∷_}
