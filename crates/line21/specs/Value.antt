@@ -1,4 +1,4 @@
--- A Line 21 payload's value, when it is legal, and how the code's structs hold it. Document 01, "Line 21 payload"; document 004, Table 2.
+-- A Line 21 payload's value, when it is legal, and how the code's structs hold it. RULES, "Line 21 payload"; 004, Table 2.
 use Prim.Native.Nat.{ℕ, _≤_, _<_}
 use mathlib.Core.Path.{_≡_}
 use mathlib.Core.List.{List, []}
