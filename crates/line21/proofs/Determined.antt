@@ -20,18 +20,18 @@ use Rattle.line21.proofs.Answers.{shown-one}
 pub read-determined : (s : List ℕ) (a b : Answer) → Reads s a → Reads s b → a ≡ b
 read-determined s a b ra rb = ra .answer ∙ sym (rb .answer)
 
-pub head-determined : (s : List ℕ) (a b : Head) → ReadsHead s a → ReadsHead s b → a ≡ b
-head-determined s a b ra rb = ra ∙ sym rb
+pub read-head-determined : (s : List ℕ) (a b : Head) → ReadsHead s a → ReadsHead s b → a ≡ b
+read-head-determined s a b ra rb = ra ∙ sym rb
 
-pub unit-determined : (s : List ℕ) (i : ℕ) (a b : One) → ReadsUnit s i a → ReadsUnit s i b → a ≡ b
-unit-determined s i a b ra rb = shown-one a b (ra ∙ sym rb)
+pub read-unit-determined : (s : List ℕ) (i : ℕ) (a b : One) → ReadsUnit s i a → ReadsUnit s i b → a ≡ b
+read-unit-determined s i a b ra rb = shown-one a b (ra ∙ sym rb)
 
 pub read-into-determined : (s lent : List ℕ) (a : Head) (exit : List ℕ) (b : Head) (end : List ℕ)
     → ReadsInto s lent a exit → ReadsInto s lent b end → (a ≡ b) × (exit ≡ end)
 read-into-determined s lent a exit b end ra rb = (ra .answer ∙ sym (rb .answer), ra .left ∙ sym (rb .left))
 
-pub unit-in-determined : (units : List ℕ) (i : ℕ) (a b : AccessUnit) → a ≡ getD (unitsIn units) i blank
-    → b ≡ getD (unitsIn units) i blank → a ≡ b
+pub unit-in-determined : (units : List ℕ) (i : ℕ) (a b : AccessUnit)
+    → a ≡ getD (unitsIn units) i blank → b ≡ getD (unitsIn units) i blank → a ≡ b
 unit-in-determined units i a b ra rb = ra ∙ sym rb
 
 pub bytes-of-determined : (p : Payload) (a b : List ℕ) → a ≡ unitsBytes (p .units) → b ≡ unitsBytes (p .units) → a ≡ b

@@ -185,11 +185,11 @@ written-read-into = lent-theorems.written-read-into
 pub read-determined : (s : List ℕ) (a b : Answer) → Reads s a → Reads s b → a ≡ b
 read-determined = determined.read-determined
 
-pub head-determined : (s : List ℕ) (a b : Head) → ReadsHead s a → ReadsHead s b → a ≡ b
-head-determined = determined.head-determined
+pub read-head-determined : (s : List ℕ) (a b : Head) → ReadsHead s a → ReadsHead s b → a ≡ b
+read-head-determined = determined.read-head-determined
 
-pub unit-determined : (s : List ℕ) (i : ℕ) (a b : One) → ReadsUnit s i a → ReadsUnit s i b → a ≡ b
-unit-determined = determined.unit-determined
+pub read-unit-determined : (s : List ℕ) (i : ℕ) (a b : One) → ReadsUnit s i a → ReadsUnit s i b → a ≡ b
+read-unit-determined = determined.read-unit-determined
 
 pub read-into-determined : (s lent : List ℕ) (a : Head) (exit : List ℕ) (b : Head) (end : List ℕ)
     → ReadsInto s lent a exit → ReadsInto s lent b end → (a ≡ b) × (exit ≡ end)

@@ -1,4 +1,4 @@
--- A subtitling packet's value, when it is legal, and how the code holds it. Document 01, "Subtitling packet"; document 002, 5.4.2.
+-- A subtitling packet's value, when it is legal, and how the code holds it. RULES, "Subtitling packet"; 002, 5.4.2.
 use Prim.Native.Nat.{ℕ, _+_, _*_, _≤_, _<_}
 use mathlib.Core.Path.{_≡_}
 use mathlib.Core.Logic.{_⊎_}

@@ -18,9 +18,9 @@ use Rattle.sdp.specs.declared.Packet.{Packet}
 use Rattle.sdp.specs.Value.{SlotRow, descriptor, empty, together, beside, held, Typed}
 use Rattle.sdp.specs.Layout.{count}
 use Rattle.subtitling.specs.Layout.{layout}
-use Rattle.sdp.specs.Holdable.{slotVerdict, slotsVerdict}
+use Rattle.sdp.specs.SlotVerdict.{slotVerdict, slotsVerdict}
 use Rattle.subtitling.specs.Writing.{valueVerdict}
-use Rattle.sdp.proofs.Numbers.{count-most, length-held, descriptors-held, held-shaped}
+use Rattle.sdp.proofs.Numbers.{count-most, length-held, held-descriptors, held-shaped}
 use Rattle.subtitling.proofs.Numbers.{length-shaped}
 
 -- no slot and no row: what stands beyond the last
@@ -59,7 +59,7 @@ module _ (p : Packet) (rows : List (List ℕ)) (t : Typed p rows) where
 
   -- the layout is as long as the code counts
   pub length-layout-held : length (layout (held p rows)) ≡ 20 + 45 * count (map descriptor (p .slots))
-  length-layout-held = length-shaped (held p rows) (held-shaped p rows t) ∙ ap (λ (ds : List ℕ). 20 + 45 * count ds) (descriptors-held p rows t)
+  length-layout-held = length-shaped (held p rows) (held-shaped p rows t) ∙ ap (λ (ds : List ℕ). 20 + 45 * count ds) (held-descriptors p rows t)
 
   pub few-structures : count (map descriptor (p .slots)) ≤ 5
   few-structures = omega (arith, count-most (map descriptor (p .slots)), length-map (p .slots) descriptor, t .slots)

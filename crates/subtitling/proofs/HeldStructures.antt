@@ -10,7 +10,7 @@ use lib.Seq.{take-suc}
 use Rattle.sdp.specs.declared.Packet.{Packet}
 use Rattle.sdp.specs.Value.{SlotRow, descriptor, empty, held, Typed}
 use Rattle.sdp.specs.Layout.{count, structure, structures}
-use Rattle.sdp.proofs.Numbers.{length-wide, length-held, descriptors-held, held-shaped}
+use Rattle.sdp.proofs.Numbers.{length-wide, length-held, held-descriptors, held-shaped}
 use Rattle.subtitling.proofs.Held.{beyond, held-at}
 
 pub structure-none : (d : ℕ) (row : List ℕ) → d ≡ 0 → structure d row ≡ []
@@ -40,7 +40,7 @@ module _ (p : Packet) (rows : List (List ℕ)) (t : Typed p rows) where
       ∙ ap (λ (bytes : List ℕ). structures (take i xs) ++ bytes) (append-nil (structure (descriptor (getD (p .slots) i empty)) (getD rows i [])))
 
   pub length-structures-held : length (structures (held p rows .slots)) ≡ 45 * count (map descriptor (p .slots))
-  length-structures-held = length-wide (held p rows .slots) (held-shaped p rows t .wide) ∙ ap (λ (ds : List ℕ). 45 * count ds) (descriptors-held p rows t)
+  length-structures-held = length-wide (held p rows .slots) (held-shaped p rows t .wide) ∙ ap (λ (ds : List ℕ). 45 * count ds) (held-descriptors p rows t)
 
   pub structures-front : (i : ℕ) → length (structures (take i (held p rows .slots))) ≤ 45 * count (map descriptor (p .slots))
   structures-front i =

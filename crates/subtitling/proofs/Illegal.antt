@@ -21,9 +21,9 @@ use Rattle.sdp.specs.declared.Packet.{Packet}
 use Rattle.sdp.specs.Value.{SlotRow, Sdp, Typed, Legal, descriptor, held}
 use Rattle.subtitling.specs.Layout.{layout}
 use Rattle.sdp.specs.User.{lineVerdict}
-use Rattle.sdp.specs.Holdable.{allZero, unwritable, slotVerdict, slotsVerdict}
+use Rattle.sdp.specs.SlotVerdict.{allZero, unwritable, slotVerdict, slotsVerdict}
 use Rattle.subtitling.specs.Writing.{valueVerdict}
-use Rattle.sdp.proofs.Numbers.{legal-held}
+use Rattle.sdp.proofs.Numbers.{checked-legal}
 
 abbrev pub Is15or7 : Refusal → Type 0
 Is15or7 r = (r ≡ record { number = 15; place = 0 }) ⊎ (r ≡ record { number = 7; place = 0 })
@@ -61,6 +61,6 @@ illegal-15-or-7 p rows room t h =
     let refused : andThen (counted v) (slotsVerdict (v .slots)) ≡ Accepted → ⊥ =
     λ e.
     let both = accepted-andThen (counted v) (slotsVerdict (v .slots)) e in
-    h (legal-held p rows t (accepted-within 65535 (p .counter) _ _ (both .0)) (both .1)) in
+    h (checked-legal p rows t (accepted-within 65535 (p .counter) _ _ (both .0)) (both .1)) in
     subst (λ (verdict : Verdict). Is15or7 (refusalOf verdict)) (sym (value-first v room))
     (refused-gives Is15or7 (andThen (counted v) (slotsVerdict (v .slots))) (rest v room) (value-gives v) refused)

@@ -34,18 +34,18 @@ use Rattle.sdp.specs.declared.Packet.{Packet}
 use Rattle.subtitling.specs.declared.Answer.{Answer}
 use Rattle.sdp.specs.Value.{SlotRow, Sdp, LegalSlot, Legal, none, held, numbersOf, rowsOf}
 use Rattle.sdp.specs.Layout.{descriptorsOf, count}
-use Rattle.sdp.specs.Holdable.{slotVerdict}
+use Rattle.sdp.specs.SlotVerdict.{slotVerdict}
 use Rattle.sdp.specs.SlotFaults.{Holdable, Unwritable, NoLine}
 use Rattle.subtitling.specs.Layout.{layout}
 use Rattle.subtitling.specs.Reading.{formVerdict, packetVerdict, valueOf, found, readRowsOf, Reads, ReadsRows, ReadsInto}
 use Rattle.subtitling.specs.Writing.{valueVerdict, Writes}
 use Rattle.subtitling.specs.Order.{readingChecks, writingChecks}
-use Rattle.sdp.proofs.Beside.{held-apart, numbers-held, rows-held}
-use Rattle.sdp.proofs.Numbers.{slots-accepted, legal-held}
+use Rattle.sdp.proofs.Beside.{held-together, held-numbers, held-rows}
+use Rattle.sdp.proofs.Numbers.{slots-accepted, checked-legal}
 use Rattle.sdp.proofs.LegalBytes.{few}
 use Rattle.sdp.proofs.Theorems as sdp
 use Rattle.subtitling.proofs.Numbers.{length-layout, accepted-value, value-accepted}
-use Rattle.subtitling.proofs.Back.{layout-accepted, value-layout, packet-legal}
+use Rattle.subtitling.proofs.Back.{layout-accepted, layout-value, accepted-legal}
 use Rattle.subtitling.proofs.Illegal.{Is15or7, illegal-15-or-7}
 use Rattle.subtitling.proofs.Sequence as sequence
 
@@ -66,14 +66,14 @@ refused-told verdict number some told e = omega (arith, sym (ap (λ (v : Verdict
 -- The answer to a legal value's words is that value: its numbers,
 pub the-answer : (v : Sdp) → Legal v → (r : Answer) → Reads (layout v) r → r ≡ record { refusal = accepted; packet = numbersOf v }
 the-answer v h r p =
-    p ∙ ap₂ answered (layout-accepted v h) (value-layout v h)
+    p ∙ ap₂ answered (layout-accepted v h) (layout-value v h)
   where
     answered : Verdict → Sdp → Answer
     answered verdict value = record { refusal = refusalOf verdict; packet = numbersOf (found verdict value) }
 
 -- and its rows.
 pub the-rows : (v : Sdp) → Legal v → (rows : List (List ℕ)) → ReadsRows (layout v) rows → rows ≡ rowsOf v
-the-rows v h rows p = p ∙ ap₂ (λ (verdict : Verdict) (value : Sdp). rowsOf (found verdict value)) (layout-accepted v h) (value-layout v h)
+the-rows v h rows p = p ∙ ap₂ (λ (verdict : Verdict) (value : Sdp). rowsOf (found verdict value)) (layout-accepted v h) (layout-value v h)
 
 -- an answer of number 0 is an acceptance
 accepts : (s : List ℕ) (r : Answer) → Reads s r → r .refusal .number ≡ 0 → packetVerdict s ≡ Accepted
@@ -82,17 +82,17 @@ accepts s r p e = told-accepted (packetVerdict s) (sym (ap (λ (a : Answer). a .
 -- Words are accepted exactly when some legal value has them as its layout.
 pub accepted-exactly : (s : List ℕ) (r : Answer) → Reads s r → r .refusal .number ≡ 0 ↔ ((v : Sdp) × Legal v × (layout v ≡ s))
 accepted-exactly s r p = (
-  λ e. let back = packet-legal s (accepts s r p e) in (valueOf s, back .legal, back .same),
+  λ e. let back = accepted-legal s (accepts s r p e) in (valueOf s, back .legal, back .same),
   λ w. ap (λ (a : Answer). a .refusal .number) (the-answer (w .0) (w .1) r (subst (λ (t : List ℕ). Reads t r) (sym (w .2)) p)),
 )
 
 -- That value is the only one,
 pub only-one : (v w : Sdp) → Legal v → Legal w → layout v ≡ layout w → v ≡ w
-only-one v w hv hw e = sym (value-layout v hv) ∙ ap valueOf e ∙ value-layout w hw
+only-one v w hv hw e = sym (layout-value v hv) ∙ ap valueOf e ∙ layout-value w hw
 
 -- and its numbers and rows, put together, are the value.
 pub held-together : (v : Sdp) → held (numbersOf v) (rowsOf v) ≡ v
-held-together = held-apart
+held-together = held-together
 
 -- A refusal tells the verdict of all checks.
 pub refused-in-order : (s : List ℕ) (r : Answer) → Reads s r → r .refusal ≡ refusalOf (packetVerdict s)
@@ -141,7 +141,7 @@ layout-size v h = (length-layout v h, few v h)
 
 pub accepted-size : (s : List ℕ) (r : Answer) → Reads s r → r .refusal .number ≡ 0 → (k : ℕ) × (k ≤ 5) × (length s ≡ 20 + 45 * k)
 accepted-size s r p e =
-    let back = packet-legal s (accepts s r p e) in
+    let back = accepted-legal s (accepts s r p e) in
     let size = layout-size (valueOf s) (back .legal) in
     (count (descriptorsOf (valueOf s .slots)), size .1, sym (ap length (back .same)) ∙ size .0)
 
@@ -184,7 +184,7 @@ pub writes-exactly : (p : Packet) (rows : List (List ℕ)) (out : List ℕ) (r :
 writes-exactly p rows out r exit w = (
   λ e.
       let ok = accepted-value (held p rows) (length out) (wrote-accepted _ _ _ _ _ (w .wrote) e) in
-      (legal-held p rows (w .typed) (ok .few) (ok .each), ok .short, ok .fits),
+      (checked-legal p rows (w .typed) (ok .few) (ok .each), ok .short, ok .fits),
   λ h.
       let v = held p rows in
       let few : v .counter ≤ 65535 = omega (arith, h .0 .count) in
@@ -264,8 +264,8 @@ read-written p rows out r exit w e a back read readRows =
     let front : take (r .len) exit ≡ layout v =
     ap₂ (λ (n : ℕ) (words : List ℕ). take n words) (ap (λ (x : Written). x .len) (wrote .0)) (wrote .1)
     ∙ take-append-seam (layout v) (drop (length (layout v)) out) in (
-      the-answer v legal a (subst (λ (s : List ℕ). Reads s a) front read) ∙ ap answered (numbers-held p rows (w .typed)),
-      the-rows v legal back (subst (λ (s : List ℕ). ReadsRows s back) front readRows) ∙ rows-held p rows (w .typed),
+      the-answer v legal a (subst (λ (s : List ℕ). Reads s a) front read) ∙ ap answered (held-numbers p rows (w .typed)),
+      the-rows v legal back (subst (λ (s : List ℕ). ReadsRows s back) front readRows) ∙ held-rows p rows (w .typed),
     )
   where
     answered : Packet → Answer
@@ -277,12 +277,12 @@ pub written-read : (s : List ℕ) (a : Answer) (rows : List (List ℕ)) → Read
     → (r ≡ record { refusal = accepted; len = length s }) × (exit ≡ over s out)
 written-read s a rows read readRows e out r exit w fits =
     let yes = accepts s a read e in
-    let back = packet-legal s yes in
+    let back = accepted-legal s yes in
     let same : held (a .packet) rows ≡ valueOf s =
     ap₂ held
     (ap (λ (x : Answer). x .packet) read ∙ ap (λ (verdict : Verdict). numbersOf (found verdict (valueOf s))) yes)
     (readRows ∙ ap (λ (verdict : Verdict). rowsOf (found verdict (valueOf s))) yes)
-    ∙ held-apart (valueOf s) in
+    ∙ held-together (valueOf s) in
     let laid : layout (held (a .packet) rows) ≡ s = ap layout same ∙ back .same in
     let legal = subst Legal (sym same) (back .legal) in
     let room : length (layout (held (a .packet) rows)) ≤ length out = omega (arith, ap length laid) in

@@ -1,5 +1,5 @@
--- What reading a subtitling packet answers, for every list of words. Document 01, "Which refusal comes first": 1; 5 under 20 words; 2; 11 from DID to
--- CS; DID, SDID 6; DC must be the length less 7, else 13; the rules over the user words; CS 12.
+-- What reading a subtitling packet answers, for every list of words. RULES, "Order of checks": 1; 5 under 20 words; 2;
+-- 11 from DID to CS; DID, SDID 6; DC 13; the rules over the user words; CS 12.
 use Prim.Native.Nat.{ℕ, _-_, _%_}
 use mathlib.Core.Path.{_≡_}
 use mathlib.Core.Bool.{not}
