@@ -11,8 +11,8 @@ use Rattle.lists.specs.Room.{over}
 use Rattle.refusal.specs.declared.Written.{Written}
 use Rattle.refusal.specs.Checks.{first}
 use Rattle.refusal.specs.Numbers.{refusalOf}
-use Rattle.refusal.proofs.Outputs.{wrote-accepted, accepted-wrote, wrote-refusal, success-left, refusal-left}
 use Rattle.refusal.specs.Answers.{refused, written}
+use Rattle.refusal.proofs.Outputs.{wrote-accepted, accepted-wrote, wrote-refusal, success-left, refusal-left}
 use Rattle.line21.specs.declared.Payload.{Payload}
 use Rattle.line21.specs.Value.{Line21, Legal, LegalPayload, held}
 use Rattle.line21.specs.Layout.{layout}

@@ -3,7 +3,7 @@
 use Prim.Native.Nat.{ℕ, _+_, _-_, _≤_}
 use native.Mathlib.Omega.{arith}
 use mathlib.Core.Path.{_≡_, _∙_, ap, sym, subst}
-use mathlib.Core.List.{List, _∷_, _++_}
+use mathlib.Core.List.{List, _∷_}
 use borrow.Author.Tests.{le-ltb}
 use lib.ListN.{length, getD, length-map}
 use Rattle.lists.specs.Each.{Each}
@@ -25,7 +25,7 @@ use Rattle.sdp.proofs.Numbers.{slot-accepted, RowSlot, beside-each}
 use Rattle.sdp.proofs.Sequence.{descriptors-order, structures-order, slots-order}
 use Rattle.subtitling.specs.Reading.{userIn, formVerdict, headerVerdict, checksumVerdict, packetVerdict}
 use Rattle.subtitling.specs.Writing.{valueVerdict}
-use Rattle.subtitling.specs.Order.{outerChecks, innerChecks, readingChecks, writingChecks}
+use Rattle.subtitling.specs.Order.{outerChecks, innerChecks, readingChecks, writingChecks, Reached}
 use Rattle.subtitling.proofs.Accepted.{accepted-form, accepted-header}
 
 -- READING
@@ -68,17 +68,15 @@ pub writing-order : (v : Sdp) (room : ℕ) → valueVerdict v room ≡ first (wr
 unfolding valueVerdict
 writing-order v room = simp (slots-order, first-append, andThen-last)
 
--- where the counter can be held, the first slot that does not pass decides
-pub slot-next : (v : Sdp) (room : ℕ) → v .counter ≤ 65535 → (before : List SlotRow) (x : SlotRow) (after : List SlotRow) → v .slots ≡ before ++ (x ∷ after)
-    → Each LegalSlot before → (slotVerdict x ≡ Accepted → ⊥) → valueVerdict v room ≡ slotVerdict x
+-- a slot that is reached and does not pass decides
+pub slot-next : (v : Sdp) (room : ℕ) (x : SlotRow) → Reached v x → (slotVerdict x ≡ Accepted → ⊥) → valueVerdict v room ≡ slotVerdict x
 unfolding valueVerdict
-slot-next v room few before x after e h refused =
-    let passed = each-map LegalSlot (λ (y : SlotRow). slotVerdict y ≡ Accepted) slot-accepted before h in
-    let here : slotsVerdict (v .slots) ≡ slotVerdict x = ap slotsVerdict e ∙ first-refused slotVerdict before x after passed refused in
-    simp (le-ltb 65535 (v .counter) few, here) (andThen-refused (slotVerdict x) _ refused)
+slot-next v room x at refused =
+    let passed = each-map LegalSlot (λ (y : SlotRow). slotVerdict y ≡ Accepted) slot-accepted (at .before) (at .passed) in
+    let here : slotsVerdict (v .slots) ≡ slotVerdict x = ap slotsVerdict (at .here) ∙ first-refused slotVerdict (at .before) x (at .after) passed refused in
+    simp (le-ltb 65535 (v .counter) (at .few), here) (andThen-refused (slotVerdict x) _ refused)
 
 -- its row is one
-pub slot-row : (p : Packet) (rows : List (List ℕ)) → Typed p rows → (before : List SlotRow) (x : SlotRow) (after : List SlotRow)
-    → held p rows .slots ≡ before ++ (x ∷ after) → Row (x .row)
-slot-row p rows t before x after e =
-    append-each RowSlot before (x ∷ after) (subst (λ (xs : List SlotRow). Each RowSlot xs) e (beside-each (p .slots) rows (t .each))) .1 .0
+pub slot-row : (p : Packet) (rows : List (List ℕ)) → Typed p rows → (x : SlotRow) → Reached (held p rows) x → Row (x .row)
+slot-row p rows t x at =
+    append-each RowSlot (at .before) (x ∷ at .after) (subst (λ (xs : List SlotRow). Each RowSlot xs) (at .here) (beside-each (p .slots) rows (t .each))) .1 .0

@@ -1,10 +1,12 @@
 -- RULES, "Order of checks", for the packet: all checks of reading and of writing, each of the input alone, in the order of
 -- RULES.
-use Prim.Native.Nat.{ℕ, _-_, _%_}
+use Prim.Native.Nat.{ℕ, _-_, _%_, _≤_}
+use mathlib.Core.Path.{_≡_}
 use mathlib.Core.Bool.{not}
 use mathlib.Core.List.{List, [], _∷_, _++_}
 use lib.Dec.{eqb, ltb}
 use lib.ListN.{length, getD, drop}
+use Rattle.lists.specs.Each.{Each}
 use Rattle.lists.specs.Sum.{sum}
 use Rattle.refusal.specs.declared.Verdict.{Verdict}
 use Rattle.refusal.specs.declared.Reason.the-variants.{TooLong, NoStart, Ends, Unfixed, SdpChecksum, Checksum, Unfit, NoRoom, Unholdable}
@@ -16,7 +18,7 @@ use Rattle.refusal.specs.Checks.{refuseIf}
 use Rattle.refusal.specs.Order.{eachOf}
 use Rattle.anc.specs.Words.{byteOf, checksumOf}
 use Rattle.anc.specs.Order.{wordsChecks, sumChecks}
-use Rattle.sdp.specs.Value.{Sdp}
+use Rattle.sdp.specs.Value.{SlotRow, Sdp, LegalSlot}
 use Rattle.sdp.specs.Layout.{userLength}
 use Rattle.sdp.specs.User.{descriptorsIn, structuresIn}
 use Rattle.sdp.specs.Order.{descriptorsChecks, structuresChecks, slotChecks}
@@ -83,3 +85,11 @@ writingChecks v room =
     -- 14: the output is shorter than the result
     ∷ refuseIf (ltb room (length (layout v))) NoRoom Whole
     ∷ []))
+
+-- the checks of writing come to slot x: the counter can be held, and the slots before x are legal
+pub record Reached (v : Sdp) (x : SlotRow) : Type 0 where
+  pub few : v .counter ≤ 65535
+  pub before : List SlotRow
+  pub after : List SlotRow
+  pub here : v .slots ≡ before ++ (x ∷ after)
+  pub passed : Each LegalSlot before
