@@ -1,4 +1,4 @@
--- Reading accepted-verdict exactly the layouts of legal values, each the layout of one value only, and how long they are.
+-- Reading accepts exactly the layouts of legal values, each the layout of one value only, and how long they are.
 -- Assumes nothing.
 use Prim.Native.Nat.{ℕ, _+_, _*_, _≤_}
 use mathlib.Core.Path.{_≡_, _∙_, ap, ap₂, sym, subst}

@@ -205,7 +205,7 @@ written-read = both-ways.written-read
 
 -- The same of the functions that C calls, of the rows in lent arrays.
 
--- `read_into` accepted-verdict the same words.
+-- `read_into` accepts the same words.
 pub into-exactly : (s : List ℕ) (lent : List (List ℕ)) (r : Answer) (exit : List (List ℕ)) → ReadsInto s lent r exit
     → r .refusal .number ≡ 0 ↔ ((v : Sdp) × Legal v × (layout v ≡ s))
 into-exactly = lent-theorems.into-exactly
