@@ -18,7 +18,7 @@ use Rattle.picture.specs.declared.Head.{Head}
 use Rattle.picture.specs.Value.{Area, captioned}
 use Rattle.picture.specs.Value as area
 use Rattle.picture.specs.Writing.{unitBytes, Writes, Replaces}
-use Rattle.picture.proofs.LentBack.{into-bytes}
+use Rattle.picture.proofs.LentBack.{into-present, into-bytes}
 use Rattle.picture.proofs.Theorems as picture
 use Rattle.sdp.specs.declared.Packet.{Packet}
 use Rattle.sdp.specs.Value.{SlotRow, numbersOf}
@@ -105,7 +105,8 @@ module _ (before : List (List ℕ)) (c : Content) (after : List (List ℕ)) (h :
       → length (area.layout (captioned before c after)) ≤ length room
       → (again ≡ counted (length (area.layout (captioned before c after)))) × (end ≡ over (area.layout (captioned before c after)) room)
   area-put-back reserved flag n z records out r exit p e room again end q =
-      picture.put-back-into before c after h lent (headIn a) kept read (unitIn (numbersIn reserved flag n z) records) out r exit p e room again end
+      picture.put-back-into (captioned before c after) h lent (headIn a) kept read (into-present before c after h lent (headIn a) kept read)
+      (unitIn (numbersIn reserved flag n z) records) out r exit p e room again end
       (subst (λ (x : Numbers). Replaces (take (r .len) exit) (unitIn x kept) room again end) passed q)
 
 -- THE SUBTITLING PACKET
