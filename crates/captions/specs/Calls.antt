@@ -35,7 +35,7 @@ abbrev pub AreaReads : List ℕ → List ℕ → UnitHead → List ℕ → Type 
 AreaReads s lent r exit = ReadsInto s lent (headIn r) exit
 
 -- a unit's numbers. One that a byte cannot hold is 255, which no reserved bits and no flag are: it is refused with 15,
--- in its place in 01's order
+-- in its place in the order of RULES
 unfoldable pub numbersIn : ℕ → ℕ → ℕ → ℕ → Numbers
 numbersIn reserved flag n z = record { reserved = min reserved 255; «vbi_data_flag» = min flag 255; n = n; z = z }
 

@@ -1,16 +1,15 @@
--- Each call's input is accepted exactly when it is a legal value's, and both round trips, of plain numbers and lent bytes.
+-- What was written reads back, and what was read writes back, over the calls of the C interface.
 -- Assumes nothing.
 use Prim.Native.Nat.{ℕ, _*_, _≤_, _<_}
 use native.Mathlib.Omega.{arith}
 use mathlib.Core.Path.{_≡_, _∙_, ap, sym, subst, refl}
-use mathlib.Core.Logic.{_↔_, ⊎-elim}
 use mathlib.Core.Bool.{true}
 use mathlib.Core.List.{List}
 use lib.ListN.{length, take, length-map}
 use Rattle.lists.specs.Flat.{flat}
 use Rattle.lists.specs.Room.{filled, over}
-use Rattle.refusal.specs.declared.Refusal.{Refusal}
 use Rattle.refusal.specs.declared.Written.{Written}
+use Rattle.refusal.specs.Answers.{accepted, written}
 use Rattle.scte20.specs.declared.Numbers.{Numbers}
 use Rattle.scte20.specs.Value.{Content}
 use Rattle.scte20.specs.Lent.{unitIn}
@@ -28,49 +27,23 @@ use Rattle.subtitling.specs.Writing as packets
 use Rattle.subtitling.proofs.Theorems as subtitling
 use Rattle.line21.specs.declared.Head as line21
 use Rattle.line21.specs.Reading.{readOf, headOf, Reads}
-use Rattle.line21.specs.Lent.{payloadIn}
 use Rattle.line21.specs.Lent as units
 use Rattle.line21.proofs.Theorems as payloads
 use Rattle.captions.specs.declared.UnitHead.{UnitHead}
 use Rattle.captions.specs.Calls.{headIn, AreaReads, numbersIn, packetIn, PayloadWrites}
-use Rattle.captions.specs.Arguments.{plain, Fits, FitsIn, slotBytes, FitsPayload}
-use Rattle.captions.proofs.Numbers.{numbers-same, legal-same, plain-exactly, packet-same, slots-same, byte-or-wide}
-
-abbrev accepted : Refusal
-accepted = record { number = 0; place = 0 }
-
-abbrev counted : ℕ → Written
-counted n = record { refusal = accepted; len = n }
+use Rattle.captions.specs.Arguments.{plain, passed, slotBytes}
+use Rattle.captions.proofs.Numbers.{apart, numbers-told, legal-same, packet-told, slots-same}
+use Rattle.captions.proofs.Succeeding.{flags-byte}
 
 -- THE PICTURE AREA
-
--- an answer of an area, with its numbers in it
-abbrev pub apart : Head → UnitHead
-apart h =
-    record {
-      refusal = h .refusal;
-      present = h .present;
-      reserved = h .numbers .reserved;
-      «vbi_data_flag» = h .numbers .«vbi_data_flag»;
-      n = h .numbers .n;
-      z = h .numbers .z;
-    }
 
 abbrev headWith : Numbers → Head
 headWith v = record { refusal = accepted; present = true; numbers = v }
 
-pub unit-write-exactly : (reserved flag n z : ℕ) (records out : List ℕ) (r : Written) (exit : List ℕ) → Writes (unitIn (numbersIn reserved flag n z) records) out r exit
-    → r .refusal .number ≡ 0 ↔ Fits records out (plain reserved flag n z)
-unit-write-exactly reserved flag n z records out r exit w =
-    plain-exactly reserved flag n z records (Fits records out) (λ v fits. fits .0) (picture.writes-exactly (unitIn (numbersIn reserved flag n z) records) out r exit w)
-
-pub area-replace-exactly : (s : List ℕ) (reserved flag n z : ℕ) (records out : List ℕ) (r : Written) (exit : List ℕ)
-    → Replaces s (unitIn (numbersIn reserved flag n z) records) out r exit → r .refusal .number ≡ 0 ↔ FitsIn s records out (plain reserved flag n z)
-area-replace-exactly s reserved flag n z records out r exit p =
-    plain-exactly reserved flag n z records (FitsIn s records out) (λ v fits. fits .3) (picture.replaces-exactly s (unitIn (numbersIn reserved flag n z) records) out r exit p)
-
-pub unit-written-read : (reserved flag n z : ℕ) (records out : List ℕ) (w : Written) (end : List ℕ) → Writes (unitIn (numbersIn reserved flag n z) records) out w end
-    → w .refusal .number ≡ 0 → length records ≡ 155 → (lent : List ℕ) (r : UnitHead) (exit : List ℕ) → AreaReads (take (w .len) end) lent r exit
+pub unit-written-read : (reserved flag n z : ℕ) (records out : List ℕ) (w : Written) (end : List ℕ)
+    → Writes (unitIn (numbersIn reserved flag n z) records) out w end
+    → w .refusal .number ≡ 0 → length records ≡ 155 → (lent : List ℕ) (r : UnitHead) (exit : List ℕ)
+    → AreaReads (take (w .len) end) lent r exit
     → (r ≡ apart (headWith (plain reserved flag n z))) × (exit ≡ filled (take (5 * n) records) 155 0)
 unit-written-read reserved flag n z records out w end wrote e long lent r exit read =
     let v = numbersIn reserved flag n z in
@@ -78,8 +51,10 @@ unit-written-read reserved flag n z records out w end wrote e long lent r exit r
     let back = picture.read-into-written (plain reserved flag n z) records out w end (subst (λ (x : Numbers). Writes (unitIn x records) out w end) same wrote) e long lent (headIn r) exit read in
     (ap apart (back .0), back .1)
 
-pub area-replaced-read : (x : Area) → area.Legal x → (reserved flag n z : ℕ) (records out : List ℕ) (w : Written) (end : List ℕ)
-    → Replaces (area.layout x) (unitIn (numbersIn reserved flag n z) records) out w end → w .refusal .number ≡ 0 → length records ≡ 155
+pub area-replaced-read : (x : Area) → area.Legal x
+    → (reserved flag n z : ℕ) (records out : List ℕ) (w : Written) (end : List ℕ)
+    → Replaces (area.layout x) (unitIn (numbersIn reserved flag n z) records) out w end → w .refusal .number ≡ 0
+    → length records ≡ 155
     → (lent : List ℕ) (r : UnitHead) (exit : List ℕ) → AreaReads (take (w .len) end) lent r exit
     → (r ≡ apart (headWith (plain reserved flag n z))) × (exit ≡ filled (take (5 * n) records) 155 0)
 area-replaced-read x h reserved flag n z records out w end p e long lent r exit read =
@@ -91,29 +66,30 @@ area-replaced-read x h reserved flag n z records out w end p e long lent r exit 
 -- the numbers that an area's caption unit was read as, passed on
 module _ (before : List (List ℕ)) (c : Content) (after : List (List ℕ)) (h : area.Legal (captioned before c after))
     (lent : List ℕ) (a : UnitHead) (kept : List ℕ) (read : AreaReads (area.layout (captioned before c after)) lent a kept) where
-  passed : numbersIn (a .reserved) (a .«vbi_data_flag») (a .n) (a .z) ≡ headIn a .numbers
-  passed = let small = into-bytes before c after h lent (headIn a) kept read in numbers-same (a .reserved) (a .«vbi_data_flag») (a .n) (a .z) (small .0) (small .1)
+  passed-told : passed a ≡ headIn a .numbers
+  passed-told = let small = into-bytes before c after h lent (headIn a) kept read in numbers-told (a .reserved) (a .«vbi_data_flag») (a .n) (a .z) (small .0) (small .1)
 
-  pub area-read-written : (out : List ℕ) (r : Written) (exit : List ℕ) → Writes (unitIn (numbersIn (a .reserved) (a .«vbi_data_flag») (a .n) (a .z)) kept) out r exit
-      → length (unitBytes c) ≤ length out → (r ≡ counted (length (unitBytes c))) × (exit ≡ over (unitBytes c) out)
-  area-read-written out r exit w = picture.written-read-into before c after h lent (headIn a) kept read out r exit (subst (λ (x : Numbers). Writes (unitIn x kept) out r exit) passed w)
+  pub area-read-written : (out : List ℕ) (r : Written) (exit : List ℕ) → Writes (unitIn (passed a) kept) out r exit
+      → length (unitBytes c) ≤ length out → (r ≡ written (length (unitBytes c))) × (exit ≡ over (unitBytes c) out)
+  area-read-written out r exit w = picture.written-read-into before c after h lent (headIn a) kept read out r exit (subst (λ (x : Numbers). Writes (unitIn x kept) out r exit) passed-told w)
 
   pub area-put-back : (reserved flag n z : ℕ) (records out : List ℕ) (r : Written) (exit : List ℕ)
       → Replaces (area.layout (captioned before c after)) (unitIn (numbersIn reserved flag n z) records) out r exit → r .refusal .number ≡ 0
       → (room : List ℕ) (again : Written) (end : List ℕ)
-      → Replaces (take (r .len) exit) (unitIn (numbersIn (a .reserved) (a .«vbi_data_flag») (a .n) (a .z)) kept) room again end
+      → Replaces (take (r .len) exit) (unitIn (passed a) kept) room again end
       → length (area.layout (captioned before c after)) ≤ length room
-      → (again ≡ counted (length (area.layout (captioned before c after)))) × (end ≡ over (area.layout (captioned before c after)) room)
+      → (again ≡ written (length (area.layout (captioned before c after)))) × (end ≡ over (area.layout (captioned before c after)) room)
   area-put-back reserved flag n z records out r exit p e room again end q =
       picture.put-back-into before c after h lent (headIn a) kept read (unitIn (numbersIn reserved flag n z) records) out r exit p e room again end
-      (subst (λ (x : Numbers). Replaces (take (r .len) exit) (unitIn x kept) room again end) passed q)
+      (subst (λ (x : Numbers). Replaces (take (r .len) exit) (unitIn x kept) room again end) passed-told q)
 
 -- THE SUBTITLING PACKET
 
 pub packet-written-read : (counter : ℕ) (slots : List ℕ) (rows : List (List ℕ)) (out : List ℕ) (w : Written) (end : List ℕ)
     → packets.Writes (packetIn counter slots) rows out w end → w .refusal .number ≡ 0 → length slots ≡ 20
     → (lent : List (List ℕ)) (r : Answer) (exit : List (List ℕ)) → packet.ReadsInto (take (w .len) end) lent r exit
-    → (r .refusal ≡ accepted) × (r .packet .counter ≡ counter) × (flat slotBytes (r .packet .slots) ≡ slots) × (exit ≡ rows)
+    → (r .refusal ≡ accepted) × (r .packet .counter ≡ counter) × (flat slotBytes (r .packet .slots) ≡ slots)
+    × (exit ≡ rows)
 packet-written-read counter slots rows out w end wrote e long lent r exit read =
     let back = subtitling.read-into-written (packetIn counter slots) rows out w end wrote e lent r exit read in (
       ap (λ (x : Answer). x .refusal) (back .0),
@@ -122,40 +98,34 @@ packet-written-read counter slots rows out w end wrote e long lent r exit read =
       back .1,
     )
 
-pub packet-read-written : (s : List ℕ) (lent : List (List ℕ)) (a : Answer) (kept : List (List ℕ)) → packet.ReadsInto s lent a kept → a .refusal .number ≡ 0
-    → (out : List ℕ) (r : Written) (exit : List ℕ) → packets.Writes (packetIn (a .packet .counter) (flat slotBytes (a .packet .slots))) kept out r exit
-    → length s ≤ length out → (r ≡ counted (length s)) × (exit ≡ over s out)
+pub packet-read-written : (s : List ℕ) (lent : List (List ℕ)) (a : Answer) (kept : List (List ℕ))
+    → packet.ReadsInto s lent a kept → a .refusal .number ≡ 0
+    → (out : List ℕ) (r : Written) (exit : List ℕ)
+    → packets.Writes (packetIn (a .packet .counter) (flat slotBytes (a .packet .slots))) kept out r exit
+    → length s ≤ length out → (r ≡ written (length s)) × (exit ≡ over s out)
 packet-read-written s lent a kept read e out r exit w =
     let v = subtitling.into-exactly s lent a kept read .0 e in
     let told : a ≡ record { refusal = accepted; packet = numbersOf (v .0) } =
     subtitling.the-answer (v .0) (v .1) a (subst (λ (t : List ℕ). packet.Reads t a) (sym (v .2)) (read .answer)) in
     let five : length (a .packet .slots) ≡ 5 =
     ap (λ (x : Answer). length (x .packet .slots)) told ∙ length-map (v .0 .slots) (λ (x : SlotRow). x .slot) ∙ v .1 .five in
-    subtitling.written-read-into s lent a kept read e out r exit (subst (λ (p : Packet). packets.Writes p kept out r exit) (packet-same (a .packet) five) w)
+    subtitling.written-read-into s lent a kept read e out r exit (subst (λ (p : Packet). packets.Writes p kept out r exit) (packet-told (a .packet) five) w)
 
 -- THE LINE 21 PAYLOAD
 
--- a success had flags that a byte holds
-flags-byte : (flags m : ℕ) (lent out : List ℕ) (r : Written) (exit : List ℕ) → PayloadWrites flags m lent out r exit → r .refusal .number ≡ 0 → flags < 256
-flags-byte flags m lent out r exit w e =
-    ⊎-elim (λ h. h) (λ h. let f : ⊥ = omega (arith, ap (λ (x : Written). x .refusal .number) (w .beyond h .counted)) in absurd f) (byte-or-wide flags)
-
-pub payload-write-exactly : (flags m : ℕ) (lent out : List ℕ) (r : Written) (exit : List ℕ) → PayloadWrites flags m lent out r exit
-    → r .refusal .number ≡ 0 ↔ FitsPayload flags m lent out
-payload-write-exactly flags m lent out r exit w = (
-  λ e. payloads.writes-exactly (payloadIn flags m lent) out r exit (w .within (flags-byte flags m lent out r exit w e)) .0 e,
-  λ h. payloads.writes-exactly (payloadIn flags m lent) out r exit (w .within (h .0 .value .byte)) .1 h,
-)
-
-pub payload-written-read : (flags m : ℕ) (sent out : List ℕ) (w : Written) (end : List ℕ) → PayloadWrites flags m sent out w end → w .refusal .number ≡ 0
-    → length sent ≡ 2037 → (lent : List ℕ) (r : line21.Head) (exit : List ℕ) → units.ReadsInto (take (w .len) end) lent r exit
+pub payload-written-read : (flags m : ℕ) (sent out : List ℕ) (w : Written) (end : List ℕ)
+    → PayloadWrites flags m sent out w end → w .refusal .number ≡ 0
+    → length sent ≡ 2037 → (lent : List ℕ) (r : line21.Head) (exit : List ℕ)
+    → units.ReadsInto (take (w .len) end) lent r exit
     → (r ≡ record { refusal = accepted; flags = flags; m = m }) × (exit ≡ filled (take (7 * m) sent) 2037 0)
 payload-written-read flags m sent out w end wrote e =
     payloads.read-into-written flags m sent out w end (wrote .within (flags-byte flags m sent out w end wrote e)) e
 
-pub payload-read-written : (s lent : List ℕ) (a : line21.Head) (kept : List ℕ) → units.ReadsInto s lent a kept → a .refusal .number ≡ 0
-    → (out : List ℕ) (r : Written) (exit : List ℕ) → PayloadWrites (a .flags) (a .m) kept out r exit → length s ≤ length out
-    → (r ≡ counted (length s)) × (exit ≡ over s out)
+pub payload-read-written : (s lent : List ℕ) (a : line21.Head) (kept : List ℕ) → units.ReadsInto s lent a kept
+    → a .refusal .number ≡ 0
+    → (out : List ℕ) (r : Written) (exit : List ℕ) → PayloadWrites (a .flags) (a .m) kept out r exit
+    → length s ≤ length out
+    → (r ≡ written (length s)) × (exit ≡ over s out)
 payload-read-written s lent a kept read e out r exit w =
     let v = payloads.into-exactly s lent a kept read .0 e in
     let told = payloads.the-answer (v .0) (v .1) (readOf s) (subst (λ (t : List ℕ). Reads t (readOf s)) (sym (v .2)) (record { bytes = read .bytes; answer = refl })) in
