@@ -3,7 +3,7 @@
 use Prim.Native.Nat.{ℕ, _*_, _≤_, _<_}
 use native.Mathlib.Omega.{arith}
 use mathlib.Core.Path.{_≡_, _∙_, ap, sym, subst, refl}
-use mathlib.Core.Bool.{true}
+use mathlib.Core.Bool.{true, false, true≢false}
 use mathlib.Core.List.{List}
 use lib.ListN.{length, take, length-map}
 use Rattle.lists.specs.Flat.{flat}
@@ -13,9 +13,11 @@ use Rattle.refusal.specs.Answers.{accepted, written}
 use Rattle.scte20.specs.declared.Numbers.{Numbers}
 use Rattle.scte20.specs.Value.{Content}
 use Rattle.scte20.specs.Lent.{unitIn}
+use Rattle.picture.specs.declared.Answer as picture-answer
 use Rattle.picture.specs.declared.Head.{Head}
-use Rattle.picture.specs.Value.{Area, captioned}
+use Rattle.picture.specs.Value.{Area, uncaptioned, captioned}
 use Rattle.picture.specs.Value as area
+use Rattle.picture.specs.Reading as areas
 use Rattle.picture.specs.Writing.{unitBytes, Writes, Replaces}
 use Rattle.picture.proofs.LentBack.{into-bytes}
 use Rattle.picture.proofs.Theorems as picture
@@ -63,25 +65,42 @@ area-replaced-read x h reserved flag n z records out w end p e long lent r exit 
     let back = picture.read-into-replaced x h (plain reserved flag n z) records out w end (subst (λ (y : Numbers). Replaces (area.layout x) (unitIn y records) out w end) same p) e long lent (headIn r) exit read in
     (ap apart (back .0), back .1)
 
--- the numbers that an area's caption unit was read as, passed on
+-- the numbers that an area's caption unit was read as are passed on as they are
 module _ (before : List (List ℕ)) (c : Content) (after : List (List ℕ)) (h : area.Legal (captioned before c after))
     (lent : List ℕ) (a : UnitHead) (kept : List ℕ) (read : AreaReads (area.layout (captioned before c after)) lent a kept) where
   passed-told : passed a ≡ headIn a .numbers
-  passed-told = let small = into-bytes before c after h lent (headIn a) kept read in numbers-told (a .reserved) (a .«vbi_data_flag») (a .n) (a .z) (small .0) (small .1)
+  passed-told =
+      let small = into-bytes before c after h lent (headIn a) kept read in
+      numbers-told (a .reserved) (a .«vbi_data_flag») (a .n) (a .z) (small .0) (small .1)
 
   pub area-read-written : (out : List ℕ) (r : Written) (exit : List ℕ) → Writes (unitIn (passed a) kept) out r exit
       → length (unitBytes c) ≤ length out → (r ≡ written (length (unitBytes c))) × (exit ≡ over (unitBytes c) out)
-  area-read-written out r exit w = picture.written-read-into before c after h lent (headIn a) kept read out r exit (subst (λ (x : Numbers). Writes (unitIn x kept) out r exit) passed-told w)
+  area-read-written out r exit w =
+      picture.written-read-into before c after h lent (headIn a) kept read out r exit
+      (subst (λ (x : Numbers). Writes (unitIn x kept) out r exit) passed-told w)
 
-  pub area-put-back : (reserved flag n z : ℕ) (records out : List ℕ) (r : Written) (exit : List ℕ)
-      → Replaces (area.layout (captioned before c after)) (unitIn (numbersIn reserved flag n z) records) out r exit → r .refusal .number ≡ 0
-      → (room : List ℕ) (again : Written) (end : List ℕ)
-      → Replaces (take (r .len) exit) (unitIn (passed a) kept) room again end
-      → length (area.layout (captioned before c after)) ≤ length room
-      → (again ≡ written (length (area.layout (captioned before c after)))) × (end ≡ over (area.layout (captioned before c after)) room)
-  area-put-back reserved flag n z records out r exit p e room again end q =
-      picture.put-back-into before c after h lent (headIn a) kept read (unitIn (numbersIn reserved flag n z) records) out r exit p e room again end
-      (subst (λ (x : Numbers). Replaces (take (r .len) exit) (unitIn x kept) room again end) passed-told q)
+-- an area without one answers "none"
+none-absent : (us : List (List ℕ)) → area.Legal (uncaptioned us)
+    → (lent : List ℕ) (a : UnitHead) (kept : List ℕ) → AreaReads (area.layout (uncaptioned us)) lent a kept → a .present ≡ false
+none-absent us h lent a kept read =
+    let s = area.layout (uncaptioned us) in
+    let reads : areas.Reads s (areas.readOf s) = record { bytes = read .bytes; answer = refl } in
+    ap (λ (x : Head). x .present) (picture.read-into-as-read s lent (headIn a) kept read (areas.readOf s) reads .0)
+    ∙ ap (λ (x : picture-answer.Answer). x .present) (picture.the-answer (uncaptioned us) h (areas.readOf s) reads)
+
+pub area-put-back : (x : Area) → area.Legal x
+    → (lent : List ℕ) (a : UnitHead) (kept : List ℕ) → AreaReads (area.layout x) lent a kept → a .present ≡ true
+    → (reserved flag n z : ℕ) (records out : List ℕ) (r : Written) (exit : List ℕ)
+    → Replaces (area.layout x) (unitIn (numbersIn reserved flag n z) records) out r exit → r .refusal .number ≡ 0
+    → (room : List ℕ) (again : Written) (end : List ℕ) → Replaces (take (r .len) exit) (unitIn (passed a) kept) room again end
+    → length (area.layout x) ≤ length room
+    → (again ≡ written (length (area.layout x))) × (end ≡ over (area.layout x) room)
+area-put-back (captioned before c after) h lent a kept read there reserved flag n z records out r exit p e room again end q =
+    picture.put-back-into (captioned before c after) h lent (headIn a) kept read there (unitIn (numbersIn reserved flag n z) records)
+    out r exit p e room again end
+    (subst (λ (x : Numbers). Replaces (take (r .len) exit) (unitIn x kept) room again end) (passed-told before c after h lent a kept read) q)
+area-put-back (uncaptioned us) h lent a kept read there reserved flag n z records out r exit p e room again end q =
+    absurd (true≢false (sym there ∙ none-absent us h lent a kept read))
 
 -- THE SUBTITLING PACKET
 

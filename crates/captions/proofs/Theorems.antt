@@ -169,17 +169,14 @@ pub area-read-written : (before : List (List ℕ)) (c : Content) (after : List (
 area-read-written = both-ways.area-read-written
 
 -- and, put back where another unit replaced it, the area byte for byte;
-pub area-put-back : (before : List (List ℕ)) (c : Content) (after : List (List ℕ))
-    → area.Legal (captioned before c after)
-    → (lent : List ℕ) (a : UnitHead) (kept : List ℕ) → AreaReads (area.layout (captioned before c after)) lent a kept
+pub area-put-back : (x : Area) → area.Legal x
+    → (lent : List ℕ) (a : UnitHead) (kept : List ℕ) → AreaReads (area.layout x) lent a kept → a .present ≡ true
     → (reserved flag n z : ℕ) (records out : List ℕ) (r : Written) (exit : List ℕ)
-    → Replaces (area.layout (captioned before c after)) (unitIn (numbersIn reserved flag n z) records) out r exit
-    → r .refusal .number ≡ 0
+    → Replaces (area.layout x) (unitIn (numbersIn reserved flag n z) records) out r exit → r .refusal .number ≡ 0
     → (room : List ℕ) (again : Written) (end : List ℕ)
     → Replaces (take (r .len) exit) (unitIn (passed a) kept) room again end
-    → length (area.layout (captioned before c after)) ≤ length room
-    → (again ≡ written (length (area.layout (captioned before c after))))
-    × (end ≡ over (area.layout (captioned before c after)) room)
+    → length (area.layout x) ≤ length room
+    → (again ≡ written (length (area.layout x))) × (end ≡ over (area.layout x) room)
 area-put-back = both-ways.area-put-back
 
 -- of a packet its words,

@@ -1,4 +1,4 @@
--- What reading a picture area answers, for every list of bytes. Document 01, "Which refusal comes first": 1, 2, 3, 4, then the caption content.
+-- What reading a picture area answers, for every list of bytes. RULES, "Order of checks": 1, 2, 3, 4, then the caption content.
 use Prim.Native.Nat.{ℕ, _+_, _*_}
 use mathlib.Core.Path.{_≡_}
 use mathlib.Core.Bool.{true, false}
@@ -53,7 +53,7 @@ foundContent found.Nowhere s = []
 foundContent (found.At unit end) s = valueOf (part (unit + 4) end s) ∷ []
 foundContent (found.Many k) s = []
 
--- a refusal returns no records, and all else in it is zero; so it is with no caption unit
+-- in a refusal, and where no caption unit stands, the unit is all zero
 abbrev pub answerOf : Verdict → List Content → Answer
 answerOf (Refused reason item) cs = record { refusal = refusalOf (Refused reason item); present = false; unit = stored none }
 answerOf Accepted [] = record { refusal = refusalOf Accepted; present = false; unit = stored none }

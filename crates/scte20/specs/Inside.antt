@@ -1,6 +1,6 @@
 -- What functions promise each other on the way to an answer: what reading and writing keep of the records before. A signer may pass it over: it decides as
 -- `recordVerdict` does.
-use Prim.Native.Nat.{ℕ, _+_, _/_, _%_, _^_, min}
+use Prim.Native.Nat.{ℕ, _+_, _/_, _%_, _^_, _≤_, min}
 use mathlib.Core.Path.{_≡_}
 use mathlib.Core.Bool.{Bool, true, false, not, _&&_}
 use mathlib.Core.List.{List, [], _∷_}
@@ -22,6 +22,12 @@ use Rattle.scte20.specs.Lent.{recordsBytes}
 abbrev pub lastOf : List Record → Last
 lastOf [] = record { «field_number» = record { 0 = 0 }; «line_offset» = 0; urgent = 0 }
 lastOf (r ∷ before) = record { «field_number» = r .«field_number»; «line_offset» = r .«line_offset»; urgent = min (urgent (fieldOf r) (r ∷ before)) 4 }
+
+-- fields never rise from the latest record back
+abbrev pub FieldsDescend : List Record → Type 0
+FieldsDescend [] = Unit {0}
+FieldsDescend (r ∷ []) = Unit {0}
+FieldsDescend (r ∷ s ∷ rs) = (fieldOf s ≤ fieldOf r) × FieldsDescend (s ∷ rs)
 
 -- `recordVerdict` by that
 unfoldable pub lastVerdict : ℕ → Last → Record → Verdict

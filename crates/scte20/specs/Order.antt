@@ -1,4 +1,4 @@
--- Document 01, "Which refusal comes first", for caption content: all checks of reading and of writing, each of the input alone, in 01's sequence.
+-- RULES, "Order of checks", for caption content: all checks of reading and of writing, each of the input alone, in the order of RULES.
 use Prim.Native.Nat.{ℕ, zero, suc, _+_, _*_}
 use mathlib.Core.Bool.{not, _&&_}
 use mathlib.Core.List.{List, [], _∷_, _++_}

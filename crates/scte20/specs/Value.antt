@@ -1,4 +1,4 @@
--- The value of a caption unit, when it is legal, and how the code's structs hold it. Document 01, "Picture area"; document 001, 5.4 to 5.8.
+-- The value of a caption unit, when it is legal, and how the code's structs hold it. RULES, "Picture area"; document 001, 5.4 to 5.8.
 use Prim.Native.Nat.{ℕ, _+_, _≤_, _<_}
 use mathlib.Core.Path.{_≡_}
 use mathlib.Core.Bool.{Bool, true, false, _&&_}
@@ -58,7 +58,7 @@ abbrev pub urgent : ℕ → List Record → ℕ
 urgent f [] = 0
 urgent f (r ∷ rs) = countIf (eqb (fieldOf r) f && eqb (r .«cc_priority») 0) + urgent f rs
 
--- 01, "Legal records"
+-- RULES, "Picture area", "The value"
 pub record Legal (c : Content) : Type 0 where
   pub reserved : c .reserved < 128
   pub flag : c .flag < 2

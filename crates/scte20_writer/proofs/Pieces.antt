@@ -16,8 +16,7 @@ use Rattle.bits.proofs.Numbers.{num-append, num-bits-small, bits-add, are-appen
 use Rattle.bits.proofs.Stream.{bitsOf-append, bitsOf-zeros, bitsOf-same, length-bytesOf, bytesOf-bytes, bitsOf-bytesOf, bytesOf-front}
 use Rattle.scte20.specs.declared.Record.{Record}
 use Rattle.scte20.specs.Value.{Content}
-use Rattle.scte20.specs.Layout.{constructsBits, itemBits, padding, layout}
-use Rattle.scte20.specs.Reading.{sizeIn}
+use Rattle.scte20.specs.Layout.{constructsBits, itemBits, padding, layout, sizeIn}
 use Rattle.scte20_writer.specs.Inside.{countedBits, countedSize, countedBytes}
 use Rattle.scte20.proofs.Constructs.{length-constructs}
 use Rattle.scte20.proofs.Sizes.{padded, length-items, length-layout, constructs-are, layout-bytes, bitsOf-layout}
