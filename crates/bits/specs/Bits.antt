@@ -1,4 +1,4 @@
--- Lists of bits, 0 or 1 each, as the meaning of bytes. Document 01, "Picture area": most significant bit first.
+-- Lists of bits, 0 or 1 each, as the meaning of bytes. RULES, "Picture area": most significant bit first.
 use Prim.Native.Nat.{ℕ, zero, suc, _+_, _*_, _/_, _%_, _^_, _<_}
 use mathlib.Core.List.{List, [], _∷_, _++_, reverse}
 use lib.ListN.{length, take, drop}

@@ -1,5 +1,5 @@
--- Inputs with two faults, and which of them decides: document 01, "Which refusal comes first". A row names the call, its input, the reason of the fault that
--- decides, and 01's number for it (and the place, where there is one). The reason tells apart what shares a number.
+-- Inputs with two faults, and which of them decides: RULES, "Order of checks". A row names the call, its input, the reason of the fault that decides, and its
+-- number (and the place, where there is one). The reason tells apart what shares a number.
 use Prim.Native.Nat.{ℕ}
 use mathlib.Core.Path.{_≡_}
 use mathlib.Core.List.{List, [], _∷_, _++_}
@@ -12,6 +12,8 @@ use Rattle.refusal.specs.declared.Excess.the-variants as excess
 use Rattle.refusal.specs.declared.Verdict.{Verdict}
 use Rattle.refusal.specs.declared.Verdict.the-variants.{Accepted, Refused}
 use Rattle.refusal.specs.Numbers.{refusalOf}
+use Rattle.refusal.specs.Answers.{refused}
+use Rattle.units.specs.Layout.{layoutUnit}
 use Rattle.scte20.specs.declared.Record.{Record}
 use Rattle.scte20.specs.declared.CaptionUnit.{CaptionUnit}
 use Rattle.scte20.specs.Value as scte20
@@ -25,7 +27,7 @@ use Rattle.line21.specs.Writing as payloads
 use Rattle.sdp.specs.Value as sdp
 use Rattle.subtitling.specs.Reading.{packetVerdict}
 use Rattle.subtitling.specs.Writing as packets
-use Rattle.cases.specs.Table.{marked, start, unit}
+use Rattle.cases.specs.Table.{marked, unit}
 
 -- a call with its input, which for writing and replacing has the room of the output last; the reason; the number; the place
 pub data Case : Type 0 where
@@ -43,7 +45,7 @@ why (Refused reason item) = reason ∷ []
 
 -- the verdict refuses for this reason, and that is told as this number and place
 abbrev pub Decides : Verdict → Reason → ℕ → ℕ → Type 0
-Decides verdict reason number place = (why verdict ≡ reason ∷ []) × (refusalOf verdict ≡ record { number = number; place = place })
+Decides verdict reason number place = (why verdict ≡ reason ∷ []) × (refusalOf verdict ≡ refused number place)
 
 abbrev pub Decided : Case → Type 0
 Decided (area s reason number place) = Decides (areaVerdict s) reason number place
@@ -68,12 +70,12 @@ j = marked 0xD0
 
 -- a foreign unit of five bytes
 abbrev foreign : List ℕ
-foreign = start (0x04 ∷ [])
+foreign = layoutUnit (0x04 ∷ [])
 
 -- four records of priority 0 in field 1, on lines 10 to 13, and the last 26 bits and those behind them as they are given
 abbrev fifth : List ℕ → List ℕ
 fifth last =
-    start (0x03 ∷ 0x81 ∷ 0x28 ∷ 0xA8 ∷ 0xA4 ∷ 0xD2 ∷ 0x2B ∷ 0x29 ∷ 0x34 ∷ 0x8B ∷ 0x0A ∷ 0x4D ∷ 0x22 ∷ 0xD2 ∷ 0x93 ∷ 0x48 ∷ last)
+    layoutUnit (0x03 ∷ 0x81 ∷ 0x28 ∷ 0xA8 ∷ 0xA4 ∷ 0xD2 ∷ 0x2B ∷ 0x29 ∷ 0x34 ∷ 0x8B ∷ 0x0A ∷ 0x4D ∷ 0x22 ∷ 0xD2 ∷ 0x93 ∷ 0x48 ∷ last)
 
 -- K with some of its words changed: DID, 51, LENGTH, format, the first descriptor, the footer, the SDP checksum, CS
 abbrev k : ℕ → ℕ → ℕ → ℕ → ℕ → ℕ → ℕ → ℕ → List ℕ
@@ -113,23 +115,23 @@ two-faults =
     -- 4 and content: two caption units, each with its marker 0
     ∷ area (j ++ j) SecondUnit 4 0
     -- 6 and 5: cc_count 31, and one construct there, its marker 0
-    ∷ area (start (0x03 ∷ 0x81 ∷ 0xF8 ∷ 0xAC ∷ 0xA4 ∷ 0xD0 ∷ 0x00 ∷ [])) (Unfixed fixed.Marker) 6 0
+    ∷ area (layoutUnit (0x03 ∷ 0x81 ∷ 0xF8 ∷ 0xAC ∷ 0xA4 ∷ 0xD0 ∷ 0x00 ∷ [])) (Unfixed fixed.Marker) 6 0
     -- 5 and 7: a second construct of field 0, with only 25 bits left; the unit behind a foreign one
-    ∷ area (foreign ++ start (0x03 ∷ 0x81 ∷ 0x10 ∷ 0xAC ∷ 0xA4 ∷ 0xD2 ∷ 0x0B ∷ 0x29 ∷ 0x34 ∷ [])) Ends 5 5
+    ∷ area (foreign ++ layoutUnit (0x03 ∷ 0x81 ∷ 0x10 ∷ 0xAC ∷ 0xA4 ∷ 0xD2 ∷ 0x0B ∷ 0x29 ∷ 0x34 ∷ [])) Ends 5 5
     -- 7 and 8, and what would be a fifth priority 0: field 0 behind four of field 1
     ∷ area (fifth (0x38 ∷ 0xA4 ∷ 0xD2 ∷ 0x00 ∷ [])) FieldNumberZero 7 0
     -- 7 and 6: field 0, and the marker 0
-    ∷ area (start (0x03 ∷ 0x81 ∷ 0x08 ∷ 0x2C ∷ 0xA4 ∷ 0xD0 ∷ 0x00 ∷ [])) FieldNumberZero 7 0
+    ∷ area (layoutUnit (0x03 ∷ 0x81 ∷ 0x08 ∷ 0x2C ∷ 0xA4 ∷ 0xD0 ∷ 0x00 ∷ [])) FieldNumberZero 7 0
     -- 8 and 9: a fifth priority 0, whose line does not rise
     ∷ area (fifth (0xB4 ∷ 0xA4 ∷ 0xD2 ∷ 0x00 ∷ [])) LineDoesNotRise 8 0
     -- 9 and 6: a fifth priority 0, its marker 0
     ∷ area (fifth (0xB8 ∷ 0xA4 ∷ 0xD0 ∷ 0x00 ∷ [])) FifthPriority 9 0
     -- 6 and 10: a marker 0, and a sampled video count of 1
-    ∷ area (start (0x03 ∷ 0x81 ∷ 0x08 ∷ 0xAC ∷ 0xA4 ∷ 0xD0 ∷ 0x20 ∷ [])) (Unfixed fixed.Marker) 6 0
+    ∷ area (layoutUnit (0x03 ∷ 0x81 ∷ 0x08 ∷ 0xAC ∷ 0xA4 ∷ 0xD0 ∷ 0x20 ∷ [])) (Unfixed fixed.Marker) 6 0
     -- 10 and 6: a sampled video count of 1, and an alignment bit 1
-    ∷ area (start (0x03 ∷ 0x81 ∷ 0x08 ∷ 0xAC ∷ 0xA4 ∷ 0xD2 ∷ 0x21 ∷ [])) SampledVideo 10 0
+    ∷ area (layoutUnit (0x03 ∷ 0x81 ∷ 0x08 ∷ 0xAC ∷ 0xA4 ∷ 0xD2 ∷ 0x21 ∷ [])) SampledVideo 10 0
     -- 6 and 6: an alignment bit 1, and a stuffing byte 01
-    ∷ area (start (0x03 ∷ 0x81 ∷ 0x08 ∷ 0xAC ∷ 0xA4 ∷ 0xD2 ∷ 0x01 ∷ 0x01 ∷ [])) (Unfixed fixed.Alignment) 6 0
+    ∷ area (layoutUnit (0x03 ∷ 0x81 ∷ 0x08 ∷ 0xAC ∷ 0xA4 ∷ 0xD2 ∷ 0x01 ∷ 0x01 ∷ [])) (Unfixed fixed.Alignment) 6 0
     -- READING A PACKET
     -- 1 and 2: 246 words, and no flag
     ∷ packet (replicate 246 1) TooLong 1

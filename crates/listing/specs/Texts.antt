@@ -1,4 +1,4 @@
--- What `cclist` prints for an answer, as bytes. Document 01, "Cases". Each line ends with one line feed.
+-- What `cclist` prints for an answer, as bytes. RULES, "Programs". Each line ends with one line feed.
 use Prim.Native.Nat.{ℕ, zero, suc, _+_, _/_, _%_}
 use mathlib.Core.Path.{_≡_}
 use mathlib.Core.Bool.{Bool, true, false}
