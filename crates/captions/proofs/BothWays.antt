@@ -50,7 +50,7 @@ pub unit-written-read : (reserved flag n z : ℕ) (records out : List ℕ) (w : 
 unit-written-read reserved flag n z records out w end wrote e long lent r exit read =
     let v = numbersIn reserved flag n z in
     let same = legal-same reserved flag n z records (picture.writes-exactly (unitIn v records) out w end wrote .0 e .0) in
-    let back = picture.read-into-written (plain reserved flag n z) records out w end (subst (λ (x : Numbers). Writes (unitIn x records) out w end) same wrote) e long lent (headIn r) exit read in
+    let back = picture.written-read-into (plain reserved flag n z) records out w end (subst (λ (x : Numbers). Writes (unitIn x records) out w end) same wrote) e long lent (headIn r) exit read in
     (ap apart (back .0), back .1)
 
 pub area-replaced-read : (x : Area) → area.Legal x
@@ -62,7 +62,7 @@ pub area-replaced-read : (x : Area) → area.Legal x
 area-replaced-read x h reserved flag n z records out w end p e long lent r exit read =
     let v = numbersIn reserved flag n z in
     let same = legal-same reserved flag n z records (picture.replaces-exactly (area.layout x) (unitIn v records) out w end p .0 e .3) in
-    let back = picture.read-into-replaced x h (plain reserved flag n z) records out w end (subst (λ (y : Numbers). Replaces (area.layout x) (unitIn y records) out w end) same p) e long lent (headIn r) exit read in
+    let back = picture.replaced-read-into x h (plain reserved flag n z) records out w end (subst (λ (y : Numbers). Replaces (area.layout x) (unitIn y records) out w end) same p) e long lent (headIn r) exit read in
     (ap apart (back .0), back .1)
 
 -- the numbers that an area's caption unit was read as are passed on as they are
@@ -76,7 +76,7 @@ module _ (before : List (List ℕ)) (c : Content) (after : List (List ℕ)) (h :
   pub area-read-written : (out : List ℕ) (r : Written) (exit : List ℕ) → Writes (unitIn (passed a) kept) out r exit
       → length (unitBytes c) ≤ length out → (r ≡ written (length (unitBytes c))) × (exit ≡ over (unitBytes c) out)
   area-read-written out r exit w =
-      picture.written-read-into before c after h lent (headIn a) kept read out r exit
+      picture.read-into-written before c after h lent (headIn a) kept read out r exit
       (subst (λ (x : Numbers). Writes (unitIn x kept) out r exit) passed-told w)
 
 -- an area without one answers "none"
@@ -110,7 +110,7 @@ pub packet-written-read : (counter : ℕ) (slots : List ℕ) (rows : List (List 
     → (r .refusal ≡ accepted) × (r .packet .counter ≡ counter) × (flat slotBytes (r .packet .slots) ≡ slots)
     × (exit ≡ rows)
 packet-written-read counter slots rows out w end wrote e long lent r exit read =
-    let back = subtitling.read-into-written (packetIn counter slots) rows out w end wrote e lent r exit read in (
+    let back = subtitling.written-read-into (packetIn counter slots) rows out w end wrote e lent r exit read in (
       ap (λ (x : Answer). x .refusal) (back .0),
       ap (λ (x : Answer). x .packet .counter) (back .0),
       ap (λ (x : Answer). flat slotBytes (x .packet .slots)) (back .0) ∙ slots-same counter slots long,
@@ -128,7 +128,7 @@ packet-read-written s lent a kept read e out r exit w =
     subtitling.the-answer (v .0) (v .1) a (subst (λ (t : List ℕ). packet.Reads t a) (sym (v .2)) (read .answer)) in
     let five : length (a .packet .slots) ≡ 5 =
     ap (λ (x : Answer). length (x .packet .slots)) told ∙ length-map (v .0 .slots) (λ (x : SlotRow). x .slot) ∙ v .1 .five in
-    subtitling.written-read-into s lent a kept read e out r exit (subst (λ (p : Packet). packets.Writes p kept out r exit) (packet-told (a .packet) five) w)
+    subtitling.read-into-written s lent a kept read e out r exit (subst (λ (p : Packet). packets.Writes p kept out r exit) (packet-told (a .packet) five) w)
 
 -- THE LINE 21 PAYLOAD
 
@@ -138,7 +138,7 @@ pub payload-written-read : (flags m : ℕ) (sent out : List ℕ) (w : Written) (
     → units.ReadsInto (take (w .len) end) lent r exit
     → (r ≡ record { refusal = accepted; flags = flags; m = m }) × (exit ≡ filled (take (7 * m) sent) 2037 0)
 payload-written-read flags m sent out w end wrote e =
-    payloads.read-into-written flags m sent out w end (wrote .within (flags-byte flags m sent out w end wrote e)) e
+    payloads.written-read-into flags m sent out w end (wrote .within (flags-byte flags m sent out w end wrote e)) e
 
 pub payload-read-written : (s lent : List ℕ) (a : line21.Head) (kept : List ℕ) → units.ReadsInto s lent a kept
     → a .refusal .number ≡ 0
@@ -149,4 +149,4 @@ payload-read-written s lent a kept read e out r exit w =
     let v = payloads.into-exactly s lent a kept read .0 e in
     let told = payloads.the-answer (v .0) (v .1) (readOf s) (subst (λ (t : List ℕ). Reads t (readOf s)) (sym (v .2)) (record { bytes = read .bytes; answer = refl })) in
     let byte : a .flags < 256 = omega (arith, ap (λ (h : line21.Head). h .flags) (read .answer ∙ ap headOf told), v .1 .byte) in
-    payloads.written-read-into s lent a kept read e out r exit (w .within byte)
+    payloads.read-into-written s lent a kept read e out r exit (w .within byte)

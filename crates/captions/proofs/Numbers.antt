@@ -9,7 +9,7 @@ use mathlib.Core.List.{List, [], _∷_, _++_, append-nil}
 use lib.ListN.{length, take}
 use lib.Seq.{take-all}
 use Rattle.lists.specs.Flat.{flat, taken}
-use Rattle.lists.proofs.Flat.{length-taken, taken-flat, flat-taken}
+use Rattle.lists.proofs.Flat.{length-taken, flat-taken, taken-flat}
 use Rattle.scte20.specs.declared.Numbers.{Numbers}
 use Rattle.scte20.specs.Value.{LegalCaptionUnit}
 use Rattle.scte20.specs.Lent.{unitIn}
@@ -79,7 +79,7 @@ slot-same (a ∷ b ∷ c ∷ d ∷ s) h = refl
 
 pub packet-told : (p : Packet) → length (p .slots) ≡ 5 → packetIn (p .counter) (flat slotBytes (p .slots)) ≡ p
 packet-told p five =
-    let whole = taken-flat slotBytes 4 (λ s. refl) slotIn slot-told (p .slots) [] in
+    let whole = flat-taken slotBytes 4 (λ s. refl) slotIn slot-told (p .slots) [] in
     ap (λ (slots : List Slot). record { counter = p .counter; slots = slots })
     (ap₂ (λ (k : ℕ) (s : List ℕ). taken slotIn 4 k s) (sym five) (sym (append-nil (flat slotBytes (p .slots)))) ∙ whole)
 
@@ -87,7 +87,7 @@ packet-told p five =
 pub slots-same : (counter : ℕ) (slots : List ℕ) → length slots ≡ 20 → flat slotBytes (packetIn counter slots .slots) ≡ slots
 slots-same counter slots e =
     ap (flat slotBytes) (sym (take-all 5 (taken slotIn 4 5 slots) (omega (arith, length-taken slotIn 4 5 slots))))
-    ∙ flat-taken slotBytes 4 (λ s. refl) slotIn slot-same 5 5 slots (omega arith) (omega arith)
+    ∙ taken-flat slotBytes 4 (λ s. refl) slotIn slot-same 5 5 slots (omega arith) (omega arith)
     ∙ take-all 20 slots (omega arith)
 
 -- THE FLAGS BYTE
