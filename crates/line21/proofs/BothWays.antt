@@ -18,20 +18,20 @@ use Rattle.line21.specs.Writing.{Writes}
 use Rattle.line21.proofs.Back.{layout-read, read-stored}
 use Rattle.line21.proofs.Writing.{writes-exactly, written-front, legal-short}
 
-pub read-written : (p : Payload) (out : List ℕ) (r : Written) (exit : List ℕ) → Writes p out r exit
+pub written-read : (p : Payload) (out : List ℕ) (r : Written) (exit : List ℕ) → Writes p out r exit
     → r .refusal .number ≡ 0
     → (a : Answer) → Reads (take (r .len) exit) a → a ≡ record { refusal = accepted; payload = stored (held p) }
-read-written p out r exit w e a read =
+written-read p out r exit w e a read =
     let wrote = written-front p out r exit w e in
     read .answer
     ∙ ap₂ (λ (n : ℕ) (bytes : List ℕ). readOf (take n bytes)) (ap (λ (x : Written). x .len) (wrote .0)) (wrote .1)
     ∙ ap readOf (take-append-seam (layout (held p)) (drop (length (layout (held p))) out))
     ∙ layout-read (held p) (writes-exactly p out r exit w .0 e .0 .value)
 
-pub written-read : (s : List ℕ) (a : Answer) → Reads s a → a .refusal .number ≡ 0
+pub read-written : (s : List ℕ) (a : Answer) → Reads s a → a .refusal .number ≡ 0
     → (out : List ℕ) (r : Written) (exit : List ℕ) → Writes (a .payload) out r exit → length s ≤ length out
     → (r ≡ written (length s)) × (exit ≡ over s out)
-written-read s a read e out r exit w fits =
+read-written s a read e out r exit w fits =
     let back = read-stored s a read e in
     let laid = back .same in
     let room : length (layout (held (a .payload))) ≤ length out = omega (arith, ap length laid) in

@@ -22,7 +22,7 @@ use Rattle.line21.proofs.LentUnits.{refused-lent}
 use Rattle.line21.proofs.LentBack.{lent-count, lent-front, into-told}
 use Rattle.line21.proofs.Accepting.{accepted-exactly}
 use Rattle.line21.proofs.Writing.{writes-exactly}
-use Rattle.line21.proofs.BothWays.{read-written, written-read}
+use Rattle.line21.proofs.BothWays.{written-read, read-written}
 
 pub read-into-as-read : (s lent : List ℕ) (r : Head) (exit : List ℕ) → ReadsInto s lent r exit → (a : Answer)
     → Reads s a
@@ -43,25 +43,25 @@ pub into-exactly : (s lent : List ℕ) (r : Head) (exit : List ℕ) → ReadsInt
 into-exactly s lent r exit p =
     subst (λ (h : Head). h .refusal .number ≡ 0 ↔ ((v : Line21) × Legal v × (layout v ≡ s))) (sym (p .answer)) (accepted-exactly s (readOf s) (record { bytes = p .bytes; answer = refl }))
 
-pub read-into-written : (flags m : ℕ) (units out : List ℕ) (w : Written) (end : List ℕ)
+pub written-read-into : (flags m : ℕ) (units out : List ℕ) (w : Written) (end : List ℕ)
     → Writes (payloadIn flags m units) out w end → w .refusal .number ≡ 0
     → length units ≡ 2037 → (lent : List ℕ) (r : Head) (exit : List ℕ) → ReadsInto (take (w .len) end) lent r exit
     → (r ≡ record { refusal = accepted; flags = flags; m = m }) × (exit ≡ filled (take (7 * m) units) 2037 0)
-read-into-written flags m units out w end wrote e long lent r exit into =
+written-read-into flags m units out w end wrote e long lent r exit into =
     let s = take (w .len) end in
     let read : Reads s (readOf s) = record { bytes = into .bytes; answer = refl } in
-    let same = read-written (payloadIn flags m units) out w end wrote e (readOf s) read in
+    let same = written-read (payloadIn flags m units) out w end wrote e (readOf s) read in
     let few = writes-exactly (payloadIn flags m units) out w end wrote .0 e .0 .few in
     let all = read-into-as-read s lent r exit into (readOf s) read in (
       all .0 ∙ ap headOf same ∙ ap (λ (k : ℕ). record { refusal = accepted; flags = flags; m = k }) (lent-count flags m units few),
       all .1 (ap (λ (a : Answer). a .refusal .number) same) ∙ ap (λ (a : Answer). unitsBytes (a .payload .units)) same ∙ lent-front flags m units few long,
     )
 
-pub written-read-into : (s lent : List ℕ) (a : Head) (exit : List ℕ) → ReadsInto s lent a exit → a .refusal .number ≡ 0
+pub read-into-written : (s lent : List ℕ) (a : Head) (exit : List ℕ) → ReadsInto s lent a exit → a .refusal .number ≡ 0
     → (out : List ℕ) (r : Written) (end : List ℕ) → Writes (payloadIn (a .flags) (a .m) exit) out r end
     → length s ≤ length out
     → (r ≡ written (length s)) × (end ≡ over s out)
-written-read-into s lent a exit into e out r end w fits =
+read-into-written s lent a exit into e out r end w fits =
     let zero : readOf s .refusal .number ≡ 0 = sym (ap (λ (h : Head). h .refusal .number) (into .answer)) ∙ e in
-    written-read s (readOf s) (record { bytes = into .bytes; answer = refl }) zero out r end
+    read-written s (readOf s) (record { bytes = into .bytes; answer = refl }) zero out r end
     (subst (λ (p : Payload). Writes p out r end) (into-told s lent a exit into e) w) fits

@@ -11,7 +11,7 @@ use Rattle.lists.specs.Bytes.{Bytes}
 use Rattle.lists.specs.Room.{filled, over, overAt}
 use Rattle.lists.specs.Flat.{taken}
 use Rattle.lists.proofs.Each.{each-drop}
-use Rattle.lists.proofs.Flat.{length-taken, getD-taken, flat-more, length-flat, taken-flat, flat-filled}
+use Rattle.lists.proofs.Flat.{length-taken, getD-taken, flat-more, length-flat, flat-taken, flat-filled}
 use Rattle.lists.proofs.Lay.{length-over, take-over, overAt-overAt}
 use Rattle.refusal.specs.declared.Verdict.{Verdict}
 use Rattle.refusal.specs.declared.Verdict.the-variants.{Accepted, Refused}
@@ -35,7 +35,7 @@ length-unitsBytes = length-flat unitBytes 7 seven
 
 -- a struct's units are told by their bytes
 pub payload-told : (p : Payload) → length (p .units) ≡ 291 → payloadIn (p .flags) (p .m) (unitsBytes (p .units)) ≡ p
-payload-told p places = ap made (ap₂ (taken unitIn 7) (sym places) (sym (append-nil (unitsBytes (p .units)))) ∙ taken-flat unitBytes 7 seven unitIn bytes-unitIn (p .units) [])
+payload-told p places = ap made (ap₂ (taken unitIn 7) (sym places) (sym (append-nil (unitsBytes (p .units)))) ∙ flat-taken unitBytes 7 seven unitIn bytes-unitIn (p .units) [])
   where
     made : List AccessUnit → Payload
     made us = record { flags = p .flags; m = p .m; units = us }

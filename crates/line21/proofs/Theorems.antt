@@ -145,16 +145,16 @@ refused-untouched = writing.refused-untouched
 -- BOTH WAYS
 
 -- Reading what was written gives the value back.
-pub read-written : (p : Payload) (out : List ℕ) (r : Written) (exit : List ℕ) → Writes p out r exit
+pub written-read : (p : Payload) (out : List ℕ) (r : Written) (exit : List ℕ) → Writes p out r exit
     → r .refusal .number ≡ 0
     → (a : Answer) → Reads (take (r .len) exit) a → a ≡ record { refusal = accepted; payload = stored (held p) }
-read-written = both-ways.read-written
+written-read = both-ways.written-read
 
 -- Writing what was read gives the bytes back.
-pub written-read : (s : List ℕ) (a : Answer) → Reads s a → a .refusal .number ≡ 0
+pub read-written : (s : List ℕ) (a : Answer) → Reads s a → a .refusal .number ≡ 0
     → (out : List ℕ) (r : Written) (exit : List ℕ) → Writes (a .payload) out r exit → length s ≤ length out
     → (r ≡ written (length s)) × (exit ≡ over s out)
-written-read = both-ways.written-read
+read-written = both-ways.read-written
 
 -- LENT UNITS
 
@@ -167,17 +167,17 @@ into-exactly = lent-theorems.into-exactly
 
 -- Reading into a lent array what `write_from` wrote gives the same numbers and the same bytes, with zeros behind the m
 -- units.
-pub read-into-written : (flags m : ℕ) (units out : List ℕ) (w : Written) (end : List ℕ)
+pub written-read-into : (flags m : ℕ) (units out : List ℕ) (w : Written) (end : List ℕ)
     → Writes (payloadIn flags m units) out w end → w .refusal .number ≡ 0 → length units ≡ 2037
     → (lent : List ℕ) (r : Head) (exit : List ℕ) → ReadsInto (take (w .len) end) lent r exit
     → (r ≡ record { refusal = accepted; flags = flags; m = m }) × (exit ≡ filled (take (7 * m) units) 2037 0)
-read-into-written = lent-theorems.read-into-written
+written-read-into = lent-theorems.written-read-into
 
 -- `write_from` of what was read into a lent array gives the bytes back.
-pub written-read-into : (s lent : List ℕ) (a : Head) (exit : List ℕ) → ReadsInto s lent a exit → a .refusal .number ≡ 0
+pub read-into-written : (s lent : List ℕ) (a : Head) (exit : List ℕ) → ReadsInto s lent a exit → a .refusal .number ≡ 0
     → (out : List ℕ) (r : Written) (end : List ℕ) → Writes (payloadIn (a .flags) (a .m) exit) out r end
     → length s ≤ length out → (r ≡ written (length s)) × (end ≡ over s out)
-written-read-into = lent-theorems.written-read-into
+read-into-written = lent-theorems.read-into-written
 
 -- ONE ANSWER
 

@@ -1,5 +1,5 @@
--- RULES, "Order of checks", for the payload: all checks of reading and of writing, each of the input alone, in the order
--- of RULES.
+-- RULES, "Order of checks", for the payload: all checks of reading and of writing, each of the input alone, in the
+-- order of RULES.
 use Prim.Native.Nat.{ℕ, _-_, _%_}
 use mathlib.Core.Bool.{not}
 use mathlib.Core.List.{List, [], _∷_, _++_}

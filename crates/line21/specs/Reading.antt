@@ -71,7 +71,7 @@ abbrev pub valuesOf : One → Refusal × List AccessUnit
 valuesOf (one.Unit u) = (refusalOf Accepted, u ∷ [])
 valuesOf (one.None refusal) = (refusal, [])
 
--- the promise of `read`. By its type its input is a list of bytes; the code shows that too, so that the theorems assume nothing
+-- the promise of `read`. By its type the input is a list of bytes: the code shows it, so that no theorem assumes it
 pub record Reads (s : List ℕ) (r : Answer) : Type 0 where
   pub bytes : Bytes s
   pub answer : r ≡ readOf s

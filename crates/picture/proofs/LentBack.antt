@@ -26,8 +26,8 @@ use Rattle.picture.specs.Writing.{unitBytes, Writes, Replaces}
 use Rattle.picture.proofs.Areas.{legal-verdict, legal-read}
 use Rattle.picture.proofs.Lending.{answer-places}
 use Rattle.picture.proofs.Accepting.{accepted-exactly, zero-accepted, other-refused}
-use Rattle.picture.proofs.Writing.{writes-exactly, read-written, written-read}
-use Rattle.picture.proofs.Replacing.{replaces-exactly, shown-replaced, read-replaced, put-back}
+use Rattle.picture.proofs.Writing.{writes-exactly, written-read, read-written}
+use Rattle.picture.proofs.Replacing.{replaces-exactly, shown-replaced, replaced-read, put-back}
 
 -- WHAT IS ANSWERED
 
@@ -77,9 +77,6 @@ module _ (before : List (List ℕ)) (c : Content) (after : List (List ℕ)) (h :
   shown-head : r ≡ headOf (answerOf Accepted (c ∷ []))
   shown-head = p .answer ∙ ap headOf (legal-read (captioned before c after) h)
 
-  pub into-present : r .present ≡ true
-  into-present = ap (λ (x : Head). x .present) shown-head
-
   -- its numbers are bytes
   pub into-bytes : (r .numbers .reserved < 256) × (r .numbers .«vbi_data_flag» < 256)
   into-bytes = (
@@ -89,31 +86,31 @@ module _ (before : List (List ℕ)) (c : Content) (after : List (List ℕ)) (h :
 
 -- BOTH WAYS
 
-pub read-into-written : (v : Numbers) (records out : List ℕ) (w : Written) (end : List ℕ) → Writes (unitIn v records) out w end → w .refusal .number ≡ 0
+pub written-read-into : (v : Numbers) (records out : List ℕ) (w : Written) (end : List ℕ) → Writes (unitIn v records) out w end → w .refusal .number ≡ 0
     → length records ≡ 155 → (lent : List ℕ) (r : Head) (exit : List ℕ) → ReadsInto (take (w .len) end) lent r exit
     → (r ≡ record { refusal = accepted; present = true; numbers = v }) × (exit ≡ filled (take (5 * v .n) records) 155 0)
-read-into-written v records out w end wrote e long lent r exit into =
+written-read-into v records out w end wrote e long lent r exit into =
     let s = take (w .len) end in
     let few = writes-exactly (unitIn v records) out w end wrote .0 e .0 .few in
-    into-back s lent r exit into v records few long (read-written (unitIn v records) out w end wrote e (readOf s) (as-read s lent r exit into))
+    into-back s lent r exit into v records few long (written-read (unitIn v records) out w end wrote e (readOf s) (as-read s lent r exit into))
 
-pub written-read-into : (before : List (List ℕ)) (c : Content) (after : List (List ℕ)) → Legal (captioned before c after)
+pub read-into-written : (before : List (List ℕ)) (c : Content) (after : List (List ℕ)) → Legal (captioned before c after)
     → (lent : List ℕ) (a : Head) (kept : List ℕ) → ReadsInto (layout (captioned before c after)) lent a kept
     → (out : List ℕ) (r : Written) (exit : List ℕ) → Writes (unitIn (a .numbers) kept) out r exit → length (unitBytes c) ≤ length out
     → (r ≡ written (length (unitBytes c))) × (exit ≡ over (unitBytes c) out)
-written-read-into before c after h lent a kept into out r exit w =
+read-into-written before c after h lent a kept into out r exit w =
     let v = captioned before c after in
-    written-read before c after h (readOf (layout v)) (as-read (layout v) lent a kept into) out r exit
+    read-written before c after h (readOf (layout v)) (as-read (layout v) lent a kept into) out r exit
     (subst (λ (u : CaptionUnit). Writes u out r exit) (into-told (layout v) lent a kept into (legal-verdict v h)) w)
 
-pub read-into-replaced : (v : Area) → Legal v → (x : Numbers) (records out : List ℕ) (w : Written) (end : List ℕ) → Replaces (layout v) (unitIn x records) out w end
+pub replaced-read-into : (v : Area) → Legal v → (x : Numbers) (records out : List ℕ) (w : Written) (end : List ℕ) → Replaces (layout v) (unitIn x records) out w end
     → w .refusal .number ≡ 0 → length records ≡ 155 → (lent : List ℕ) (r : Head) (exit : List ℕ) → ReadsInto (take (w .len) end) lent r exit
     → (r ≡ record { refusal = accepted; present = true; numbers = x }) × (exit ≡ filled (take (5 * x .n) records) 155 0)
-read-into-replaced v h x records out w end p e long lent r exit into =
+replaced-read-into v h x records out w end p e long lent r exit into =
     let s = take (w .len) end in
     let few = replaces-exactly (layout v) (unitIn x records) out w end p .0 e .3 .few in
     into-back s lent r exit into x records few long
-    (read-replaced v h (unitIn x records) out w end p e (readOf s) (as-read s lent r exit into) ∙ shown-replaced v (held (unitIn x records)))
+    (replaced-read v h (unitIn x records) out w end p e (readOf s) (as-read s lent r exit into) ∙ shown-replaced v (held (unitIn x records)))
 
 pub put-back-into : (v : Area) → Legal v → (lent : List ℕ) (a : Head) (kept : List ℕ) → ReadsInto (layout v) lent a kept → a .present ≡ true
     → (u : CaptionUnit) (out : List ℕ) (r : Written) (exit : List ℕ) → Replaces (layout v) u out r exit → r .refusal .number ≡ 0

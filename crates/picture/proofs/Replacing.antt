@@ -95,8 +95,8 @@ module _ (v : Area) (h : Legal v) (u : CaptionUnit) (out : List ℕ) (r : Writte
   pub new-units : r .refusal .number ≡ 0 → bodiesOf (take (r .len) exit) ≡ bodies (replaced v (held u))
   new-units e = ap bodiesOf (new-bytes e) ∙ layout-bodies _ (bodies-clean (replaced v (held u)) (the-new-area e .2 .units))
 
-  pub read-replaced : r .refusal .number ≡ 0 → (a : Answer) → Reads (take (r .len) exit) a → a ≡ shown (replaced v (held u))
-  read-replaced e a read = the-answer (replaced v (held u)) (the-new-area e .2) a (subst (λ (s : List ℕ). Reads s a) (new-bytes e) read)
+  pub replaced-read : r .refusal .number ≡ 0 → (a : Answer) → Reads (take (r .len) exit) a → a ≡ shown (replaced v (held u))
+  replaced-read e a read = the-answer (replaced v (held u)) (the-new-area e .2) a (subst (λ (s : List ℕ). Reads s a) (new-bytes e) read)
 
   -- the value decides, once the area is accepted
   told-next : r .refusal ≡ refusalOf (writeVerdict u (length (layout (replaced v (held u)))) (length out))

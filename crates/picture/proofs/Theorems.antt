@@ -194,16 +194,16 @@ pub write-untouched : (u : CaptionUnit) (out : List ℕ) (r : Written) (exit : L
 write-untouched = writing.write-untouched
 
 -- Reading what was written gives the value back.
-pub read-written : (u : CaptionUnit) (out : List ℕ) (r : Written) (exit : List ℕ) → Writes u out r exit
+pub written-read : (u : CaptionUnit) (out : List ℕ) (r : Written) (exit : List ℕ) → Writes u out r exit
     → r .refusal .number ≡ 0 → (a : Answer) → Reads (take (r .len) exit) a → a ≡ shown (captioned [] (held u) [])
-read-written = writing.read-written
+written-read = writing.written-read
 
 -- Writing what was read gives the unit's bytes.
-pub written-read : (before : List (List ℕ)) (c : Content) (after : List (List ℕ)) → Legal (captioned before c after)
+pub read-written : (before : List (List ℕ)) (c : Content) (after : List (List ℕ)) → Legal (captioned before c after)
     → (a : Answer) → Reads (layout (captioned before c after)) a
     → (out : List ℕ) (r : Written) (exit : List ℕ) → Writes (a .unit) out r exit → length (unitBytes c) ≤ length out
     → (r ≡ written (length (unitBytes c))) × (exit ≡ over (unitBytes c) out)
-written-read = writing.written-read
+read-written = writing.read-written
 
 -- REPLACING
 
@@ -237,10 +237,10 @@ pub new-units : (v : Area) → Legal v → (u : CaptionUnit) (out : List ℕ) (r
 new-units = replacing.new-units
 
 -- Reading the new area gives the new value.
-pub read-replaced : (v : Area) → Legal v → (u : CaptionUnit) (out : List ℕ) (r : Written) (exit : List ℕ)
+pub replaced-read : (v : Area) → Legal v → (u : CaptionUnit) (out : List ℕ) (r : Written) (exit : List ℕ)
     → Replaces (layout v) u out r exit → r .refusal .number ≡ 0
     → (a : Answer) → Reads (take (r .len) exit) a → a ≡ shown (replaced v (held u))
-read-replaced = replacing.read-replaced
+replaced-read = replacing.replaced-read
 
 -- Replacing, and putting back what was read before, gives the area byte for byte.
 pub put-back : (v : Area) → Legal v → (a : Answer) → Reads (layout v) a → a .present ≡ true
@@ -320,30 +320,30 @@ into-exactly = lent-back.into-exactly
 
 -- Reading into a lent array what `write_from` wrote gives the same numbers and the same bytes, with zeros behind the n
 -- records.
-pub read-into-written : (v : Numbers) (records out : List ℕ) (w : Written) (end : List ℕ)
+pub written-read-into : (v : Numbers) (records out : List ℕ) (w : Written) (end : List ℕ)
     → Writes (unitIn v records) out w end → w .refusal .number ≡ 0 → length records ≡ 155
     → (lent : List ℕ) (r : Head) (exit : List ℕ) → ReadsInto (take (w .len) end) lent r exit
     → (r ≡ record { refusal = accepted; present = true; numbers = v })
     × (exit ≡ filled (take (5 * v .n) records) 155 0)
-read-into-written = lent-back.read-into-written
+written-read-into = lent-back.written-read-into
 
 -- `write_from` of what was read into a lent array gives the unit's bytes.
-pub written-read-into : (before : List (List ℕ)) (c : Content) (after : List (List ℕ))
+pub read-into-written : (before : List (List ℕ)) (c : Content) (after : List (List ℕ))
     → Legal (captioned before c after)
     → (lent : List ℕ) (a : Head) (kept : List ℕ) → ReadsInto (layout (captioned before c after)) lent a kept
     → (out : List ℕ) (r : Written) (exit : List ℕ) → Writes (unitIn (a .numbers) kept) out r exit
     → length (unitBytes c) ≤ length out
     → (r ≡ written (length (unitBytes c))) × (exit ≡ over (unitBytes c) out)
-written-read-into = lent-back.written-read-into
+read-into-written = lent-back.read-into-written
 
 -- Reading into a lent array what `replace_from` wrote gives the new unit's numbers and bytes.
-pub read-into-replaced : (v : Area) → Legal v
+pub replaced-read-into : (v : Area) → Legal v
     → (x : Numbers) (records out : List ℕ) (w : Written) (end : List ℕ)
     → Replaces (layout v) (unitIn x records) out w end → w .refusal .number ≡ 0 → length records ≡ 155
     → (lent : List ℕ) (r : Head) (exit : List ℕ) → ReadsInto (take (w .len) end) lent r exit
     → (r ≡ record { refusal = accepted; present = true; numbers = x })
     × (exit ≡ filled (take (5 * x .n) records) 155 0)
-read-into-replaced = lent-back.read-into-replaced
+replaced-read-into = lent-back.replaced-read-into
 
 -- Replacing, and putting back what was read into a lent array before, gives the area byte for byte.
 pub put-back-into : (v : Area) → Legal v

@@ -69,19 +69,19 @@ module _ (u : CaptionUnit) (out : List ℕ) (r : Written) (exit : List ℕ) (w :
 
   -- BOTH WAYS
 
-  pub read-written : r .refusal .number ≡ 0 → (a : Answer) → Reads (take (r .len) exit) a → a ≡ shown (captioned [] (held u) [])
-  read-written e a read =
+  pub written-read : r .refusal .number ≡ 0 → (a : Answer) → Reads (take (r .len) exit) a → a ≡ shown (captioned [] (held u) [])
+  written-read e a read =
       let ok = writes-exactly .0 e in
       let alone = captioned [] (held u) [] in
       let laid : layout alone ≡ unitBytes (held u) = append-nil (unitBytes (held u)) in
       let legal : Legal alone = record { units = (tt, ok .0 .value, tt); short = omega (arith, ap length laid, ok .1) } in
       the-answer alone legal a (subst (λ (s : List ℕ). Reads s a) (written-bytes (unitBytes (held u)) out r exit (written-front e) ∙ sym laid) read)
 
-pub written-read : (before : List (List ℕ)) (c : Content) (after : List (List ℕ)) → Legal (captioned before c after)
+pub read-written : (before : List (List ℕ)) (c : Content) (after : List (List ℕ)) → Legal (captioned before c after)
     → (a : Answer) → Reads (layout (captioned before c after)) a
     → (out : List ℕ) (r : Written) (exit : List ℕ) → Writes (a .unit) out r exit → length (unitBytes c) ≤ length out
     → (r ≡ written (length (unitBytes c))) × (exit ≡ over (unitBytes c) out)
-written-read before c after h a read out r exit w room =
+read-written before c after h a read out r exit w room =
     let u = stored c in
     let same : a .unit ≡ u = ap (λ (x : Answer). x .unit) (the-answer (captioned before c after) h a read) in
     let wrote : Writes u out r exit = subst (λ (x : CaptionUnit). Writes x out r exit) same w in

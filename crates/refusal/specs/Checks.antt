@@ -27,4 +27,5 @@ first (verdict ∷ rest) = andThen verdict (first rest)
 
 -- the last checks of writing: 1 for the length of the result, then 14
 abbrev pub fitVerdict : ℕ → ℕ → ℕ → Verdict
-fitVerdict limit size room = first (refuseIf (ltb limit size) TooLong Whole ∷ refuseIf (ltb room size) NoRoom Whole ∷ [])
+fitVerdict limit size room =
+    first (refuseIf (ltb limit size) TooLong Whole ∷ refuseIf (ltb room size) NoRoom Whole ∷ [])

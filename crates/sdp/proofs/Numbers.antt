@@ -16,7 +16,7 @@ use Rattle.refusal.specs.declared.Item.the-variants.{Whole}
 use Rattle.refusal.proofs.Checks.{accepted-refuseIf, accepted-andThen, accepted-each, each-accepted, accepted-within}
 use Rattle.sdp.specs.declared.Slot.{Slot}
 use Rattle.sdp.specs.declared.Packet.{Packet}
-use Rattle.sdp.specs.Value.{SlotRow, Sdp, descriptor, zeros, together, emptyRow, LegalLine, FullSlot, LegalSlot, Legal, beside, held, Row, Typed}
+use Rattle.sdp.specs.Value.{SlotRow, Sdp, descriptor, zeroRow, together, emptyRow, LegalLine, FullSlot, LegalSlot, Legal, beside, held, Row, Typed}
 use Rattle.sdp.specs.Layout.{descriptorsOf, count, structure, structures, userLength, body, userBytes}
 use Rattle.sdp.specs.User.{lineVerdict}
 use Rattle.sdp.specs.SlotVerdict.{allZero, unwritable, slotVerdict, slotsVerdict}
@@ -49,7 +49,7 @@ module _ (x : SlotRow) (typed : Row (x .row)) (small : Small (x .slot)) (legal :
       let line : s .line ≡ 0 = omega arith in
       let reserved : s .reserved ≡ 0 = omega arith in
       let field : s .field .0 ≡ 0 = omega arith in
-      let row : x .row ≡ zeros = all-zero (x .row) (both .1) ∙ ap (λ (n : ℕ). replicate n 0) (typed .0) in
+      let row : x .row ≡ zeroRow = all-zero (x .row) (both .1) ∙ ap (λ (n : ℕ). replicate n 0) (typed .0) in
       inl (λ i. together (record { full = none i; line = line i; reserved = reserved i; field = record { 0 = field i } }) (row i))
 
   legal-some : (m : ℕ) → x .slot .full ≡ suc m → eqb (descriptor (x .slot)) 0 ≡ false → LegalSlot x

@@ -14,7 +14,7 @@ use Rattle.refusal.specs.declared.Verdict.the-variants.{Accepted}
 use Rattle.refusal.specs.declared.Item.{Item}
 use Rattle.refusal.specs.declared.Item.the-variants.{Word}
 use Rattle.refusal.proofs.Checks.{accepted-refuseIf, andThen-accepted}
-use Rattle.sdp.specs.Value.{SlotRow, descriptor, empty, LegalLine, FullSlot, LegalSlot}
+use Rattle.sdp.specs.Value.{SlotRow, descriptor, emptySlot, LegalLine, FullSlot, LegalSlot}
 use Rattle.sdp.specs.Layout.{descriptorsOf}
 use Rattle.sdp.specs.User.{lineVerdict, descriptorsVerdict, markOf, slotOf}
 
@@ -72,7 +72,7 @@ full-slotOf x h =
     let field : descriptor s / 128 ≡ s .field .0 = omega arith in
     λ i. record { full = mark i; line = line i; reserved = reserved i; field = record { 0 = field i } }
 
-empty-slotOf : slotOf 0 ≡ empty
+empty-slotOf : slotOf 0 ≡ emptySlot
 unfolding slotOf
 empty-slotOf = refl
 

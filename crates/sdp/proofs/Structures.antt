@@ -13,7 +13,7 @@ use Rattle.lists.proofs.Each.{each-take, each-drop}
 use Rattle.refusal.specs.declared.Verdict.the-variants.{Accepted}
 use Rattle.refusal.specs.declared.Item.the-variants.{Word}
 use Rattle.refusal.proofs.Checks.{accepted-andThen, accepted-equal}
-use Rattle.sdp.specs.Value.{SlotRow, together, descriptor, zeros, FullSlot, LegalSlot}
+use Rattle.sdp.specs.Value.{SlotRow, together, descriptor, zeroRow, FullSlot, LegalSlot}
 use Rattle.sdp.specs.Layout.{descriptorsOf, count, structure, structures}
 use Rattle.sdp.specs.User.{lineVerdict, descriptorsVerdict, structureVerdict, structuresVerdict, slotOf, rowIn, behind, slotsIn}
 use Rattle.sdp.proofs.Numbers.{legal-wide}
@@ -21,12 +21,12 @@ use Rattle.sdp.proofs.Slots.{accepted-line, slotOf-descriptor, descript
 
 -- LAID, THEN READ
 
-legal-zeros : (x : SlotRow) → LegalSlot x → descriptor (x .slot) ≡ 0 → x .row ≡ zeros
+legal-zeros : (x : SlotRow) → LegalSlot x → descriptor (x .slot) ≡ 0 → x .row ≡ zeroRow
 legal-zeros x h none = ⊎-elim (λ e. ap (λ (y : SlotRow). y .row) e) (λ full. let f : ⊥ = omega (arith, full .some) in absurd f) h
 
 -- a row of 42 bytes in its structure, ahead of anything
 module _ (row rest : List ℕ) (places : length row ≡ 42) where
-  structure-rowIn : (d : ℕ) → (d ≡ 0 → row ≡ zeros) → rowIn d (structure d row ++ rest) ≡ row
+  structure-rowIn : (d : ℕ) → (d ≡ 0 → row ≡ zeroRow) → rowIn d (structure d row ++ rest) ≡ row
   structure-rowIn zero blank = sym (blank refl)
   structure-rowIn (suc d) blank = take-at row rest 42 places
 

@@ -16,8 +16,8 @@ allZero [] = true
 allZero (zero ∷ xs) = allZero xs
 allZero (suc x ∷ xs) = false
 
--- whether a slot has no layout, from its mark, its descriptor and whether its row is all zero: full with descriptor 0, or
--- empty with anything in it
+-- whether a slot has no layout, from its mark, its descriptor and whether its row is all zero: full with descriptor 0,
+-- or empty with anything in it
 abbrev pub unwritable : ℕ → ℕ → Bool → Bool
 unwritable zero d blank = not (eqb d 0 && blank)
 unwritable (suc mark) d blank = eqb d 0

@@ -21,11 +21,11 @@ use Rattle.subtitling.proofs.Back.{accepted-legal}
 use Rattle.subtitling.proofs.Accepting.{the-answer, the-rows, accepted-verdict}
 use Rattle.subtitling.proofs.Writing.{writes-exactly, written-front, legal-short}
 
-pub read-written : (p : Packet) (rows : List (List ℕ)) (out : List ℕ) (r : Written) (exit : List ℕ)
+pub written-read : (p : Packet) (rows : List (List ℕ)) (out : List ℕ) (r : Written) (exit : List ℕ)
     → Writes p rows out r exit → r .refusal .number ≡ 0
     → (a : Answer) (back : List (List ℕ)) → Reads (take (r .len) exit) a → ReadsRows (take (r .len) exit) back
     → (a ≡ record { refusal = accepted; packet = p }) × (back ≡ rows)
-read-written p rows out r exit w e a back read readRows =
+written-read p rows out r exit w e a back read readRows =
     let v = held p rows in
     let wrote = written-front p rows out r exit w e in
     let legal = writes-exactly p rows out r exit w .0 e .0 in
@@ -39,11 +39,11 @@ read-written p rows out r exit w e a back read readRows =
     answered : Packet → Answer
     answered packet = record { refusal = accepted; packet = packet }
 
-pub written-read : (s : List ℕ) (a : Answer) (rows : List (List ℕ)) → Reads s a → ReadsRows s rows
+pub read-written : (s : List ℕ) (a : Answer) (rows : List (List ℕ)) → Reads s a → ReadsRows s rows
     → a .refusal .number ≡ 0
     → (out : List ℕ) (r : Written) (exit : List ℕ) → Writes (a .packet) rows out r exit → length s ≤ length out
     → (r ≡ written (length s)) × (exit ≡ over s out)
-written-read s a rows read readRows e out r exit w fits =
+read-written s a rows read readRows e out r exit w fits =
     let yes = accepted-verdict s a read e in
     let back = accepted-legal s yes in
     let same : held (a .packet) rows ≡ valueOf s =

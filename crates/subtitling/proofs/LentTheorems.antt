@@ -18,7 +18,7 @@ use Rattle.subtitling.specs.Layout.{layout}
 use Rattle.subtitling.specs.Reading.{packetVerdict, readRowsOf, Reads, ReadsRows, ReadsInto}
 use Rattle.subtitling.specs.Writing.{Writes}
 use Rattle.subtitling.proofs.Accepting.{accepted-verdict, accepted-exactly}
-use Rattle.subtitling.proofs.BothWays.{read-written, written-read}
+use Rattle.subtitling.proofs.BothWays.{written-read, read-written}
 
 refused-lent : (verdict : Verdict) (new lent : List (List ℕ)) → (refusalOf verdict .number ≡ 0 → ⊥)
     → lentOf verdict new lent ≡ lent
@@ -39,19 +39,19 @@ pub into-exactly : (s : List ℕ) (lent : List (List ℕ)) (r : Answer) (exit : 
     → r .refusal .number ≡ 0 ↔ ((v : Sdp) × Legal v × (layout v ≡ s))
 into-exactly s lent r exit i = accepted-exactly s r (i .answer)
 
-pub read-into-written : (p : Packet) (rows : List (List ℕ)) (out : List ℕ) (w : Written) (end : List ℕ)
+pub written-read-into : (p : Packet) (rows : List (List ℕ)) (out : List ℕ) (w : Written) (end : List ℕ)
     → Writes p rows out w end → w .refusal .number ≡ 0
     → (lent : List (List ℕ)) (r : Answer) (exit : List (List ℕ)) → ReadsInto (take (w .len) end) lent r exit
     → (r ≡ record { refusal = accepted; packet = p }) × (exit ≡ rows)
-read-into-written p rows out w end wrote e lent r exit i =
+written-read-into p rows out w end wrote e lent r exit i =
     let s = take (w .len) end in
-    let same = read-written p rows out w end wrote e r (readRowsOf s) (i .answer) refl in
+    let same = written-read p rows out w end wrote e r (readRowsOf s) (i .answer) refl in
     let all = read-into-as-read s lent r exit i r (readRowsOf s) (i .answer) refl in
     (same .0, all .1 (ap (λ (a : Answer). a .refusal .number) (same .0)) ∙ same .1)
 
-pub written-read-into : (s : List ℕ) (lent : List (List ℕ)) (a : Answer) (exit : List (List ℕ))
+pub read-into-written : (s : List ℕ) (lent : List (List ℕ)) (a : Answer) (exit : List (List ℕ))
     → ReadsInto s lent a exit → a .refusal .number ≡ 0
     → (out : List ℕ) (r : Written) (end : List ℕ) → Writes (a .packet) exit out r end → length s ≤ length out
     → (r ≡ written (length s)) × (end ≡ over s out)
-written-read-into s lent a exit i e =
-    written-read s a exit (i .answer) (read-into-as-read s lent a exit i a (readRowsOf s) (i .answer) refl .1 e) e
+read-into-written s lent a exit i e =
+    read-written s a exit (i .answer) (read-into-as-read s lent a exit i a (readRowsOf s) (i .answer) refl .1 e) e

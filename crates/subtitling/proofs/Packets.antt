@@ -15,7 +15,7 @@ use Rattle.anc.specs.Words.{parityOf, wordOf, byteOf, wordsVerdict, sumVerdict,
 use Rattle.anc.proofs.Words.{word-byte, words-bytes, words-accepted, accepted-words, sum-accepted}
 use Rattle.subtitling.specs.Layout.{covered, packet}
 use Rattle.sdp.specs.User.{userVerdict}
-use Rattle.subtitling.specs.Reading.{coveredIn, userIn, lastOf, formVerdict, headerVerdict, checksumVerdict, packetVerdict}
+use Rattle.subtitling.specs.Reading.{coveredIn, userIn, lastWord, formVerdict, headerVerdict, checksumVerdict, packetVerdict}
 use Rattle.subtitling.proofs.Numbers.{length-packet}
 use Rattle.subtitling.proofs.Accepted.{Whole}
 use Rattle.subtitling.proofs.Sequence.{length-userIn}
@@ -29,7 +29,7 @@ module _ (u : List ℕ) (bytes : Bytes u) (long : 13 ≤ length u) (short : leng
   packet-covered : coveredIn (packet u) ≡ covered u
   packet-covered = take-at (covered u) (checksumOf (covered u) ∷ []) (length (packet u) - 1 - 3) (omega (arith, length-covered, length-packet u))
 
-  packet-last : lastOf (packet u) ≡ checksumOf (covered u)
+  packet-last : lastWord (packet u) ≡ checksumOf (covered u)
   packet-last =
       getD-at (0x000 ∷ 0x3FF ∷ 0x3FF ∷ covered u) (checksumOf (covered u)) [] 0 (length (packet u) - 1) (omega (arith, length-covered, length-packet u))
 
@@ -58,7 +58,7 @@ module _ (u : List ℕ) (bytes : Bytes u) (long : 13 ≤ length u) (short : leng
   packet-checksum : checksumVerdict (packet u) ≡ Accepted
   unfolding checksumVerdict
   packet-checksum =
-      simp (eq-eqb (lastOf (packet u)) (checksumOf (coveredIn (packet u))) (packet-last ∙ ap checksumOf (sym packet-covered)))
+      simp (eq-eqb (lastWord (packet u)) (checksumOf (coveredIn (packet u))) (packet-last ∙ ap checksumOf (sym packet-covered)))
 
   pub packet-accepted : userVerdict 5 u ≡ Accepted → packetVerdict (packet u) ≡ Accepted
   unfolding packetVerdict
@@ -99,7 +99,7 @@ module _ (s : List ℕ) (whole : Whole s) where
   user-covered = ap (map wordOf) (sym covered-bytes) ∙ accepted-words 3 (coveredIn s) (whole .form .words)
 
   -- CS is the last word
-  end : drop (length s - 1 - 3) (drop 3 s) ≡ lastOf s ∷ []
+  end : drop (length s - 1 - 3) (drop 3 s) ≡ lastWord s ∷ []
   end =
       let far : 3 + (length s - 1 - 3) ≡ length s - 1 = omega (arith, whole .form .long) in
       let inside : length s - 1 < length s = omega (arith, whole .form .long) in
@@ -107,7 +107,7 @@ module _ (s : List ℕ) (whole : Whole s) where
       drop-drop (length s - 1 - 3) 3 s
       ∙ ap (λ (k : ℕ). drop k s) far
       ∙ drop-cons s (length s - 1) 0 inside
-      ∙ ap (λ (r : List ℕ). lastOf s ∷ r) (drop-of-length-le s past)
+      ∙ ap (λ (r : List ℕ). lastWord s ∷ r) (drop-of-length-le s past)
 
   pub packet-back : packet (userIn s) ≡ s
   packet-back =

@@ -189,17 +189,17 @@ refused-untouched = writing.refused-untouched
 -- BOTH WAYS
 
 -- Reading what was written gives the value back, number for number and row for row.
-pub read-written : (p : Packet) (rows : List (List ℕ)) (out : List ℕ) (r : Written) (exit : List ℕ)
+pub written-read : (p : Packet) (rows : List (List ℕ)) (out : List ℕ) (r : Written) (exit : List ℕ)
     → Writes p rows out r exit → r .refusal .number ≡ 0
     → (a : Answer) (back : List (List ℕ)) → Reads (take (r .len) exit) a → ReadsRows (take (r .len) exit) back
     → (a ≡ record { refusal = accepted; packet = p }) × (back ≡ rows)
-read-written = both-ways.read-written
+written-read = both-ways.written-read
 
 -- Writing what was read gives the words back.
-pub written-read : (s : List ℕ) (a : Answer) (rows : List (List ℕ)) → Reads s a → ReadsRows s rows
+pub read-written : (s : List ℕ) (a : Answer) (rows : List (List ℕ)) → Reads s a → ReadsRows s rows
     → a .refusal .number ≡ 0 → (out : List ℕ) (r : Written) (exit : List ℕ) → Writes (a .packet) rows out r exit
     → length s ≤ length out → (r ≡ written (length s)) × (exit ≡ over s out)
-written-read = both-ways.written-read
+read-written = both-ways.read-written
 
 -- LENT ROWS
 
@@ -211,18 +211,18 @@ pub into-exactly : (s : List ℕ) (lent : List (List ℕ)) (r : Answer) (exit : 
 into-exactly = lent-theorems.into-exactly
 
 -- Reading into lent rows what was written gives the same numbers and the same rows.
-pub read-into-written : (p : Packet) (rows : List (List ℕ)) (out : List ℕ) (w : Written) (end : List ℕ)
+pub written-read-into : (p : Packet) (rows : List (List ℕ)) (out : List ℕ) (w : Written) (end : List ℕ)
     → Writes p rows out w end → w .refusal .number ≡ 0
     → (lent : List (List ℕ)) (r : Answer) (exit : List (List ℕ)) → ReadsInto (take (w .len) end) lent r exit
     → (r ≡ record { refusal = accepted; packet = p }) × (exit ≡ rows)
-read-into-written = lent-theorems.read-into-written
+written-read-into = lent-theorems.written-read-into
 
 -- Writing what was read into lent rows gives the words back.
-pub written-read-into : (s : List ℕ) (lent : List (List ℕ)) (a : Answer) (exit : List (List ℕ))
+pub read-into-written : (s : List ℕ) (lent : List (List ℕ)) (a : Answer) (exit : List (List ℕ))
     → ReadsInto s lent a exit → a .refusal .number ≡ 0
     → (out : List ℕ) (r : Written) (end : List ℕ) → Writes (a .packet) exit out r end
     → length s ≤ length out → (r ≡ written (length s)) × (end ≡ over s out)
-written-read-into = lent-theorems.written-read-into
+read-into-written = lent-theorems.read-into-written
 
 -- ONE ANSWER
 

@@ -1,5 +1,5 @@
--- RULES, "Order of checks", for the packet: all checks of reading and of writing, each of the input alone, in the order of
--- RULES.
+-- RULES, "Order of checks", for the packet: all checks of reading and of writing, each of the input alone, in the order
+-- of RULES.
 use Prim.Native.Nat.{ℕ, _-_, _%_, _≤_}
 use mathlib.Core.Path.{_≡_}
 use mathlib.Core.Bool.{not}
@@ -23,7 +23,7 @@ use Rattle.sdp.specs.Layout.{userLength}
 use Rattle.sdp.specs.User.{descriptorsIn, structuresIn}
 use Rattle.sdp.specs.Order.{descriptorsChecks, structuresChecks, slotChecks}
 use Rattle.subtitling.specs.Layout.{layout}
-use Rattle.subtitling.specs.Reading.{coveredIn, userIn, lastOf}
+use Rattle.subtitling.specs.Reading.{coveredIn, userIn, lastWord}
 
 -- the packet around the user words. A packet of 20 words has 13 user words, so that 5 is not given again
 abbrev pub outerChecks : List ℕ → List Verdict
@@ -39,7 +39,7 @@ outerChecks s =
     -- 11: each word from DID to the last user word, range, then parity
     ∷ (wordsChecks 3 (coveredIn s)
     -- 11: CS
-    ++ (sumChecks (length s - 1) (lastOf s)
+    ++ (sumChecks (length s - 1) (lastWord s)
     -- 6: DID, SDID
     ++ (refuseIf (not (eqb (getD s 3 0) 0x143)) (Unfixed Identifier) (Word 3)
     ∷ refuseIf (not (eqb (getD s 4 0) 0x102)) (Unfixed Identifier) (Word 4)
@@ -68,7 +68,7 @@ innerChecks s =
     -- 12: the SDP checksum
     ∷ refuseIf (not (eqb (sum (userIn s) % 256) 0)) SdpChecksum (Word (length s - 2))
     -- 12: CS
-    ∷ refuseIf (not (eqb (lastOf s) (checksumOf (coveredIn s)))) Checksum (Word (length s - 1))
+    ∷ refuseIf (not (eqb (lastWord s) (checksumOf (coveredIn s)))) Checksum (Word (length s - 1))
     ∷ []))))
 
 abbrev pub readingChecks : List ℕ → List Verdict

@@ -1,5 +1,5 @@
--- What writing a subtitling packet answers, and what the lent output then holds, for every value and output. RULES, "Order
--- of checks": 15 of the counter; slot by slot 15 and 7; 1; 14.
+-- What writing a subtitling packet answers, and what the lent output then holds, for every value and output. RULES,
+-- "Order of checks": 15 of the counter; slot by slot 15 and 7; 1; 14.
 use Prim.Native.Nat.{ℕ}
 use mathlib.Core.List.{List, [], _∷_}
 use lib.Dec.{ltb}
@@ -24,7 +24,7 @@ valueVerdict v room =
     ∷ fitVerdict 245 (length (layout v)) room
     ∷ [])
 
--- the promise of `write`. By their types the struct has five slots and the rows are five of 42 bytes; the code shows that too
+-- the promise of `write`. By their types there are five slots, and five rows of 42 bytes: the code shows it
 pub record Writes (p : Packet) (rows : List (List ℕ)) (out : List ℕ) (answer : Written) (exit : List ℕ) : Type 0 where
   pub typed : Typed p rows
   pub wrote : Wrote (valueVerdict (held p rows) (length out)) (layout (held p rows)) out answer exit
