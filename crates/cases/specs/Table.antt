@@ -52,7 +52,7 @@ All (c ∷ cs) = Comes c × All cs
 
 -- A's bytes, with the byte in which the marker stands
 abbrev pub marked : ℕ → List ℕ
-marked b = layoutUnit (0x03 ∷ 0x81 ∷ 0x08 ∷ 0xAC ∷ 0xA4 ∷ b ∷ 0x00 ∷ [])
+marked b = 0x00 ∷ 0x00 ∷ 0x01 ∷ 0xB2 ∷ 0x03 ∷ 0x81 ∷ 0x08 ∷ 0xAC ∷ 0xA4 ∷ b ∷ 0x00 ∷ []
 
 -- reserved 64, flag 1, A's record: priority 0, field 1, line 11, bytes 94 2C; and z
 abbrev withRecord : ℕ → scte20.Content

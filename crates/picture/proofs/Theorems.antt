@@ -357,22 +357,26 @@ put-back-into = lent-back.put-back-into
 
 -- ONE ANSWER
 
--- For each function, two answers that keep its promise are equal, lent memory too.
+-- For each function, two answers that keep its promise are equal, lent memory too: `read`,
 pub read-determined : (s : List ℕ) (a b : Answer) → Reads s a → Reads s b → a ≡ b
 read-determined = determined.read-determined
 
+-- `read_into`,
 pub read-into-determined : (s lent : List ℕ) (a : Head) (exit : List ℕ) (b : Head) (end : List ℕ)
     → ReadsInto s lent a exit → ReadsInto s lent b end → (a ≡ b) × (exit ≡ end)
 read-into-determined = determined.read-into-determined
 
+-- `read_old`, by which an area is read that is to be changed,
 pub read-old-determined : (s lent : List ℕ) (a : Old) (exit : List ℕ) (b : Old) (end : List ℕ)
     → ReadsOld s lent a exit → ReadsOld s lent b end → (a ≡ b) × (exit ≡ end)
 read-old-determined = determined.read-old-determined
 
+-- `write` and `write_from`,
 pub write-determined : (u : CaptionUnit) (out : List ℕ) (a : Written) (exit : List ℕ) (b : Written) (end : List ℕ)
     → Writes u out a exit → Writes u out b end → (a ≡ b) × (exit ≡ end)
 write-determined = determined.write-determined
 
+-- `replace` and `replace_from`.
 pub replace-determined : (s : List ℕ) (u : CaptionUnit) (out : List ℕ) (a : Written) (exit : List ℕ)
     → (b : Written) (end : List ℕ) → Replaces s u out a exit → Replaces s u out b end → (a ≡ b) × (exit ≡ end)
 replace-determined = determined.replace-determined

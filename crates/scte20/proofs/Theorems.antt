@@ -64,10 +64,11 @@ only-one = accepting.only-one
 pub stored-held : (c : Content) → held (stored c) ≡ c
 stored-held = accepting.stored-held
 
+-- and is legal where the value is,
 pub stored-legal : (c : Content) → Legal c → LegalCaptionUnit (stored c)
 stored-legal = accepting.stored-legal
 
--- and its numbers and its records' bytes tell the struct again.
+-- and its numbers and its records' bytes tell it again.
 pub lent-held : (u : CaptionUnit) → Typed u → unitIn (numbersOf u) (recordsBytes (u .records)) ≡ u
 lent-held = accepting.lent-held
 
