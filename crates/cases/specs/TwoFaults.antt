@@ -181,13 +181,13 @@ two-faults =
     ∷ writeUnit (value [] 16384) 0 TooLong 1
     -- WRITING A PACKET
     -- 15 and 15: counter 65,536, and a slot of reserved 4
-    ∷ writePacket (two 65536 (slot 1 6 4 sdp.zeros) sdp.emptyRow) 0 (Unholdable excess.Counter) 15
+    ∷ writePacket (two 65536 (slot 1 6 4 sdp.zeroRow) sdp.emptyRow) 0 (Unholdable excess.Counter) 15
     -- 15 and 7: reserved 4, and line 3
-    ∷ writePacket (two 0 (slot 1 3 4 sdp.zeros) sdp.emptyRow) 0 (Unholdable excess.SlotReserved) 15
+    ∷ writePacket (two 0 (slot 1 3 4 sdp.zeroRow) sdp.emptyRow) 0 (Unholdable excess.SlotReserved) 15
     -- 15 and 7: an empty slot that holds line 3
-    ∷ writePacket (two 0 (slot 0 3 0 sdp.zeros) sdp.emptyRow) 0 (Unholdable excess.SlotUnwritable) 15
+    ∷ writePacket (two 0 (slot 0 3 0 sdp.zeroRow) sdp.emptyRow) 0 (Unholdable excess.SlotUnwritable) 15
     -- 7 and 15: line 3 in one slot, and reserved 4 in the next
-    ∷ writePacket (two 0 (slot 1 3 0 sdp.zeros) (slot 1 6 4 sdp.zeros)) 0 DescriptorLine 7
+    ∷ writePacket (two 0 (slot 1 3 0 sdp.zeroRow) (slot 1 6 4 sdp.zeroRow)) 0 DescriptorLine 7
     -- WRITING A PAYLOAD
     -- 15 and 15: m 292, and a padding of 64
     ∷ writePayload (held 292 (unit 0 0 64 0 0 0 0 ∷ [])) 0 (Unholdable excess.Count) 15
