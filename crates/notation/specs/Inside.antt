@@ -1,5 +1,5 @@
--- What private functions promise each other: where a text's next word stands, and what the words from there on tell. No theorem for a signer
--- speaks of it.
+-- What private functions promise each other: where a text's next word stands, and what the words from there on tell. No
+-- theorem for a signer speaks of it.
 use Prim.Native.Nat.{ℕ, _≤_, _<_}
 use mathlib.Core.Path.{_≡_}
 use mathlib.Core.Bool.{Bool, true, false, _&&_}
@@ -70,7 +70,9 @@ pub record TakesByte (isNumber : List ℕ → Bool) (numberOf : List ℕ → ℕ
 
 -- h says what the first three words tell, and where the other words begin
 pub record TakesHead (text : List ℕ) (h : Head) : Type 0 where
-  pub told : h .«is_readable» ≡ (isDecimal (wordAt 0 (wordsOf text)) && (isDecimal (wordAt 1 (wordsOf text)) && isDecimal (wordAt 2 (wordsOf text))))
+  pub told : h .«is_readable»
+      ≡ (isDecimal (wordAt 0 (wordsOf text))
+      && (isDecimal (wordAt 1 (wordsOf text)) && isDecimal (wordAt 2 (wordsOf text))))
   pub reserved : h .«is_readable» ≡ true → h .reserved ≡ cappedByteOf (wordAt 0 (wordsOf text))
   pub flag : h .«is_readable» ≡ true → h .«vbi_data_flag» ≡ cappedByteOf (wordAt 1 (wordsOf text))
   pub z : h .«is_readable» ≡ true → h .z ≡ cappedOf (wordAt 2 (wordsOf text))

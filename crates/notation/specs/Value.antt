@@ -1,5 +1,5 @@
--- The value that a text tells (RULES, "Programs", PR-2): three words for reserved, flag and z, then five for each record, as `cclist` prints them: priority,
--- field and line in decimal, the two data bytes in hex.
+-- The value that a text tells (RULES, "Programs", PR-2): three words for reserved, flag and z, then five for each
+-- record, as `cclist` prints them: priority, field and line in decimal, the two data bytes in hex.
 use Prim.Native.Nat.{ℕ, _+_, _-_, _*_, _<_, min}
 use mathlib.Core.Bool.{Bool, true, false, not, _&&_}
 use mathlib.Core.List.{List, [], _∷_, _++_}
@@ -51,7 +51,9 @@ choose false a b = b
 
 -- 0 to 9, A to F or a to f; else 16
 unfoldable pub hexDigit : ℕ → ℕ
-hexDigit c = choose (isDigit c) (c - 0x30) (choose (between 0x41 0x46 c) (c - 0x37) (choose (between 0x61 0x66 c) (c - 0x57) 16))
+hexDigit c =
+    choose (isDigit c) (c - 0x30)
+    (choose (between 0x41 0x46 c) (c - 0x37) (choose (between 0x61 0x66 c) (c - 0x57) 16))
 
 -- two hex digits
 abbrev pub isHex : List ℕ → Bool
@@ -72,7 +74,13 @@ isRecord p f l a b = isDecimal p && (isDecimal f && (isDecimal l && (isHex a && 
 
 abbrev pub recordOf : List ℕ → List ℕ → List ℕ → List ℕ → List ℕ → Record
 recordOf p f l a b =
-    record { «cc_priority» = cappedByteOf p; «field_number» = record { 0 = cappedByteOf f }; «line_offset» = cappedByteOf l; «cc_data_1» = hexOf a; «cc_data_2» = hexOf b }
+    record {
+      «cc_priority» = cappedByteOf p;
+      «field_number» = record { 0 = cappedByteOf f };
+      «line_offset» = cappedByteOf l;
+      «cc_data_1» = hexOf a;
+      «cc_data_2» = hexOf b;
+    }
 
 -- five words for each record, and none left over
 abbrev pub areRecords : List (List ℕ) → Bool
@@ -108,14 +116,17 @@ meantWords [] = unreadable
 meantWords (r ∷ []) = unreadable
 meantWords (r ∷ f ∷ []) = unreadable
 meantWords (r ∷ f ∷ z ∷ words) =
-    meantIf (isDecimal r && (isDecimal f && (isDecimal z && areRecords words))) (unitOf (cappedByteOf r) (cappedByteOf f) (cappedOf z) (recordsOf words))
+    meantIf (isDecimal r && (isDecimal f && (isDecimal z && areRecords words)))
+    (unitOf (cappedByteOf r) (cappedByteOf f) (cappedOf z) (recordsOf words))
 
 abbrev pub meantOf : List ℕ → Meant
 meantOf text = meantWords (wordsOf text)
 
 -- a value as it is typed: reserved, flag and z, then the lines that `cclist` prints of its records
 abbrev pub unitText : Content → List ℕ
-unitText c = decimal (c .reserved) ++ (space ++ (decimal (c .flag) ++ (space ++ (decimal (c .z) ++ (space ++ recordsText (c .records))))))
+unitText c =
+    decimal (c .reserved)
+    ++ (space ++ (decimal (c .flag) ++ (space ++ (decimal (c .z) ++ (space ++ recordsText (c .records))))))
 
 -- a record whose numbers are bytes
 pub record InBytes (r : Record) : Type 0 where

@@ -1,5 +1,6 @@
--- RULES, "Order of checks", for the picture area: all checks of reading, of writing a unit and of replacing one, each of the input alone, in the order of
--- RULES. The checks of a caption unit's body, and those of a value, are listed in crate `scte20`.
+-- RULES, "Order of checks", for the picture area: all checks of reading, of writing a unit and of replacing one, each
+-- of the input alone, in the order of RULES. The checks of a caption unit's body, and those of a value, are listed in
+-- crate `scte20`.
 use Prim.Native.Nat.{ℕ, _+_}
 use mathlib.Core.Bool.{not, _&&_}
 use mathlib.Core.List.{List, [], _∷_, _++_, map}
@@ -27,7 +28,9 @@ pub record Caption : Type 0 where
 -- the caption units among pieces, the first of which begins at `at`: a piece is four start bytes and a body
 abbrev pub captionsOf : ℕ → List (List ℕ) → List Caption
 captionsOf at [] = []
-captionsOf at (piece ∷ pieces) = putIf (ours Scte20 (drop 4 piece)) (record { unit = at; body = drop 4 piece }) (captionsOf (at + length piece) pieces)
+captionsOf at (piece ∷ pieces) =
+    putIf (ours Scte20 (drop 4 piece)) (record { unit = at; body = drop 4 piece })
+    (captionsOf (at + length piece) pieces)
 
 -- the checks of a body, told in its area
 abbrev pub captionChecks : Caption → List Verdict

@@ -1,5 +1,5 @@
--- What writing a caption unit and replacing one in an area answer, and what the lent output then holds, for every value, area and output.
--- RULES, "Picture area" and "Order of checks".
+-- What writing a caption unit and replacing one in an area answer, and what the lent output then holds, for every
+-- value, area and output. RULES, "Picture area" and "Order of checks".
 use Prim.Native.Nat.{ℕ}
 use mathlib.Core.List.{List, _++_}
 use lib.ListN.{length, take, drop}
@@ -21,7 +21,8 @@ use Rattle.picture.specs.Reading.{captionsIn, areaVerdict}
 abbrev pub unitBytes : Content → List ℕ
 unitBytes c = layoutUnit (content.layout c)
 
--- the promise of `write`. By its type the struct's data bytes are bytes and its array has 31 places; the code shows that too
+-- the promise of `write`. By its type the struct's data bytes are bytes and its array has 31 places; the code shows
+-- that too
 pub record Writes (u : CaptionUnit) (out : List ℕ) (answer : Written) (exit : List ℕ) : Type 0 where
   pub typed : Typed u
   pub wrote : Wrote (writeVerdict u (length (unitBytes (held u))) (length out)) (unitBytes (held u)) out answer exit

@@ -8,8 +8,8 @@ use lib.ListN.{length, drop, replicate, length-append, length-replicate}
 use Rattle.lists.specs.Bytes.{Bytes}
 use Rattle.lists.proofs.Each.{each-replicate}
 use Rattle.lists.proofs.Each.{each-append}
-use Rattle.bits.specs.Bits.{bits, bitsOf, bytesOf, AreBits}
-use Rattle.bits.proofs.Numbers.{bits-are, are-append, are-zeros}
+use Rattle.bits.specs.Bits.{bits, bitsOf, bytesOf}
+use Rattle.bits.proofs.Numbers.{AreBits, bits-are, are-append, are-zeros}
 use Rattle.bits.proofs.Stream.{bitsOf-append, bitsOf-zeros, length-bytesOf, bytesOf-bytes, bitsOf-bytesOf}
 use Rattle.scte20.specs.declared.Record.{Record}
 use Rattle.scte20.specs.Value.{Content}

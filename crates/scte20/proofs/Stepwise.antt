@@ -16,7 +16,8 @@ use Rattle.refusal.specs.declared.Fixed.the-variants.{Marker}
 use Rattle.refusal.specs.declared.Item.the-variants.{Bit}
 use Rattle.refusal.specs.Checks.{andThen}
 use Rattle.refusal.proofs.Checks.{andThen-last}
-use Rattle.bits.specs.Bits.{field, AreBits}
+use Rattle.bits.specs.Bits.{field}
+use Rattle.bits.proofs.Numbers.{AreBits}
 use Rattle.bits.proofs.Fields.{field-lt, field-within}
 use Rattle.scte20.specs.declared.Record.{Record}
 use Rattle.scte20.specs.declared.Last.{Last}

@@ -1,4 +1,5 @@
--- The bytes of a caption unit's body, from its value alone. RULES, "Picture area"; document 001, 5.4 to 5.8. Most significant bit first.
+-- The bytes of a caption unit's body, from its value alone. RULES, "Picture area"; document 001, 5.4 to 5.8. Most
+-- significant bit first.
 use Prim.Native.Nat.{ℕ, zero, suc, _+_, _-_, _*_, _/_, _%_, max}
 use mathlib.Core.List.{List, [], _∷_, _++_}
 use lib.ListN.{length, replicate}
@@ -11,13 +12,14 @@ abbrev pub constructBits : Record → List ℕ
 constructBits r =
     bits 2 (r .«cc_priority»)
     ++ (bits 2 (fieldOf r)
-    ++ (bits 5 (r .«line_offset») ++ (bits 8 (reversed (r .«cc_data_1»)) ++ (bits 8 (reversed (r .«cc_data_2»)) ++ (1 ∷ [])))))
+    ++ (bits 5 (r .«line_offset»)
+    ++ (bits 8 (reversed (r .«cc_data_1»)) ++ (bits 8 (reversed (r .«cc_data_2»)) ++ (1 ∷ [])))))
 
 abbrev pub constructsBits : List Record → List ℕ
 constructsBits [] = []
 constructsBits (r ∷ rs) = constructBits r ++ constructsBits rs
 
--- behind the flag: nothing where it is 0, else cc_count, the constructs, and non_real_time_video_count, which is 0 in this base
+-- behind the flag: nothing where it is 0, else cc_count, the constructs, and non_real_time_video_count, which is 0
 abbrev pub flaggedBits : ℕ → List Record → List ℕ
 flaggedBits zero rs = []
 flaggedBits (suc f) rs = bits 5 (length rs) ++ (constructsBits rs ++ bits 4 0)

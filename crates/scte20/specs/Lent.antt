@@ -1,4 +1,5 @@
--- A unit's records as bytes in a lent array, five bytes each, in the order of the struct: what the C interface lends and is lent.
+-- A unit's records as bytes in a lent array, five bytes each, in the order of the struct: what the C interface lends
+-- and is lent.
 use Prim.Native.Nat.{ℕ, _*_}
 use mathlib.Core.Path.{_≡_}
 use mathlib.Core.Bool.{Bool, true, false}
@@ -48,7 +49,8 @@ storedAt i r s = storedIf (ltb i 31) i r s
 
 -- the struct that numbers and a lent array tell
 abbrev pub unitIn : Numbers → List ℕ → CaptionUnit
-unitIn v s = record { reserved = v .reserved; «vbi_data_flag» = v .«vbi_data_flag»; n = v .n; records = lentRecords s; z = v .z }
+unitIn v s =
+    record { reserved = v .reserved; «vbi_data_flag» = v .«vbi_data_flag»; n = v .n; records = lentRecords s; z = v .z }
 
 abbrev pub numbersOf : CaptionUnit → Numbers
 numbersOf u = record { reserved = u .reserved; «vbi_data_flag» = u .«vbi_data_flag»; n = u .n; z = u .z }
@@ -58,8 +60,9 @@ abbrev pub headOf : Verdict → Content → Head
 headOf Accepted c = record { verdict = Accepted; numbers = numbersOf (stored c) }
 headOf (Refused reason item) c = record { verdict = Refused reason item; numbers = numbersOf (stored none) }
 
--- the promise of `read_into`: verdict and numbers, and in the lent array all the value's records, zeros beyond n; a refusal leaves the array as it was. By its
--- type the input is a list of bytes; the code shows that too, so that the theorems assume nothing
+-- the promise of `read_into`: verdict and numbers, and in the lent array all the value's records, zeros beyond n; a
+-- refusal leaves the array as it was. By its type the input is a list of bytes; the code shows that too, so that the
+-- theorems assume nothing
 pub record ReadsInto (body lent : List ℕ) (r : Head) (exit : List ℕ) : Type 0 where
   pub bytes : Bytes body
   pub answer : r ≡ headOf (contentVerdict body) (valueOf body)

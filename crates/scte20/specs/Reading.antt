@@ -1,5 +1,5 @@
--- The verdict on a caption unit's body, and the value that it holds, for every list of bytes. RULES, "Order of checks": from the first bit to the last,
--- and whether an item is all there comes before what it holds.
+-- The verdict on a caption unit's body, and the value that it holds, for every list of bytes. RULES, "Order of checks":
+-- from the first bit to the last, and whether an item is all there comes before what it holds.
 --
 -- A refusal has the bit of the body at which the failing item begins.
 use Prim.Native.Nat.{ℕ, zero, suc, _+_, _-_, _*_, _≤_}
@@ -31,7 +31,8 @@ missing at w xs = refuseIf (ltb (length xs) (at + w)) Ends (Bit at)
 -- 6: the bits, of which the first is bit `at`, are all zero, or the first that is not is refused
 abbrev pub zeroVerdict : Fixed → ℕ → List ℕ → Verdict
 zeroVerdict which at [] = Accepted
-zeroVerdict which at (b ∷ bs) = andThen (refuseIf (not (eqb b 0)) (Unfixed which) (Bit at)) (zeroVerdict which (suc at) bs)
+zeroVerdict which at (b ∷ bs) =
+    andThen (refuseIf (not (eqb b 0)) (Unfixed which) (Bit at)) (zeroVerdict which (suc at) bs)
 
 -- the construct that begins at bit `at`, and its marker
 unfoldable pub constructAt : ℕ → List ℕ → Record
@@ -74,7 +75,8 @@ restVerdict at xs =
     ∷ zeroVerdict Stuffing (at + padding at) (drop (at + padding at) xs)
     ∷ [])
 
--- what stands before the flag's decision. A body of an area's caption unit is shorter than 16,384 bytes and begins 03, so that 1 and 6 are never given there
+-- what stands before the flag's decision. A body of an area's caption unit is shorter than 16,384 bytes and begins 03,
+-- so that 1 and 6 are never given there
 unfoldable pub headVerdict : List ℕ → Verdict
 headVerdict body =
     first

@@ -1,5 +1,5 @@
--- What writing a caption unit's body answers, and what the lent output then holds, for every value and output. RULES, "Order of checks": the whole
--- value, record after record, the length of the result, the room.
+-- What writing a caption unit's body answers, and what the lent output then holds, for every value and output. RULES,
+-- "Order of checks": the whole value, record after record, the length of the result, the room.
 use Prim.Native.Nat.{ℕ, _+_}
 use mathlib.Core.Path.{_≡_}
 use mathlib.Core.Bool.{not, _&&_}
@@ -78,8 +78,8 @@ abbrev pub bodyLeft : Verdict → ℕ → List ℕ → List ℕ → List ℕ
 bodyLeft Accepted at laid out = overAt at laid out
 bodyLeft (Refused reason item) at laid out = out
 
--- the promise of `write_from`, of the struct that it is told by numbers and a lent array (`unitIn`). By its type the data bytes are bytes and there are 31
--- places; the code shows that too
+-- the promise of `write_from`, of the struct that it is told by numbers and a lent array (`unitIn`). By its type the
+-- data bytes are bytes and there are 31 places; the code shows that too
 pub record Writes (u : CaptionUnit) (before after : ℕ) (out : List ℕ) (answer : Laid) (exit : List ℕ) : Type 0 where
   pub typed : Typed u
   pub counted : answer ≡ laidOf (bodyVerdict u before after (length out)) (layout (held u))

@@ -13,7 +13,8 @@ use Rattle.units.specs.declared.Found.{Found}
 use Rattle.units.specs.declared.Found.the-variants as found
 use Rattle.units.specs.Layout.{prefixed}
 
--- an area's bytes, cut before each appearance of 00 00 01: what stands before the first, and a piece from each up to the next
+-- an area's bytes, cut before each appearance of 00 00 01: what stands before the first, and a piece from each up to
+-- the next
 pub record Cut : Type 0 where
   pub before : List ℕ
   pub pieces : List (List ℕ)
@@ -78,7 +79,8 @@ ofKind ours (body ∷ bodies) = putIf (ours body) body (ofKind ours bodies)
 abbrev pub spansOf : (List ℕ → Bool) → ℕ → List (List ℕ) → List Span
 spansOf ours at [] = []
 spansOf ours at (piece ∷ pieces) =
-    putIf (ours (drop 4 piece)) (record { unit = at; end = at + length piece }) (spansOf ours (at + length piece) pieces)
+    putIf (ours (drop 4 piece)) (record { unit = at; end = at + length piece })
+    (spansOf ours (at + length piece) pieces)
 
 abbrev pub foundOf : Verdict → List Span → Found
 foundOf (Refused reason item) spans = found.NotUnits reason item
