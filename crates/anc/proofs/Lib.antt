@@ -2,4 +2,5 @@ pub mod Folds
 pub mod Words
 pub mod Judged
 pub mod Sequence
+pub mod Determined
 pub mod Theorems

@@ -1,4 +1,4 @@
--- The definitions check words in 01's sequence.
+-- The definitions check words in the order of RULES.
 -- Assumes nothing.
 use Prim.Native.Nat.{ℕ, suc}
 use mathlib.Core.Path.{_≡_, refl}

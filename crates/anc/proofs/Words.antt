@@ -22,14 +22,14 @@ unfolding parityOf
 parity-low b = let two : 0 < 2 = omega arith in mod-lt _ two
 
 -- a byte's word holds the byte
-pub byte-word : (b : ℕ) → b < 256 → byteOf (wordOf b) ≡ b
+pub word-byte : (b : ℕ) → b < 256 → byteOf (wordOf b) ≡ b
 unfolding wordOf
-byte-word b h = omega (arith, parity-low b)
+word-byte b h = omega (arith, parity-low b)
 
 -- and the words of bytes hold these
-pub bytes-words : (bs : List ℕ) → Bytes bs → map byteOf (map wordOf bs) ≡ bs
-bytes-words [] h = refl
-bytes-words (b ∷ bs) h = ap₂ (λ (x : ℕ) (xs : List ℕ). x ∷ xs) (byte-word b (h .0)) (bytes-words bs (h .1))
+pub words-bytes : (bs : List ℕ) → Bytes bs → map byteOf (map wordOf bs) ≡ bs
+words-bytes [] h = refl
+words-bytes (b ∷ bs) h = ap₂ (λ (x : ℕ) (xs : List ℕ). x ∷ xs) (word-byte b (h .0)) (words-bytes bs (h .1))
 
 -- what words hold are bytes
 pub bytes-bytes : (ws : List ℕ) → Bytes (map byteOf ws)
@@ -43,7 +43,7 @@ word-low b h = omega (arith, parity-low b)
 
 word-accepted : (place b : ℕ) → b < 256 → wordVerdict place (wordOf b) ≡ Accepted
 unfolding wordVerdict
-word-accepted place b h = simp (le-ltb 1023 (wordOf b) (word-low b h), byte-word b h, eq-eqb (wordOf b) (wordOf b) refl)
+word-accepted place b h = simp (le-ltb 1023 (wordOf b) (word-low b h), word-byte b h, eq-eqb (wordOf b) (wordOf b) refl)
 
 bits-word : (w : ℕ) → w / 256 + parityOf (byteOf w) ≡ 2 → wordOf (byteOf w) ≡ w
 unfolding wordOf
@@ -89,3 +89,15 @@ pub sum-accepted : (place : ℕ) (ws : List ℕ) → sumVerdict place (checksumO
 unfolding sumVerdict
 sum-accepted place ws =
     simp (le-ltb 1023 (checksumOf ws) (sum-low ws), ne-eqb (checksumOf ws / 512) (checksumOf ws / 256 % 2) (sum-inverse ws))
+
+-- in a byte's word the ones among b8 to b0 are even in number, and b9 is the inverse of b8
+pub word-even : (b : ℕ) → b < 256
+    → ((parityOf (wordOf b % 256) + wordOf b / 256 % 2) % 2 ≡ 0) × (wordOf b / 512 + wordOf b / 256 % 2 ≡ 1)
+unfolding wordOf
+word-even b h = (rw (word-byte b h) (omega (arith, parity-low b)), omega (arith, parity-low b))
+
+-- CS has the sum in b8 to b0, and its b9 is the inverse of its b8
+pub checksum-holds : (ws : List ℕ)
+    → (checksumOf ws % 512 ≡ nineBitSum ws) × (checksumOf ws / 512 + checksumOf ws / 256 % 2 ≡ 1)
+unfolding checksumOf nineBitSum
+checksum-holds ws = (omega arith, omega arith)

@@ -1,4 +1,4 @@
--- Document 01, "Which refusal comes first": the checks of words, 11, as lists. The first word stands at `place`.
+-- RULES, "Order of checks": the checks of words, 11, as lists. The first word stands at `place`.
 use Prim.Native.Nat.{ℕ, suc, _/_, _%_}
 use mathlib.Core.Bool.{not}
 use mathlib.Core.List.{List, [], _∷_}

@@ -1,4 +1,4 @@
--- Ancillary data words of ten bits, b9 to b0. Document 01, "Subtitling packet"; SMPTE 291M.
+-- Ancillary data words of ten bits, b9 to b0. RULES, "Subtitling packet"; SMPTE 291M.
 use Prim.Native.Nat.{ℕ, suc, _+_, _-_, _*_, _/_, _%_}
 use mathlib.Core.Bool.{not}
 use mathlib.Core.List.{List, [], _∷_, map}
@@ -14,7 +14,7 @@ use Rattle.refusal.specs.Checks.{refuseIf, andThen, first}
 unfoldable pub parityOf : ℕ → ℕ
 parityOf b = (b % 2 + b / 2 % 2 + b / 4 % 2 + b / 8 % 2 + b / 16 % 2 + b / 32 % 2 + b / 64 % 2 + b / 128 % 2) % 2
 
--- a byte's word: the byte in b7 to b0, b8 the even parity of these, b9 the inverse of b8
+-- the word of a byte: b7 to b0 are the byte, b8 makes the ones even in number, b9 is what b8 is not
 unfoldable pub wordOf : ℕ → ℕ
 wordOf b = b + 256 * parityOf b + 512 * (1 - parityOf b)
 

@@ -1,6 +1,6 @@
 // Ancillary data words of ten bits, each in a 16-bit number.
 //
-// Normative references: document 01, "Subtitling packet"; SMPTE 291M.
+// Normative references: docs/RULES.md, "Subtitling packet"; SMPTE 291M.
 ghost use mathlib.Core.Path.{_≡_};
 ghost use Prim.Native.Nat.{_%_, _<_};
 ghost use Rattle.lists.specs.Part.{part};

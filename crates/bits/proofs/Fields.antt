@@ -10,8 +10,8 @@ use lib.Pow.{pow-mono, high, low}
 use lib.Seq.{length-take-le, take-length, take-add, drop-drop, drop-cons}
 use Rattle.lists.specs.Bytes.{Bytes}
 use Rattle.lists.proofs.Each.{each-at}
-use Rattle.bits.specs.Bits.{bits, num, bitsOf, bytesOf, field, AreBits}
-use Rattle.bits.proofs.Numbers.{are-take, are-drop, num-lt, num-append, num-bits-small, bits-num}
+use Rattle.bits.specs.Bits.{bits, num, bitsOf, bytesOf, field}
+use Rattle.bits.proofs.Numbers.{AreBits, are-take, are-drop, num-lt, num-append, num-bits-small, bits-num}
 use Rattle.bits.proofs.Stream.{length-bitsOf, bitsOf-are, drop-bitsOf}
 
 pub field-lt : (xs : List ℕ) (at w : ℕ) → AreBits xs → field xs at w < 2 ^ w

@@ -5,4 +5,5 @@ pub mod Turn
 pub mod Beyond
 pub mod Runs
 pub mod Windows
+pub mod Determined
 pub mod Theorems

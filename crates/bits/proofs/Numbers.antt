@@ -10,8 +10,13 @@ use lib.Arith.{digits-lt}
 use lib.ListN.{length, take, drop, replicate, length-append}
 use lib.Pow.{pow-add, high, low, mod-pow-add, mod-mod-pow, shr-shr}
 use lib.Pow as pow
+use Rattle.lists.specs.Each.{Each}
 use Rattle.lists.proofs.Each.{each-take, each-drop, each-append, each-replicate}
-use Rattle.bits.specs.Bits.{bits, num, AreBits}
+use Rattle.bits.specs.Bits.{bits, num}
+
+-- a list that holds nothing but bits
+abbrev pub AreBits : List ℕ → Type 0
+AreBits xs = Each (λ (b : ℕ). b < 2) xs
 
 pub length-bits : (w x : ℕ) → length (bits w x) ≡ w
 length-bits zero x = refl

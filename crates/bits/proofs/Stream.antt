@@ -9,8 +9,8 @@ use lib.ListN.{length, take, drop, replicate, length-take, length-drop, take-app
 use lib.Pow.{pow-mono}
 use lib.Seq.{take-append-le, drop-append-le, drop-append-add, drop-drop, drop-nil, length-take-le}
 use Rattle.lists.specs.Bytes.{Bytes}
-use Rattle.bits.specs.Bits.{bits, num, bitsOf, bytesOf, AreBits}
-use Rattle.bits.proofs.Numbers.{bits-are, are-take, are-drop, are-append, num-bits-small, num-lt, bits-num}
+use Rattle.bits.specs.Bits.{bits, num, bitsOf, bytesOf}
+use Rattle.bits.proofs.Numbers.{AreBits, bits-are, are-take, are-drop, are-append, num-bits-small, num-lt, bits-num}
 
 pub length-bitsOf : (s : List ℕ) → length (bitsOf s) ≡ 8 * length s
 length-bitsOf [] = refl

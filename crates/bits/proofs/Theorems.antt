@@ -1,20 +1,23 @@
--- The theorems of bits in bytes (document 01, "Picture area"). What they speak of is defined in specs/Bits and specs/Peek.
+-- The theorems of bits in bytes (docs/RULES.md, "Picture area", PA-8 and PA-19). What they speak of is defined in
+-- specs/Bits and specs/Peek.
+-- How to read it: docs/NOTATION.md.
 -- Assumes nothing.
 use Prim.Native.Nat.{ℕ, min}
-use mathlib.Core.Path.{_≡_, _∙_, sym}
+use mathlib.Core.Path.{_≡_}
 use mathlib.Core.List.{List}
 use Rattle.bits.specs.Bits.{reversed}
 use Rattle.bits.specs.Peek.{peekOf, firstSet, leadingOf}
+use Rattle.bits.proofs.Determined as determined
 
 -- For each function, two answers that keep its promise are equal.
 pub peek-determined : (s : List ℕ) (at w a b : ℕ) → a ≡ peekOf s at (min w 32) → b ≡ peekOf s at (min w 32) → a ≡ b
-peek-determined s at w a b ea eb = ea ∙ sym eb
+peek-determined = determined.peek-determined
 
 pub reverse-determined : (byte a b : ℕ) → a ≡ reversed byte → b ≡ reversed byte → a ≡ b
-reverse-determined byte a b ea eb = ea ∙ sym eb
+reverse-determined = determined.reverse-determined
 
 pub first-set-determined : (s : List ℕ) (from a b : ℕ) → a ≡ firstSet s from → b ≡ firstSet s from → a ≡ b
-first-set-determined s from a b ea eb = ea ∙ sym eb
+first-set-determined = determined.first-set-determined
 
 pub leading-determined : (byte a b : ℕ) → a ≡ leadingOf byte → b ≡ leadingOf byte → a ≡ b
-leading-determined byte a b ea eb = ea ∙ sym eb
+leading-determined = determined.leading-determined

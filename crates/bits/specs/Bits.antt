@@ -1,8 +1,7 @@
--- Lists of bits, 0 or 1 each, as the meaning of bytes. Document 01, "Picture area": most significant bit first.
-use Prim.Native.Nat.{ℕ, zero, suc, _+_, _*_, _/_, _%_, _^_, _<_}
+-- Lists of bits, 0 or 1 each, as the meaning of bytes. RULES, "Picture area": most significant bit first.
+use Prim.Native.Nat.{ℕ, zero, suc, _+_, _*_, _/_, _%_, _^_}
 use mathlib.Core.List.{List, [], _∷_, _++_, reverse}
 use lib.ListN.{length, take, drop}
-use Rattle.lists.specs.Each.{Each}
 
 -- the w low bits of a number
 abbrev pub bits : ℕ → ℕ → List ℕ
@@ -37,7 +36,3 @@ abbrev pub zeros : List ℕ → ℕ
 zeros [] = 0
 zeros (zero ∷ bs) = suc (zeros bs)
 zeros (suc b ∷ bs) = 0
-
--- a list that holds nothing but bits
-abbrev pub AreBits : List ℕ → Type 0
-AreBits xs = Each (λ (b : ℕ). b < 2) xs

@@ -1,4 +1,4 @@
-// Bits in lent bytes, most significant first (document 01, "Picture area").
+// Bits in lent bytes, most significant first (docs/RULES.md, "Picture area").
 ghost use mathlib.Core.Path.{_≡_};
 ghost use Prim.Native.Nat.{_*_, _<_, min};
 ghost use mathlib.Core.List.{[], _∷_};

@@ -1,3 +1,6 @@
 pub mod Numbers
-pub mod Lent
+pub mod Refusing
+pub mod Succeeding
+pub mod BothWays
+pub mod Determined
 pub mod Theorems

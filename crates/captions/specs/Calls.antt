@@ -1,5 +1,5 @@
--- What the calls of the C interface mean: each is a call of its carriage, of the value that plain numbers and lent memory tell. c/captions.h has the
--- same in C's words.
+-- What the calls of the C interface mean: each is a call of its carriage, of the value that plain numbers and lent
+-- memory tell. c/captions.h has the same in C's words.
 use Prim.Native.Nat.{ℕ, _<_, min}
 use mathlib.Core.List.{List, []}
 use lib.ListN.{getD}
@@ -34,7 +34,8 @@ headIn r =
 abbrev pub AreaReads : List ℕ → List ℕ → UnitHead → List ℕ → Type 0
 AreaReads s lent r exit = ReadsInto s lent (headIn r) exit
 
--- a unit's numbers. One that a byte cannot hold is 255, which no reserved bits and no flag are: it is refused with 15, in its place in 01's order
+-- a unit's numbers. One that a byte cannot hold is 255, which no reserved bits and no flag are: it is refused with 15,
+-- in its place in the order of RULES
 unfoldable pub numbersIn : ℕ → ℕ → ℕ → ℕ → Numbers
 numbersIn reserved flag n z = record { reserved = min reserved 255; «vbi_data_flag» = min flag 255; n = n; z = z }
 

@@ -1,6 +1,6 @@
 // The C interface (c/captions.h): read, write and replace, over plain numbers and lent memory. Each function hands on to its carriage's own.
 //
-// Normative references: document 01.
+// Normative references: docs/RULES.md.
 mod area;
 mod packet;
 mod payload;

@@ -12,7 +12,7 @@ use Rattle.anc.specs.Words.{parityOf, wordOf, wordVerdict, nineBitSum, checksum
 use Rattle.line21.specs.Reading.{lengthVerdict}
 use Rattle.line21.specs.Writing as payloads
 use Rattle.sdp.specs.User.{lineVerdict, structureVerdict, headVerdict, tailVerdict}
-use Rattle.sdp.specs.Holdable.{slotVerdict}
+use Rattle.sdp.specs.SlotVerdict.{slotVerdict}
 use Rattle.subtitling.specs.Reading.{formVerdict, headerVerdict, checksumVerdict, packetVerdict}
 use Rattle.subtitling.specs.Writing as packets
 use Rattle.cases.specs.TwoFaults.{All, two-faults}

@@ -1,5 +1,6 @@
--- Inputs with two faults, and which of them decides: document 01, "Which refusal comes first". A row names the call, its input, the reason of the fault that
--- decides, and 01's number for it (and the place, where there is one). The reason tells apart what shares a number.
+-- Inputs with two faults, and which of them decides: RULES, "Order of checks". A row names the call, its input, the
+-- reason of the fault that decides, and its number (and the place, where there is one). The reason tells apart what
+-- shares a number.
 use Prim.Native.Nat.{ℕ}
 use mathlib.Core.Path.{_≡_}
 use mathlib.Core.List.{List, [], _∷_, _++_}
@@ -12,6 +13,8 @@ use Rattle.refusal.specs.declared.Excess.the-variants as excess
 use Rattle.refusal.specs.declared.Verdict.{Verdict}
 use Rattle.refusal.specs.declared.Verdict.the-variants.{Accepted, Refused}
 use Rattle.refusal.specs.Numbers.{refusalOf}
+use Rattle.refusal.specs.Answers.{refused}
+use Rattle.units.specs.Layout.{layoutUnit}
 use Rattle.scte20.specs.declared.Record.{Record}
 use Rattle.scte20.specs.declared.CaptionUnit.{CaptionUnit}
 use Rattle.scte20.specs.Value as scte20
@@ -25,9 +28,10 @@ use Rattle.line21.specs.Writing as payloads
 use Rattle.sdp.specs.Value as sdp
 use Rattle.subtitling.specs.Reading.{packetVerdict}
 use Rattle.subtitling.specs.Writing as packets
-use Rattle.cases.specs.Table.{marked, start, unit}
+use Rattle.cases.specs.Table.{marked, unit}
 
--- a call with its input, which for writing and replacing has the room of the output last; the reason; the number; the place
+-- a call with its input, which for writing and replacing has the room of the output last; the reason; the number; the
+-- place
 pub data Case : Type 0 where
   area : List ℕ → Reason → ℕ → ℕ → Case
   packet : List ℕ → Reason → ℕ → Case
@@ -43,13 +47,14 @@ why (Refused reason item) = reason ∷ []
 
 -- the verdict refuses for this reason, and that is told as this number and place
 abbrev pub Decides : Verdict → Reason → ℕ → ℕ → Type 0
-Decides verdict reason number place = (why verdict ≡ reason ∷ []) × (refusalOf verdict ≡ record { number = number; place = place })
+Decides verdict reason number place = (why verdict ≡ reason ∷ []) × (refusalOf verdict ≡ refused number place)
 
 abbrev pub Decided : Case → Type 0
 Decided (area s reason number place) = Decides (areaVerdict s) reason number place
 Decided (packet s reason number) = Decides (packetVerdict s) reason number 0
 Decided (payload s reason number) = Decides (lengthVerdict (length s)) reason number 0
-Decided (writeUnit u room reason number) = Decides (writeVerdict u (length (unitBytes (scte20.held u))) room) reason number 0
+Decided (writeUnit u room reason number) =
+    Decides (writeVerdict u (length (unitBytes (scte20.held u))) room) reason number 0
 Decided (writePacket v room reason number) = Decides (packets.valueVerdict v room) reason number 0
 Decided (writePayload p room reason number) = Decides (payloads.valueVerdict p room) reason number 0
 Decided (replace s u room reason number place) = Decides (replaceVerdict s u room) reason number place
@@ -68,12 +73,14 @@ j = marked 0xD0
 
 -- a foreign unit of five bytes
 abbrev foreign : List ℕ
-foreign = start (0x04 ∷ [])
+foreign = layoutUnit (0x04 ∷ [])
 
--- four records of priority 0 in field 1, on lines 10 to 13, and the last 26 bits and those behind them as they are given
+-- four records of priority 0 in field 1, on lines 10 to 13, and the last 26 bits and those behind them as they are
+-- given
 abbrev fifth : List ℕ → List ℕ
 fifth last =
-    start (0x03 ∷ 0x81 ∷ 0x28 ∷ 0xA8 ∷ 0xA4 ∷ 0xD2 ∷ 0x2B ∷ 0x29 ∷ 0x34 ∷ 0x8B ∷ 0x0A ∷ 0x4D ∷ 0x22 ∷ 0xD2 ∷ 0x93 ∷ 0x48 ∷ last)
+    layoutUnit
+    (0x03 ∷ 0x81 ∷ 0x28 ∷ 0xA8 ∷ 0xA4 ∷ 0xD2 ∷ 0x2B ∷ 0x29 ∷ 0x34 ∷ 0x8B ∷ 0x0A ∷ 0x4D ∷ 0x22 ∷ 0xD2 ∷ 0x93 ∷ 0x48 ∷ last)
 
 -- K with some of its words changed: DID, 51, LENGTH, format, the first descriptor, the footer, the SDP checksum, CS
 abbrev k : ℕ → ℕ → ℕ → ℕ → ℕ → ℕ → ℕ → ℕ → List ℕ
@@ -87,19 +94,31 @@ value rs z = scte20.stored (record { reserved = 64; flag = 1; records = rs; z = 
 
 -- a record: priority, field, line
 abbrev caption : ℕ → ℕ → ℕ → Record
-caption p f l = record { «cc_priority» = p; «field_number» = record { 0 = f }; «line_offset» = l; «cc_data_1» = 0x94; «cc_data_2» = 0x2C }
+caption p f l =
+    record {
+      «cc_priority» = p;
+      «field_number» = record { 0 = f };
+      «line_offset» = l;
+      «cc_data_1» = 0x94;
+      «cc_data_2» = 0x2C;
+    }
+
+-- five records of priority 0 in field 1, and those behind them
+abbrev five : List Record → List Record
+five rs = caption 0 1 10 ∷ caption 0 1 11 ∷ caption 0 1 12 ∷ caption 0 1 13 ∷ caption 0 1 14 ∷ rs
 
 -- a slot: mark, line, reserved, odd field; its row
 abbrev slot : ℕ → ℕ → ℕ → List ℕ → sdp.SlotRow
-slot full line reserved row = sdp.together (record { full = full; line = line; reserved = reserved; field = record { 0 = 1 } }) row
+slot full line reserved row =
+    sdp.together (record { full = full; line = line; reserved = reserved; field = record { 0 = 1 } }) row
 
 -- a packet of these two slots and three empty ones
 abbrev two : ℕ → sdp.SlotRow → sdp.SlotRow → sdp.Sdp
 two counter x y = record { counter = counter; slots = x ∷ y ∷ replicate 3 sdp.emptyRow }
 
 -- a payload of m units
-abbrev held : ℕ → List AccessUnit → Payload
-held m us = record { flags = 0; m = m; units = us }
+abbrev payloadOf : ℕ → List AccessUnit → Payload
+payloadOf m us = record { flags = 0; m = m; units = us }
 
 abbrev pub two-faults : List Case
 two-faults =
@@ -113,23 +132,23 @@ two-faults =
     -- 4 and content: two caption units, each with its marker 0
     ∷ area (j ++ j) SecondUnit 4 0
     -- 6 and 5: cc_count 31, and one construct there, its marker 0
-    ∷ area (start (0x03 ∷ 0x81 ∷ 0xF8 ∷ 0xAC ∷ 0xA4 ∷ 0xD0 ∷ 0x00 ∷ [])) (Unfixed fixed.Marker) 6 0
+    ∷ area (layoutUnit (0x03 ∷ 0x81 ∷ 0xF8 ∷ 0xAC ∷ 0xA4 ∷ 0xD0 ∷ 0x00 ∷ [])) (Unfixed fixed.Marker) 6 0
     -- 5 and 7: a second construct of field 0, with only 25 bits left; the unit behind a foreign one
-    ∷ area (foreign ++ start (0x03 ∷ 0x81 ∷ 0x10 ∷ 0xAC ∷ 0xA4 ∷ 0xD2 ∷ 0x0B ∷ 0x29 ∷ 0x34 ∷ [])) Ends 5 5
+    ∷ area (foreign ++ layoutUnit (0x03 ∷ 0x81 ∷ 0x10 ∷ 0xAC ∷ 0xA4 ∷ 0xD2 ∷ 0x0B ∷ 0x29 ∷ 0x34 ∷ [])) Ends 5 5
     -- 7 and 8, and what would be a fifth priority 0: field 0 behind four of field 1
     ∷ area (fifth (0x38 ∷ 0xA4 ∷ 0xD2 ∷ 0x00 ∷ [])) FieldNumberZero 7 0
     -- 7 and 6: field 0, and the marker 0
-    ∷ area (start (0x03 ∷ 0x81 ∷ 0x08 ∷ 0x2C ∷ 0xA4 ∷ 0xD0 ∷ 0x00 ∷ [])) FieldNumberZero 7 0
+    ∷ area (layoutUnit (0x03 ∷ 0x81 ∷ 0x08 ∷ 0x2C ∷ 0xA4 ∷ 0xD0 ∷ 0x00 ∷ [])) FieldNumberZero 7 0
     -- 8 and 9: a fifth priority 0, whose line does not rise
     ∷ area (fifth (0xB4 ∷ 0xA4 ∷ 0xD2 ∷ 0x00 ∷ [])) LineDoesNotRise 8 0
     -- 9 and 6: a fifth priority 0, its marker 0
     ∷ area (fifth (0xB8 ∷ 0xA4 ∷ 0xD0 ∷ 0x00 ∷ [])) FifthPriority 9 0
     -- 6 and 10: a marker 0, and a sampled video count of 1
-    ∷ area (start (0x03 ∷ 0x81 ∷ 0x08 ∷ 0xAC ∷ 0xA4 ∷ 0xD0 ∷ 0x20 ∷ [])) (Unfixed fixed.Marker) 6 0
+    ∷ area (layoutUnit (0x03 ∷ 0x81 ∷ 0x08 ∷ 0xAC ∷ 0xA4 ∷ 0xD0 ∷ 0x20 ∷ [])) (Unfixed fixed.Marker) 6 0
     -- 10 and 6: a sampled video count of 1, and an alignment bit 1
-    ∷ area (start (0x03 ∷ 0x81 ∷ 0x08 ∷ 0xAC ∷ 0xA4 ∷ 0xD2 ∷ 0x21 ∷ [])) SampledVideo 10 0
+    ∷ area (layoutUnit (0x03 ∷ 0x81 ∷ 0x08 ∷ 0xAC ∷ 0xA4 ∷ 0xD2 ∷ 0x21 ∷ [])) SampledVideo 10 0
     -- 6 and 6: an alignment bit 1, and a stuffing byte 01
-    ∷ area (start (0x03 ∷ 0x81 ∷ 0x08 ∷ 0xAC ∷ 0xA4 ∷ 0xD2 ∷ 0x01 ∷ 0x01 ∷ [])) (Unfixed fixed.Alignment) 6 0
+    ∷ area (layoutUnit (0x03 ∷ 0x81 ∷ 0x08 ∷ 0xAC ∷ 0xA4 ∷ 0xD2 ∷ 0x01 ∷ 0x01 ∷ [])) (Unfixed fixed.Alignment) 6 0
     -- READING A PACKET
     -- 1 and 2: 246 words, and no flag
     ∷ packet (replicate 246 1) TooLong 1
@@ -144,7 +163,8 @@ two-faults =
     -- 6 and 13: DID 44, and LENGTH 0E
     ∷ packet (k 0x244 0x151 0x10E 0x102 0x200 0x274 0x217 0x252) (Unfixed fixed.Identifier) 6
     -- 13 and 6: a word less than DC says, and 52 in the place of 51
-    ∷ packet (take 19 (k 0x143 0x152 0x10D 0x102 0x200 0x274 0x200 0x252) ++ (0x200 ∷ 0x252 ∷ [])) (Unfit misfit.DataCount) 13
+    ∷ packet (take 19 (k 0x143 0x152 0x10D 0x102 0x200 0x274 0x200 0x252) ++ (0x200 ∷ 0x252 ∷ []))
+    (Unfit misfit.DataCount) 13
     -- 6 and 13: 52 in the place of 51, and LENGTH 0E
     ∷ packet (k 0x143 0x152 0x10E 0x102 0x200 0x274 0x217 0x252) (Unfixed fixed.Identifier) 6
     -- 13 and 6: LENGTH 0E, and format 03
@@ -172,25 +192,25 @@ two-faults =
     -- 8 and 8: a field that falls, and in the next record a line that does not rise
     ∷ writeUnit (value (caption 0 2 10 ∷ caption 0 1 10 ∷ caption 0 1 10 ∷ []) 0) 0 FieldFalls 8
     -- 9 and 15: a fifth priority 0, and in the next record priority 4
-    ∷ writeUnit (value (caption 0 1 10 ∷ caption 0 1 11 ∷ caption 0 1 12 ∷ caption 0 1 13 ∷ caption 0 1 14 ∷ caption 4 1 15 ∷ []) 0) 0 FifthPriority 9
+    ∷ writeUnit (value (five (caption 4 1 15 ∷ [])) 0) 0 FifthPriority 9
     -- 9 and 1: a fifth priority 0, and a result of more than 16,384 bytes
-    ∷ writeUnit (value (caption 0 1 10 ∷ caption 0 1 11 ∷ caption 0 1 12 ∷ caption 0 1 13 ∷ caption 0 1 14 ∷ []) 16384) 0 FifthPriority 9
+    ∷ writeUnit (value (five []) 16384) 0 FifthPriority 9
     -- 1 and 14: a result of more than 16,384 bytes, and no room
     ∷ writeUnit (value [] 16384) 0 TooLong 1
     -- WRITING A PACKET
     -- 15 and 15: counter 65,536, and a slot of reserved 4
-    ∷ writePacket (two 65536 (slot 1 6 4 sdp.zeros) sdp.emptyRow) 0 (Unholdable excess.Counter) 15
+    ∷ writePacket (two 65536 (slot 1 6 4 sdp.zeroRow) sdp.emptyRow) 0 (Unholdable excess.Counter) 15
     -- 15 and 7: reserved 4, and line 3
-    ∷ writePacket (two 0 (slot 1 3 4 sdp.zeros) sdp.emptyRow) 0 (Unholdable excess.SlotReserved) 15
+    ∷ writePacket (two 0 (slot 1 3 4 sdp.zeroRow) sdp.emptyRow) 0 (Unholdable excess.SlotReserved) 15
     -- 15 and 7: an empty slot that holds line 3
-    ∷ writePacket (two 0 (slot 0 3 0 sdp.zeros) sdp.emptyRow) 0 (Unholdable excess.SlotUnwritable) 15
+    ∷ writePacket (two 0 (slot 0 3 0 sdp.zeroRow) sdp.emptyRow) 0 (Unholdable excess.SlotUnwritable) 15
     -- 7 and 15: line 3 in one slot, and reserved 4 in the next
-    ∷ writePacket (two 0 (slot 1 3 0 sdp.zeros) (slot 1 6 4 sdp.zeros)) 0 DescriptorLine 7
+    ∷ writePacket (two 0 (slot 1 3 0 sdp.zeroRow) (slot 1 6 4 sdp.zeroRow)) 0 DescriptorLine 7
     -- WRITING A PAYLOAD
     -- 15 and 15: m 292, and a padding of 64
-    ∷ writePayload (held 292 (unit 0 0 64 0 0 0 0 ∷ [])) 0 (Unholdable excess.Count) 15
+    ∷ writePayload (payloadOf 292 (unit 0 0 64 0 0 0 0 ∷ [])) 0 (Unholdable excess.Count) 15
     -- 15 and 14: a padding of 64, and no room
-    ∷ writePayload (held 1 (unit 0 0 64 0 0 0 0 ∷ [])) 0 (Unholdable excess.Padding) 15
+    ∷ writePayload (payloadOf 1 (unit 0 0 64 0 0 0 0 ∷ [])) 0 (Unholdable excess.Padding) 15
     -- REPLACING
     -- 6 and 15: an area whose caption unit, behind a foreign one, has its marker 0, and a value of z 16,385
     ∷ replace (foreign ++ j) (value [] 16385) 0 (Unfixed fixed.Marker) 6 5

@@ -1,1 +1,1 @@
-// The starred cases of document 01, as one table that is proved of the definitions. It has no code.
+// The starred cases of docs/RULES.md, as one table that is proved of the definitions. It has no code.

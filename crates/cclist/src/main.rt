@@ -1,4 +1,4 @@
-// Lists the captions of the picture area that comes on standard input (document 01, "Cases").
+// Lists the captions of the picture area that comes on standard input (docs/RULES.md, "Programs").
 use libc::STDERR_FILENO;
 use units::MAX_BYTES;
 

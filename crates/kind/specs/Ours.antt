@@ -1,5 +1,5 @@
--- Which units of an area are ours. Document 01, "Picture area": a unit whose body begins with byte 03 is a caption unit; every other unit, one
--- with no body too, is foreign. Nothing else in the project says which units are ours.
+-- Which units of an area are ours: those of an SCTE 20 caption (RULES, "Picture area"), told by the first byte of the
+-- body. A unit without one is foreign. Nothing else in the project says which units are ours.
 use Prim.Native.Nat.{ℕ}
 use mathlib.Core.Bool.{Bool, false}
 use mathlib.Core.List.{List, [], _∷_}

@@ -1,4 +1,4 @@
-// Which units of an area are ours (document 01, "Picture area"). Every other unit is foreign.
+// Which units of an area are ours (docs/RULES.md, "Picture area"). Every other unit is foreign.
 ghost use mathlib.Core.Path.{_≡_};
 ghost use Rattle.kind.specs.Ours.{ours as Ours·ours};
 

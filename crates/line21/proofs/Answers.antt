@@ -21,24 +21,24 @@ use Rattle.line21.specs.Reading.{lengthVerdict, valueOf, answerOf, readO
 use Rattle.line21.proofs.Length.{WholeUnits, accepted-whole}
 
 -- a struct holds the value that was stored in it
-pub units-stored : (v : Line21) → held (stored v) .units ≡ v .units
-units-stored v = take-at (v .units) _ (length (v .units)) refl
+pub stored-units : (v : Line21) → held (stored v) .units ≡ v .units
+stored-units v = take-at (v .units) _ (length (v .units)) refl
 
-pub held-stored : (v : Line21) → held (stored v) ≡ v
-held-stored v = ap (λ (us : List AccessUnit). line21 (v .flags) us) (units-stored v)
+pub stored-held : (v : Line21) → held (stored v) ≡ v
+stored-held v = ap (λ (us : List AccessUnit). line21 (v .flags) us) (stored-units v)
   where
     line21 : ℕ → List AccessUnit → Line21
     line21 flags units = record { flags = flags; units = units }
 
 pub stored-legal : (v : Line21) → Legal v → LegalPayload (stored v)
-stored-legal v h = record { few = h .count; value = subst Legal (sym (held-stored v)) h }
+stored-legal v h = record { few = h .count; value = subst Legal (sym (stored-held v)) h }
 
 -- what `valuesOf` of an answer about unit i is to be
 abbrev pub oneOf : Verdict → Line21 → ℕ → Refusal × List AccessUnit
 oneOf verdict v i = (answerOf verdict v .refusal, take 1 (drop i (held (answerOf verdict v .payload) .units)))
 
 one-accepted : (v : Line21) (i : ℕ) (us : List AccessUnit) → take 1 (drop i (v .units)) ≡ us → oneOf Accepted v i ≡ (refusalOf Accepted, us)
-one-accepted v i us e = ap (λ (rest : List AccessUnit). (refusalOf Accepted, rest)) (ap (λ (all : List AccessUnit). take 1 (drop i all)) (units-stored v) ∙ e)
+one-accepted v i us e = ap (λ (rest : List AccessUnit). (refusalOf Accepted, rest)) (ap (λ (all : List AccessUnit). take 1 (drop i all)) (stored-units v) ∙ e)
 
 pub one-there : (v : Line21) (i : ℕ) → i < length (v .units) → oneOf Accepted v i ≡ (refusalOf Accepted, getD (v .units) i blank ∷ [])
 one-there v i h = one-accepted v i (getD (v .units) i blank ∷ []) (ap (λ (rest : List AccessUnit). take 1 rest) (drop-cons (v .units) i blank h))

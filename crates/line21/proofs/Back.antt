@@ -15,14 +15,14 @@ use Rattle.line21.specs.Value.{Line21, LegalAccessUnit, Legal, LegalPayl
 use Rattle.line21.specs.Layout.{layoutUnit, layoutUnits, layout}
 use Rattle.line21.specs.Reading.{readUnit, readUnits, unitCount, valueOf, answerOf, readOf, Reads}
 use Rattle.line21.proofs.Layouts.{length-layoutUnits}
-use Rattle.line21.proofs.Length.{WholeUnits, unitCount-whole, whole-accepted}
-use Rattle.line21.proofs.Answers.{accepted-answer, accepted-length, held-stored, stored-legal}
+use Rattle.line21.proofs.Length.{WholeUnits, whole-unitCount, whole-accepted}
+use Rattle.line21.proofs.Answers.{accepted-answer, accepted-length, stored-held, stored-legal}
 use Rattle.line21.proofs.Units.{length-readUnits}
 
 -- what a unit's bytes read as is the unit
-readUnit-layout : (u : AccessUnit) → LegalAccessUnit u → (rest : List ℕ) → readUnit (layoutUnit u ++ rest) ≡ u
+layout-readUnit : (u : AccessUnit) → LegalAccessUnit u → (rest : List ℕ) → readUnit (layoutUnit u ++ rest) ≡ u
 unfolding readUnit
-readUnit-layout u h rest =
+layout-readUnit u h rest =
     let numbers = h .numbers in
     let first = u .«cc_valid_1» * 128 + u .«cc_valid_2» * 64 + u .padding in
     let one : first / 128 ≡ u .«cc_valid_1» = omega arith in
@@ -38,21 +38,21 @@ readUnit-layout u h rest =
       «field2_data2» = u .«field2_data2»;
     }
 
-pub readUnits-layout : (us : List AccessUnit) → Each LegalAccessUnit us → readUnits (length us) (layoutUnits us) ≡ us
-readUnits-layout [] h = refl
-readUnits-layout (u ∷ us) h = ap₂ (λ (x : AccessUnit) (xs : List AccessUnit). x ∷ xs) (readUnit-layout u (h .0) (layoutUnits us)) (readUnits-layout us (h .1))
+pub layout-readUnits : (us : List AccessUnit) → Each LegalAccessUnit us → readUnits (length us) (layoutUnits us) ≡ us
+layout-readUnits [] h = refl
+layout-readUnits (u ∷ us) h = ap₂ (λ (x : AccessUnit) (xs : List AccessUnit). x ∷ xs) (layout-readUnit u (h .0) (layoutUnits us)) (layout-readUnits us (h .1))
 
 -- five bytes are the layout of what they read as, which is legal
 module _ (a b c d e : ℕ) (rest : List ℕ) where
-  layout-readUnit : a < 256 → layoutUnit (readUnit (a ∷ b ∷ c ∷ d ∷ e ∷ rest)) ≡ a ∷ b ∷ c ∷ d ∷ e ∷ []
+  readUnit-layout : a < 256 → layoutUnit (readUnit (a ∷ b ∷ c ∷ d ∷ e ∷ rest)) ≡ a ∷ b ∷ c ∷ d ∷ e ∷ []
   unfolding readUnit
-  layout-readUnit ha =
+  readUnit-layout ha =
       let first : a / 128 * 128 + a / 64 % 2 * 64 + a % 64 ≡ a = omega arith in
       ap (λ (x : ℕ). x ∷ b ∷ c ∷ d ∷ e ∷ []) first
 
-  legal-readUnit : a < 256 → b < 256 → c < 256 → d < 256 → e < 256 → LegalAccessUnit (readUnit (a ∷ b ∷ c ∷ d ∷ e ∷ rest))
+  readUnit-legal : a < 256 → b < 256 → c < 256 → d < 256 → e < 256 → LegalAccessUnit (readUnit (a ∷ b ∷ c ∷ d ∷ e ∷ rest))
   unfolding readUnit
-  legal-readUnit ha hb hc hd he =
+  readUnit-legal ha hb hc hd he =
       record { numbers = record { valid-1 = omega arith; valid-2 = omega arith; pad = omega arith }; bytes = record { field1-data1 = hb; field1-data2 = hc; field2-data1 = hd; field2-data2 = he } }
 
 -- so are whole units
@@ -72,8 +72,8 @@ units-back (suc k) (a ∷ b ∷ c ∷ d ∷ e ∷ rest) h n =
     let left : length rest ≡ 5 * k = omega arith in
     let more = units-back k rest (h .1 .1 .1 .1 .1) left in
     record {
-      same = ap₂ (λ (x y : List ℕ). x ++ y) (layout-readUnit a b c d e rest (h .0)) (more .same);
-      legal = (legal-readUnit a b c d e rest (h .0) (h .1 .0) (h .1 .1 .0) (h .1 .1 .1 .0) (h .1 .1 .1 .1 .0), more .legal);
+      same = ap₂ (λ (x y : List ℕ). x ++ y) (readUnit-layout a b c d e rest (h .0)) (more .same);
+      legal = (readUnit-legal a b c d e rest (h .0) (h .1 .0) (h .1 .1 .0) (h .1 .1 .1 .0) (h .1 .1 .1 .1 .0), more .legal);
     }
 
 -- the value that a payload of whole units holds is legal, and the payload is its layout
@@ -96,15 +96,15 @@ payload-back (flags ∷ s) h w =
 pub length-layout : (v : Line21) → length (layout v) ≡ 1 + 5 * length (v .units)
 length-layout v = omega (arith, length-layoutUnits (v .units))
 
-pub value-layout : (v : Line21) → Legal v → valueOf (layout v) ≡ v
-value-layout v h =
-    let count : unitCount (length (layout v)) ≡ length (v .units) = unitCount-whole (length (layout v)) (length (v .units)) (length-layout v) in
-    let units : readUnits (unitCount (length (layout v))) (layoutUnits (v .units)) ≡ v .units = ap (λ (k : ℕ). readUnits k (layoutUnits (v .units))) count ∙ readUnits-layout (v .units) (h .each) in
+pub layout-value : (v : Line21) → Legal v → valueOf (layout v) ≡ v
+layout-value v h =
+    let count : unitCount (length (layout v)) ≡ length (v .units) = whole-unitCount (length (layout v)) (length (v .units)) (length-layout v) in
+    let units : readUnits (unitCount (length (layout v))) (layoutUnits (v .units)) ≡ v .units = ap (λ (k : ℕ). readUnits k (layoutUnits (v .units))) count ∙ layout-readUnits (v .units) (h .each) in
     λ i. record { flags = v .flags; units = units i }
 
 -- reading a legal value's bytes answers that value
-pub read-layout : (v : Line21) → Legal v → readOf (layout v) ≡ answerOf Accepted v
-read-layout v h = ap₂ answerOf (whole-accepted (length (layout v)) (length (v .units)) (length-layout v) (h .count)) (value-layout v h)
+pub layout-read : (v : Line21) → Legal v → readOf (layout v) ≡ answerOf Accepted v
+layout-read v h = ap₂ answerOf (whole-accepted (length (layout v)) (length (v .units)) (length-layout v) (h .count)) (layout-value v h)
 
 -- what is accepted holds a legal value, whose layout it is
 pub read-legal : (s : List ℕ) → Bytes s → readOf s .refusal .number ≡ 0 → Payloads s
@@ -121,6 +121,6 @@ read-stored s a read e =
     let back = read-legal s (read .bytes) zero in
     let struct : a .payload ≡ stored (valueOf s) = ap (λ (x : Answer). x .payload) (read .answer ∙ accepted-answer s zero) in
     record {
-      same = ap (λ (q : Payload). layout (held q)) struct ∙ ap layout (held-stored (valueOf s)) ∙ back .same;
+      same = ap (λ (q : Payload). layout (held q)) struct ∙ ap layout (stored-held (valueOf s)) ∙ back .same;
       legal = subst LegalPayload (sym struct) (stored-legal (valueOf s) (back .legal));
     }

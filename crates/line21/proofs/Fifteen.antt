@@ -13,6 +13,7 @@ use Rattle.refusal.specs.declared.Reason.the-variants.{Unholdable}
 use Rattle.refusal.specs.declared.Excess.the-variants.{Count, CcValid, Padding}
 use Rattle.refusal.specs.declared.Item.the-variants.{Whole}
 use Rattle.refusal.specs.Numbers.{refusalOf}
+use Rattle.refusal.specs.Answers.{refused}
 use Rattle.refusal.specs.Checks.{refuseIf, andThen, first, fitVerdict}
 use Rattle.refusal.proofs.Checks.{accepted-andThen, andThen-assoc, accepted-within}
 use Rattle.refusal.proofs.Gives.{Gives, refuseIf-gives, andThen-gives, each-gives, refused-gives}
@@ -24,7 +25,7 @@ use Rattle.line21.specs.Writing.{unitVerdict, unitsVerdict, valueVerdict
 use Rattle.line21.proofs.Numbers.{checked-legal}
 
 abbrev Is15 : Refusal → Type 0
-Is15 r = r ≡ record { number = 15; place = 0 }
+Is15 r = r ≡ refused 15 0
 
 unit-15 : (u : AccessUnit) → Gives Is15 (unitVerdict u)
 unfolding unitVerdict
@@ -55,6 +56,6 @@ numbers-legal p t e =
     let both = accepted-andThen (refuseIf (ltb 291 (p .m)) (Unholdable Count) Whole) (unitsVerdict (held p .units)) e in
     checked-legal p t (accepted-within 291 (p .m) _ _ (both .0)) (both .1)
 
-pub illegal-15 : (p : Payload) (room : ℕ) → Typed p → (LegalPayload p → ⊥) → refusalOf (valueVerdict p room) ≡ record { number = 15; place = 0 }
+pub illegal-15 : (p : Payload) (room : ℕ) → Typed p → (LegalPayload p → ⊥) → refusalOf (valueVerdict p room) ≡ refused 15 0
 illegal-15 p room t h =
     ap refusalOf (numbers-first p room) ∙ refused-gives Is15 (numbers p) (rest p room) (numbers-15 p) (λ e. h (numbers-legal p t e))

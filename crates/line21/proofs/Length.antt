@@ -31,5 +31,5 @@ whole-accepted n m e h =
     let whole : (n - 1) % 5 ≡ 0 = omega arith in
     simp (ne-eqb n 0 some, le-ltb 1456 n within, eq-eqb ((n - 1) % 5) 0 whole)
 
-pub unitCount-whole : (n m : ℕ) → n ≡ 1 + 5 * m → unitCount n ≡ m
-unitCount-whole n m e = omega arith
+pub whole-unitCount : (n m : ℕ) → n ≡ 1 + 5 * m → unitCount n ≡ m
+whole-unitCount n m e = omega arith

@@ -11,7 +11,7 @@ use Rattle.lists.specs.Bytes.{Bytes}
 use Rattle.lists.specs.Room.{filled, over, overAt}
 use Rattle.lists.specs.Flat.{taken}
 use Rattle.lists.proofs.Each.{each-drop}
-use Rattle.lists.proofs.Flat.{length-taken, getD-taken, flat-more, length-flat, taken-flat, flat-filled}
+use Rattle.lists.proofs.Flat.{length-taken, getD-taken, flat-more, length-flat, flat-taken, flat-filled}
 use Rattle.lists.proofs.Lay.{length-over, take-over, overAt-overAt}
 use Rattle.refusal.specs.declared.Verdict.{Verdict}
 use Rattle.refusal.specs.declared.Verdict.the-variants.{Accepted, Refused}
@@ -26,22 +26,22 @@ use Rattle.line21.specs.Lent.{unitBytes, unitsBytes, unitIn, unitsIn, pa
 seven : (u : AccessUnit) → length (unitBytes u) ≡ 7
 seven u = refl
 
-unitIn-bytes : (u : AccessUnit) (rest : List ℕ) → unitIn (unitBytes u ++ rest) ≡ u
+bytes-unitIn : (u : AccessUnit) (rest : List ℕ) → unitIn (unitBytes u ++ rest) ≡ u
 unfolding unitIn
-unitIn-bytes u rest = refl
+bytes-unitIn u rest = refl
 
 length-unitsBytes : (us : List AccessUnit) → length (unitsBytes us) ≡ 7 * length us
 length-unitsBytes = length-flat unitBytes 7 seven
 
 -- a struct's units are told by their bytes
 pub payload-told : (p : Payload) → length (p .units) ≡ 291 → payloadIn (p .flags) (p .m) (unitsBytes (p .units)) ≡ p
-payload-told p places = ap made (ap₂ (taken unitIn 7) (sym places) (sym (append-nil (unitsBytes (p .units)))) ∙ taken-flat unitBytes 7 seven unitIn unitIn-bytes (p .units) [])
+payload-told p places = ap made (ap₂ (taken unitIn 7) (sym places) (sym (append-nil (unitsBytes (p .units)))) ∙ flat-taken unitBytes 7 seven unitIn bytes-unitIn (p .units) [])
   where
     made : List AccessUnit → Payload
     made us = record { flags = p .flags; m = p .m; units = us }
 
-pub payload-held : (p : Payload) → Typed p → payloadIn (p .flags) (p .m) (unitsBytes (p .units)) ≡ p
-payload-held p t = payload-told p (t .places)
+pub lent-held : (p : Payload) → Typed p → payloadIn (p .flags) (p .m) (unitsBytes (p .units)) ≡ p
+lent-held p t = payload-told p (t .places)
 
 -- the unit of an index is the one that stands there, and beyond the last place it is blank
 pub unit-there : (s : List ℕ) (i : ℕ) → i < 291 → getD (unitsIn s) i blank ≡ unitIn (drop (7 * i) s)

@@ -9,4 +9,10 @@ pub mod LentUnits
 pub mod Back
 pub mod LentBack
 pub mod Sequence
+pub mod Accepting
+pub mod Refusing
+pub mod Writing
+pub mod BothWays
+pub mod LentTheorems
+pub mod Determined
 pub mod Theorems

@@ -1,11 +1,11 @@
--- The bytes of a Line 21 payload, from its value alone. Document 01, "Line 21 payload"; document 004, 3.2.1, Tables 1 and 2.
+-- The bytes of a Line 21 payload, from its value alone. RULES, "Line 21 payload"; 004, 3.2.1, Tables 1 and 2.
 use Prim.Native.Nat.{ℕ, _+_, _*_}
 use mathlib.Core.List.{List, [], _∷_}
 use Rattle.lists.specs.Flat.{flat}
 use Rattle.line21.specs.declared.AccessUnit.{AccessUnit}
 use Rattle.line21.specs.Value.{Line21}
 
--- cc_valid_1 (top bit), cc_valid_2, six padding bits; two bytes of field 1, two of field 2
+-- byte 0 from its top bit: the two flags, the padding. Then the fields, two bytes each
 abbrev pub layoutUnit : AccessUnit → List ℕ
 layoutUnit u =
     (u .«cc_valid_1» * 128 + u .«cc_valid_2» * 64 + u .padding)

@@ -1,4 +1,5 @@
--- A payload's units as bytes in a lent array, seven bytes each, in the order of the struct: what the C interface lends and is lent.
+-- A payload's units as bytes in a lent array, seven bytes each, in the order of the struct: what the C interface lends
+-- and is lent.
 use Prim.Native.Nat.{ℕ}
 use mathlib.Core.Path.{_≡_}
 use mathlib.Core.List.{List, [], _∷_}
@@ -13,7 +14,8 @@ use Rattle.line21.specs.Reading.{lengthVerdict, readOf, headOf}
 
 abbrev pub unitBytes : AccessUnit → List ℕ
 unitBytes u =
-    u .«cc_valid_1» ∷ u .«cc_valid_2» ∷ u .padding ∷ u .«field1_data1» ∷ u .«field1_data2» ∷ u .«field2_data1» ∷ u .«field2_data2» ∷ []
+    u .«cc_valid_1» ∷ u .«cc_valid_2» ∷ u .padding
+    ∷ u .«field1_data1» ∷ u .«field1_data2» ∷ u .«field2_data1» ∷ u .«field2_data2» ∷ []
 
 abbrev pub unitsBytes : List AccessUnit → List ℕ
 unitsBytes us = flat unitBytes us

@@ -1,4 +1,5 @@
--- Document 01, "Which refusal comes first", for the payload: all checks of reading and of writing, each of the input alone, in 01's sequence.
+-- RULES, "Order of checks", for the payload: all checks of reading and of writing, each of the input alone, in the
+-- order of RULES.
 use Prim.Native.Nat.{ℕ, _-_, _%_}
 use mathlib.Core.Bool.{not}
 use mathlib.Core.List.{List, [], _∷_, _++_}

@@ -1,4 +1,4 @@
--- What reading a Line 21 payload answers, for every list of bytes. Document 01, "Which refusal comes first": 2, 1, 13.
+-- What reading a Line 21 payload answers, for every list of bytes. RULES, "Order of checks": 2, 1, 13.
 use Prim.Native.Nat.{ℕ, _-_, _/_, _%_}
 use mathlib.Core.Path.{_≡_}
 use mathlib.Core.Bool.{not}
@@ -66,12 +66,12 @@ readOf s = answerOf (lengthVerdict (length s)) (valueOf s)
 abbrev pub headOf : Answer → Head
 headOf r = record { refusal = r .refusal; flags = r .payload .flags; m = r .payload .m }
 
--- what an answer about one unit says: 01's number and place, and the unit if there is one
+-- what an answer about one unit says: number and place, and the unit if there is one
 abbrev pub valuesOf : One → Refusal × List AccessUnit
 valuesOf (one.Unit u) = (refusalOf Accepted, u ∷ [])
 valuesOf (one.None refusal) = (refusal, [])
 
--- the promise of `read`. By its type its input is a list of bytes; the code shows that too, so that the theorems assume nothing
+-- the promise of `read`. By its type the input is a list of bytes: the code shows it, so that no theorem assumes it
 pub record Reads (s : List ℕ) (r : Answer) : Type 0 where
   pub bytes : Bytes s
   pub answer : r ≡ readOf s

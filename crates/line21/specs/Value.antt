@@ -1,4 +1,4 @@
--- A Line 21 payload's value, when it is legal, and how the code's structs hold it. Document 01, "Line 21 payload"; document 004, Table 2.
+-- A Line 21 payload's value, when it is legal, and how structs hold it. RULES, "Line 21 payload"; 004, Table 2.
 use Prim.Native.Nat.{ℕ, _≤_, _<_}
 use mathlib.Core.Path.{_≡_}
 use mathlib.Core.List.{List, []}
@@ -40,7 +40,7 @@ pub record Legal (v : Line21) : Type 0 where
 abbrev pub held : Payload → Line21
 held p = record { flags = p .flags; units = take (p .m) (p .units) }
 
--- the same of the struct that the code holds a value in: m is no more than its array has places, and the m units are legal
+-- the same of the struct that holds a value: m is no more than its array has places, and the m units are legal
 pub record LegalPayload (p : Payload) : Type 0 where
   pub few : p .m ≤ 291
   pub value : Legal (held p)
@@ -53,7 +53,16 @@ pub record Typed (p : Payload) : Type 0 where
 
 -- a unit of zeros, which fills the room beyond the m units
 abbrev pub blank : AccessUnit
-blank = record { «cc_valid_1» = 0; «cc_valid_2» = 0; padding = 0; «field1_data1» = 0; «field1_data2» = 0; «field2_data1» = 0; «field2_data2» = 0 }
+blank =
+    record {
+      «cc_valid_1» = 0;
+      «cc_valid_2» = 0;
+      padding = 0;
+      «field1_data1» = 0;
+      «field1_data2» = 0;
+      «field2_data1» = 0;
+      «field2_data2» = 0;
+    }
 
 -- no value: what a refusal holds
 abbrev pub none : Line21

@@ -1,5 +1,5 @@
--- What writing a Line 21 payload answers, and what the lent output then holds, for every value and output. Document 01, "Which refusal comes
--- first": 15 of the whole value, 15 of each access unit in order, then 1 for the length of the result, then 14.
+-- What writing a Line 21 payload answers, and what the lent output then holds, for every value and output. RULES,
+-- "Order of checks": 15 of m, 15 unit by unit, 1, 14.
 use Prim.Native.Nat.{ℕ}
 use mathlib.Core.List.{List, [], _∷_, map}
 use lib.Dec.{ltb}
@@ -36,7 +36,7 @@ valueVerdict p room =
     ∷ fitVerdict 1456 (length (layout (held p))) room
     ∷ [])
 
--- the promise of `write`. By its type the struct's bytes are bytes and its array has 291 places; the code shows that too
+-- the promise of `write`. By its type the struct's bytes are bytes and its array has 291 places: the code shows it
 pub record Writes (p : Payload) (out : List ℕ) (answer : Written) (exit : List ℕ) : Type 0 where
   pub typed : Typed p
   pub wrote : Wrote (valueVerdict p (length out)) (layout (held p)) out answer exit

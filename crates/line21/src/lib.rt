@@ -1,6 +1,6 @@
 // The ISMA Line 21 RTP payload: what follows the RTP header.
 //
-// Normative references: document 01, "Line 21 payload"; document 004, 3.2.1, Tables 1 and 2.
+// Normative references: docs/RULES.md, "Line 21 payload"; document 004, 3.2.1, Tables 1 and 2.
 mod lent;
 mod reading;
 

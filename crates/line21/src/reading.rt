@@ -87,7 +87,7 @@ pub fn read_unit(s: &[u8], i: usize) -> One
     One::None(refusal::told(verdict))
 }
 
-// 01, "Which refusal comes first": 2, 1, 13.
+// RULES, "Order of checks": 2, 1, 13.
 fn judge_length(n: usize) -> Verdict
     ensures { λ r. ⌜ r ≡ lengthVerdict n ⌝ }
 {

@@ -1,6 +1,6 @@
 // Writing an ISMA Line 21 RTP payload.
 //
-// Normative references: document 01, "Line 21 payload" and "Which refusal comes first"; document 004, 3.2.1, Tables 1 and 2.
+// Normative references: docs/RULES.md, "Line 21 payload" and "Order of checks"; document 004, 3.2.1, Tables 1 and 2.
 ghost use mathlib.Core.Path.{_≡_};
 ghost use Prim.Native.Nat.{_≤_};
 ghost use lib.ListN.{length};
@@ -45,8 +45,8 @@ pub fn write_from(flags: u8, m: usize, units: &[u8; LENT_UNITS], out: &mut [u8])
     }
 }
 
-// 01, "Which refusal comes first": 15 of the whole value, 15 of each unit in order, then 1, which
-// 291 units cannot meet, then 14. No flags byte is refused.
+// RULES, "Order of checks": 15 of m, 15 unit by unit, then 1, which 291 units cannot meet, then 14. No flags byte is
+// refused.
 fn judge_value(m: usize, units: &[u8; LENT_UNITS], room: usize) -> Verdict
     ensures { λ r. ⌜ r ≡ valueVerdict (payloadIn 0 m (now (units .entry))) room ⌝ }
 {

@@ -3,4 +3,5 @@ pub mod Digits
 pub mod Lengths
 pub mod Lines
 pub mod Types
+pub mod Determined
 pub mod Theorems

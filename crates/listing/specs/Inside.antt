@@ -1,4 +1,5 @@
--- What private functions promise each other: what each step of building a text adds. No theorem for a signer speaks of it.
+-- What private functions promise each other: what each step of building a text adds. No theorem for a signer speaks of
+-- it.
 use Prim.Native.Nat.{ℕ, _+_, _≤_}
 use mathlib.Core.List.{List, _++_}
 use lib.ListN.{length}

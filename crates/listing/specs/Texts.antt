@@ -1,4 +1,4 @@
--- What `cclist` prints for an answer, as bytes. Document 01, "Cases". Each line ends with one line feed.
+-- What `cclist` prints for an answer, as bytes. RULES, "Programs". Each line ends with one line feed.
 use Prim.Native.Nat.{ℕ, zero, suc, _+_, _/_, _%_}
 use mathlib.Core.Path.{_≡_}
 use mathlib.Core.Bool.{Bool, true, false}
@@ -14,7 +14,10 @@ use Rattle.listing.specs.declared.Text.{Text}
 
 -- the characters 0 to 9 and A to F
 abbrev pub digit : ℕ → ℕ
-digit n = getD (0x30 ∷ 0x31 ∷ 0x32 ∷ 0x33 ∷ 0x34 ∷ 0x35 ∷ 0x36 ∷ 0x37 ∷ 0x38 ∷ 0x39 ∷ 0x41 ∷ 0x42 ∷ 0x43 ∷ 0x44 ∷ 0x45 ∷ 0x46 ∷ []) n 0
+digit n =
+    getD
+    (0x30 ∷ 0x31 ∷ 0x32 ∷ 0x33 ∷ 0x34 ∷ 0x35 ∷ 0x36 ∷ 0x37 ∷ 0x38 ∷ 0x39 ∷ 0x41 ∷ 0x42 ∷ 0x43 ∷ 0x44 ∷ 0x45 ∷ 0x46 ∷ [])
+    n 0
 
 -- the last digit alone, or behind the digits before it
 abbrev pub digitsBefore : Bool → List ℕ → List ℕ → List ℕ
@@ -54,14 +57,19 @@ noneText = 0x6E ∷ 0x6F ∷ 0x6E ∷ 0x65 ∷ 0x0A ∷ []
 -- "priority field line data"
 abbrev pub headText : List ℕ
 headText =
-    0x70 ∷ 0x72 ∷ 0x69 ∷ 0x6F ∷ 0x72 ∷ 0x69 ∷ 0x74 ∷ 0x79 ∷ 0x20 ∷ 0x66 ∷ 0x69 ∷ 0x65 ∷ 0x6C ∷ 0x64 ∷ 0x20 ∷ 0x6C ∷ 0x69 ∷ 0x6E ∷ 0x65 ∷ 0x20 ∷ 0x64 ∷ 0x61 ∷ 0x74 ∷ 0x61 ∷ 0x0A ∷ []
+    0x70 ∷ 0x72 ∷ 0x69 ∷ 0x6F ∷ 0x72 ∷ 0x69 ∷ 0x74 ∷ 0x79 ∷ 0x20
+    ∷ 0x66 ∷ 0x69 ∷ 0x65 ∷ 0x6C ∷ 0x64 ∷ 0x20
+    ∷ 0x6C ∷ 0x69 ∷ 0x6E ∷ 0x65 ∷ 0x20
+    ∷ 0x64 ∷ 0x61 ∷ 0x74 ∷ 0x61 ∷ 0x0A ∷ []
 
 abbrev pub recordText : Record → List ℕ
 recordText r =
     decimal (r .«cc_priority»)
     ++ (space
     ++ (decimal (fieldOf r)
-    ++ (space ++ (decimal (r .«line_offset») ++ (space ++ (hex (r .«cc_data_1») ++ (space ++ (hex (r .«cc_data_2») ++ lineFeed))))))))
+    ++ (space
+    ++ (decimal (r .«line_offset»)
+    ++ (space ++ (hex (r .«cc_data_1») ++ (space ++ (hex (r .«cc_data_2») ++ lineFeed))))))))
 
 abbrev pub recordsText : List Record → List ℕ
 recordsText [] = []

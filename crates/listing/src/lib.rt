@@ -1,4 +1,4 @@
-// The text that `cclist` prints for an answer (document 01, "Cases").
+// The text that `cclist` prints for an answer (docs/RULES.md, "Programs").
 ghost use mathlib.Core.Path.{_≡_};
 ghost use mathlib.Core.List.{[], _∷_, _++_};
 ghost use Prim.Native.Nat.{_<_};

@@ -57,17 +57,17 @@ module _ {A : Type 0} (bytes : A → List ℕ) (width : ℕ) (wide : (x : A) →
       ∙ (let far : width + width * length xs ≡ width * suc (length xs) = omega (arith, mul-suc width (length xs)) in far)
 
   -- records that are laid as bytes are taken from them again
-  pub taken-flat : (from : List ℕ → A) → ((x : A) (rest : List ℕ) → from (bytes x ++ rest) ≡ x) → (xs : List A) (rest : List ℕ)
+  pub flat-taken : (from : List ℕ → A) → ((x : A) (rest : List ℕ) → from (bytes x ++ rest) ≡ x) → (xs : List A) (rest : List ℕ)
       → taken from width (length xs) (flat bytes xs ++ rest) ≡ xs
-  taken-flat from back [] rest = refl
-  taken-flat from back (x ∷ xs) rest =
+  flat-taken from back [] rest = refl
+  flat-taken from back (x ∷ xs) rest =
       let whole = append-assoc (bytes x) (flat bytes xs) rest in
       let behind : drop width ((bytes x ++ flat bytes xs) ++ rest) ≡ flat bytes xs ++ rest =
       ap (drop width) whole ∙ drop-at (bytes x) (flat bytes xs ++ rest) width (wide x)
       in
       ap₂ (λ (y : A) (ys : List A). y ∷ ys)
       (ap from whole ∙ back x (flat bytes xs ++ rest))
-      (ap (taken from width (length xs)) behind ∙ taken-flat from back xs rest)
+      (ap (taken from width (length xs)) behind ∙ flat-taken from back xs rest)
 
   -- blank records are zeros
   module _ (blank : A) (zeros : bytes blank ≡ replicate width 0) where
@@ -92,14 +92,14 @@ module _ {A : Type 0} (bytes : A → List ℕ) (width : ℕ) (wide : (x : A) →
 
   -- bytes from which records are taken are laid again by them: those of the first n of k records,
   module _ (from : List ℕ → A) (same : (s : List ℕ) → width ≤ length s → bytes (from s) ≡ take width s) where
-    pub flat-taken : (k n : ℕ) (s : List ℕ) → n ≤ k → width * n ≤ length s → flat bytes (take n (taken from width k s)) ≡ take (width * n) s
-    flat-taken k zero s few long = sym (ap (λ (m : ℕ). take m s) (mul-zero width))
-    flat-taken zero (suc n) s few long = let f : ⊥ = omega arith in absurd f
-    flat-taken (suc k) (suc n) s few long =
+    pub taken-flat : (k n : ℕ) (s : List ℕ) → n ≤ k → width * n ≤ length s → flat bytes (take n (taken from width k s)) ≡ take (width * n) s
+    taken-flat k zero s few long = sym (ap (λ (m : ℕ). take m s) (mul-zero width))
+    taken-flat zero (suc n) s few long = let f : ⊥ = omega arith in absurd f
+    taken-flat (suc k) (suc n) s few long =
         let far : width + width * n ≡ width * suc n = omega (arith, mul-suc width n) in
         let here : width ≤ length s = omega arith in
         let rest : width * n ≤ length (drop width s) = omega (arith, length-drop width s) in
-        ap₂ (λ (a b : List ℕ). a ++ b) (same s here) (flat-taken k n (drop width s) (omega arith) rest)
+        ap₂ (λ (a b : List ℕ). a ++ b) (same s here) (taken-flat k n (drop width s) (omega arith) rest)
         ∙ sym (take-add width (width * n) s)
         ∙ ap (λ (m : ℕ). take m s) far
 
@@ -108,4 +108,4 @@ module _ {A : Type 0} (bytes : A → List ℕ) (width : ℕ) (wide : (x : A) →
         → flat bytes (filled (take n (taken from width k s)) k blank) ≡ filled (take (width * n) s) (width * k) 0
     flat-front blank zeros k n s few long =
         let most : length (take n (taken from width k s)) ≤ k = omega (arith, length-take-le n (taken from width k s) (omega (arith, length-taken from width k s))) in
-        flat-filled blank zeros (take n (taken from width k s)) k most ∙ ap (λ (front : List ℕ). filled front (width * k) 0) (flat-taken k n s few long)
+        flat-filled blank zeros (take n (taken from width k s)) k most ∙ ap (λ (front : List ℕ). filled front (width * k) 0) (taken-flat k n s few long)

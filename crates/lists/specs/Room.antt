@@ -1,4 +1,4 @@
--- Arrays and outputs that hold something at their front. Document 01, "Numbers a call may refuse with".
+-- Arrays and outputs that hold something at their front. RULES, "Refusals".
 use Prim.Native.Nat.{ℕ, _-_}
 use mathlib.Core.List.{List, _++_}
 use lib.ListN.{length, take, drop, replicate}

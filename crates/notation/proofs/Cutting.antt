@@ -14,38 +14,38 @@ use Rattle.lists.specs.Each.{Each}
 use Rattle.lists.specs.Part.{part}
 use Rattle.lists.proofs.Each.{each-of}
 use Rattle.lists.proofs.Part.{length-part}
-use Rattle.notation.specs.Inside.{Ends, Finds, Skips}
-use Rattle.notation.specs.Words.{Cut, closed, cutAt, cutOf, isSpace, wordsOf}
+use Rattle.notation.specs.Inside.{EndsWord, Finds, Skips}
+use Rattle.notation.specs.Words.{WordCut, closed, wordCutAt, wordCutOf, isSpace, wordsOf}
 
 -- a space in front changes no word
 pub words-space : (c : ℕ) (text : List ℕ) → isSpace c ≡ true → wordsOf (c ∷ text) ≡ wordsOf text
 unfolding wordsOf
-words-space c text e = ap (λ (b : Bool). closed (cutAt b c (cutOf text) .word) (cutAt b c (cutOf text) .words)) e
+words-space c text e = ap (λ (b : Bool). closed (wordCutAt b c (wordCutOf text) .word) (wordCutAt b c (wordCutOf text) .words)) e
 
 -- any other character is in the first word
-words-other : (c : ℕ) (text : List ℕ) → isSpace c ≡ false → wordsOf (c ∷ text) ≡ (c ∷ cutOf text .word) ∷ cutOf text .words
+words-other : (c : ℕ) (text : List ℕ) → isSpace c ≡ false → wordsOf (c ∷ text) ≡ (c ∷ wordCutOf text .word) ∷ wordCutOf text .words
 unfolding wordsOf
-words-other c text e = ap (λ (b : Bool). closed (cutAt b c (cutOf text) .word) (cutAt b c (cutOf text) .words)) e
+words-other c text e = ap (λ (b : Bool). closed (wordCutAt b c (wordCutOf text) .word) (wordCutAt b c (wordCutOf text) .words)) e
 
 -- characters that are no spaces, before a text that begins in no word
-cut-word : (word rest : List ℕ) → Each (λ (c : ℕ). isSpace c ≡ false) word → cutOf rest .word ≡ []
-    → cutOf (word ++ rest) ≡ record { word = word; words = cutOf rest .words }
-cut-word [] rest h e = ap (λ (front : List ℕ). record { word = front; words = cutOf rest .words }) e
-cut-word (c ∷ word) rest h e = ap₂ (λ (b : Bool) (cut : Cut). cutAt b c cut) (h .0) (cut-word word rest (h .1) e)
+cut-word : (word rest : List ℕ) → Each (λ (c : ℕ). isSpace c ≡ false) word → wordCutOf rest .word ≡ []
+    → wordCutOf (word ++ rest) ≡ record { word = word; words = wordCutOf rest .words }
+cut-word [] rest h e = ap (λ (front : List ℕ). record { word = front; words = wordCutOf rest .words }) e
+cut-word (c ∷ word) rest h e = ap₂ (λ (b : Bool) (cut : WordCut). wordCutAt b c cut) (h .0) (cut-word word rest (h .1) e)
 
 -- are its first word
-pub words-word : (word rest : List ℕ) → Each (λ (c : ℕ). isSpace c ≡ false) word → cutOf rest .word ≡ [] → wordsOf (word ++ rest) ≡ closed word (wordsOf rest)
+pub words-word : (word rest : List ℕ) → Each (λ (c : ℕ). isSpace c ≡ false) word → wordCutOf rest .word ≡ [] → wordsOf (word ++ rest) ≡ closed word (wordsOf rest)
 unfolding wordsOf
 words-word word rest h e =
-    ap (λ (cut : Cut). closed (cut .word) (cut .words)) (cut-word word rest h e)
-    ∙ ap (λ (front : List ℕ). closed word (closed front (cutOf rest .words))) (sym e)
+    ap (λ (cut : WordCut). closed (cut .word) (cut .words)) (cut-word word rest h e)
+    ∙ ap (λ (front : List ℕ). closed word (closed front (wordCutOf rest .words))) (sym e)
 
-pub cut-space : (c : ℕ) (text : List ℕ) → isSpace c ≡ true → cutOf (c ∷ text) .word ≡ []
-cut-space c text e = ap (λ (b : Bool). cutAt b c (cutOf text) .word) e
+pub cut-space : (c : ℕ) (text : List ℕ) → isSpace c ≡ true → wordCutOf (c ∷ text) .word ≡ []
+cut-space c text e = ap (λ (b : Bool). wordCutAt b c (wordCutOf text) .word) e
 
 -- a text ends, or goes on with a space: it begins in no word
-cut-stop : (text : List ℕ) (i : ℕ) → (i < length text → isSpace (getD text i 0) ≡ true) → cutOf (drop i text) .word ≡ []
-cut-stop [] i h = ap (λ (rest : List ℕ). cutOf rest .word) (drop-nil i)
+cut-stop : (text : List ℕ) (i : ℕ) → (i < length text → isSpace (getD text i 0) ≡ true) → wordCutOf (drop i text) .word ≡ []
+cut-stop [] i h = ap (λ (rest : List ℕ). wordCutOf rest .word) (drop-nil i)
 cut-stop (c ∷ text) zero h = let first : 0 < length (c ∷ text) = omega arith in cut-space c text (h first)
 cut-stop (c ∷ text) (suc i) h = cut-stop text i (λ below. let next : suc i < length (c ∷ text) = omega arith in h next)
 
@@ -84,7 +84,7 @@ module _ (text : List ℕ) where
       ap wordsOf whole ∙ words-word front (drop to text) each (cut-stop text to stop)
 
 -- behind the spaces stands a word, or the text ends
-pub finds : (text : List ℕ) (at start end : ℕ) → Skips text at start → Ends text start end → Finds text at (record { start = start; end = end })
+pub finds : (text : List ℕ) (at start end : ℕ) → Skips text at start → EndsWord text start end → Finds text at (record { start = start; end = end })
 finds text at start end skips ends =
     record {
       from = skips .from;

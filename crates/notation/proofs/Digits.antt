@@ -11,11 +11,11 @@ use lib.Dec.{leb, ltb}
 use lib.ListN.{length, getD, drop, drop-of-length-le}
 use lib.Seq.{drop-cons}
 use Rattle.notation.specs.declared.Number.{Number}
-use Rattle.notation.specs.Inside.{Reads}
+use Rattle.notation.specs.Inside.{ReadsNumber}
 use Rattle.notation.specs.Value.{allDigits, between, cappedOf, decimalFrom, hexDigit, isDecimal, isDigit, isHex}
 
 -- no number, which the code answers for a word that is none
-pub unread-reads : (isNumber : Bool) (number : ℕ) (n : Number) → n ≡ record { «is_readable» = false; value = 0 } → isNumber ≡ false → Reads isNumber number n
+pub unread-reads : (isNumber : Bool) (number : ℕ) (n : Number) → n ≡ record { «is_readable» = false; value = 0 } → isNumber ≡ false → ReadsNumber isNumber number n
 unread-reads isNumber number n e none =
     record { told = ap (λ (m : Number). m .«is_readable») e ∙ sym none; value = λ is. absurd (false≢true (sym none ∙ is)) }
 

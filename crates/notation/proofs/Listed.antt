@@ -1,10 +1,10 @@
--- A unit's value as `cclist` prints its records, behind reserved, flag and z, tells that value.
+-- A unit's value as `cclist` prints its records, behind reserved, flag and z, tells that value; and the promise of `unit_of` fixes its answer.
 -- Assumes nothing.
 use Prim.Native.Nat.{ℕ, _≤_, _<_}
 use native.Mathlib.Omega.{arith}
 use mathlib.Core.Bool.{Bool, true, _&&_}
 use mathlib.Core.List.{List, [], _∷_, _++_, append-assoc}
-use mathlib.Core.Path.{_≡_, _∙_, ap, ap₂, refl}
+use mathlib.Core.Path.{_≡_, _∙_, ap, ap₂, sym, refl}
 use lib.ListN.{length}
 use lib.Seq.{take-all}
 use Rattle.lists.specs.Each.{Each}
@@ -12,18 +12,11 @@ use Rattle.lists.specs.Room.{filled}
 use Rattle.scte20.specs.declared.Record.{Record}
 use Rattle.scte20.specs.Value.{Content, blank, fieldOf, stored}
 use Rattle.listing.specs.Texts.{decimal, hex, lineFeed, recordText, recordsText, space}
-use Rattle.notation.specs.Value.{areRecords, isRecord, recordOf, recordsOf, meantIf, meantOf, meantWords, unitOf}
+use Rattle.notation.specs.declared.Meant.{Meant}
+use Rattle.notation.specs.Value.{InBytes, areRecords, isRecord, recordOf, recordsOf, meantIf, meantOf, meantWords, unitOf, unitText}
 use Rattle.notation.specs.Words.{wordsOf}
 use Rattle.notation.proofs.Cutting.{words-end}
 use Rattle.notation.proofs.Written.{byte-is, byte-next, byte-value, decimal-is, decimal-next, decimal-value, hex-is, hex-next, hex-number}
-
--- a record's numbers are bytes
-pub record InBytes (r : Record) : Type 0 where
-  pub priority : r .«cc_priority» < 256
-  pub field : fieldOf r < 256
-  pub line : r .«line_offset» < 256
-  pub data-1 : r .«cc_data_1» < 256
-  pub data-2 : r .«cc_data_2» < 256
 
 module _ (r : Record) (h : InBytes r) where
   abbrev p : List ℕ
@@ -82,21 +75,18 @@ lines-records (r ∷ rs) h =
     ap recordsOf (line-words r (h .0) (recordsText rs)) ∙ ap₂ (λ (x : Record) (xs : List Record). x ∷ xs) (line-record r (h .0)) (lines-records rs (h .1))
 
 module _ (c : Content) (reserved : c .reserved < 256) (flag : c .flag < 256) (z : c .z < 1000000000) (few : length (c .records) ≤ 31) (bytes : Each InBytes (c .records)) where
-  abbrev text : List ℕ
-  text = decimal (c .reserved) ++ (space ++ (decimal (c .flag) ++ (space ++ (decimal (c .z) ++ (space ++ recordsText (c .records))))))
-
   abbrev words : List (List ℕ)
   words = wordsOf (recordsText (c .records))
 
-  text-words : wordsOf text ≡ decimal (c .reserved) ∷ decimal (c .flag) ∷ decimal (c .z) ∷ words
+  text-words : wordsOf (unitText c) ≡ decimal (c .reserved) ∷ decimal (c .flag) ∷ decimal (c .z) ∷ words
   text-words =
       byte-next (c .reserved) reserved 0x20 _ refl
       ∙ ap (λ (rest : List (List ℕ)). decimal (c .reserved) ∷ rest)
       (byte-next (c .flag) flag 0x20 _ refl
       ∙ ap (λ (rest : List (List ℕ)). decimal (c .flag) ∷ rest) (decimal-next (c .z) z 0x20 (recordsText (c .records)) refl))
 
-  pub listed : meantOf text ≡ record { «is_readable» = true; unit = stored c }
-  listed =
+  pub listed-meant : meantOf (unitText c) ≡ record { «is_readable» = true; unit = stored c }
+  listed-meant =
       ap meantWords text-words
       ∙ (λ i. meantIf
       (byte-is (c .reserved) reserved i && (byte-is (c .flag) flag i && (decimal-is (c .z) z i && lines-are (c .records) bytes i)))
@@ -105,3 +95,6 @@ module _ (c : Content) (reserved : c .reserved < 256) (flag : c .flag < 256) (z 
         «is_readable» = true;
         unit = record { reserved = c .reserved; «vbi_data_flag» = c .flag; n = length (c .records); records = filled rs 31 blank; z = c .z };
       }) (take-all 31 (c .records) few)
+
+pub unit-determined : (text : List ℕ) (a b : Meant) → a ≡ meantOf text → b ≡ meantOf text → a ≡ b
+unit-determined text a b p q = p ∙ sym q

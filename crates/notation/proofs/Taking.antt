@@ -14,8 +14,8 @@ use Rattle.notation.specs.declared.Entry.{Entry}
 use Rattle.notation.specs.declared.Number.{Number}
 use Rattle.notation.specs.declared.Taken.{Taken}
 use Rattle.notation.specs.declared.Word.{Word}
-use Rattle.notation.specs.Inside.{Finds, Reads, Takes, TakesEntry, TakesHead, entryOf, wordAt}
-use Rattle.notation.specs.Value.{byteOf, cappedOf, hexOf, isDecimal, isHex}
+use Rattle.notation.specs.Inside.{Finds, ReadsNumber, Takes, TakesEntry, TakesHead, entryOf, wordAt}
+use Rattle.notation.specs.Value.{cappedByteOf, cappedOf, hexOf, isDecimal, isHex}
 use Rattle.notation.specs.Words.{closed, wordsOf}
 use Rattle.notation.proofs.Cutting.{words-end}
 
@@ -41,7 +41,7 @@ module _ (text : List ℕ) (at : ℕ) (w : Word) (finds : Finds text at w) where
           let whole : wordsOf (drop at text) ≡ (c ∷ more) ∷ wordsOf (drop (w .end) text) = finds .first ∙ ap (λ (front : List ℕ). closed front (wordsOf (drop (w .end) text))) e in
           (ap (wordAt 0) whole ∙ sym e, sym (ap (drop 1) whole))
 
-  module _ (isNumber : List ℕ → Bool) (numberOf : List ℕ → ℕ) (n : Number) (reads : Reads (isNumber word) (numberOf word) n) (none : isNumber [] ≡ false) where
+  module _ (isNumber : List ℕ → Bool) (numberOf : List ℕ → ℕ) (n : Number) (reads : ReadsNumber (isNumber word) (numberOf word) n) (none : isNumber [] ≡ false) where
     -- a number has a character
     onward : n .«is_readable» ≡ true → w .start < w .end
     onward is = go word refl
@@ -91,7 +91,7 @@ five : (a b c d e : Bool) → ((((a && b) && c) && d) && e) ≡ (a && (b && (c &
 five a b c d e = simp and-assoc
 
 -- a number is cut to the cap, and then to a byte
-byte-of : (word : List ℕ) (n b : ℕ) → b ≡ min n 255 → n ≡ cappedOf word → b ≡ byteOf word
+byte-of : (word : List ℕ) (n b : ℕ) → b ≡ min n 255 → n ≡ cappedOf word → b ≡ cappedByteOf word
 byte-of word n b cut capped = omega arith
 
 -- three words, and what the code makes of them
@@ -175,9 +175,9 @@ module _ (text : List ℕ) (at : ℕ) (p f l a b : Taken)
     value is =
         let more = and-eq-true-iff ((p .«is_readable» && f .«is_readable») && l .«is_readable») (a .«is_readable») .0 (late is .0) in
         let early = three (p .«is_readable») (f .«is_readable») (l .«is_readable») (more .0) in
-        let px : x ≡ byteOf (wordAt 0 words) = byte-of (wordAt 0 words) (p .value) x ex (entry-0 .value (early .0)) in
-        let py : y ≡ byteOf (wordAt 1 words) = byte-of (wordAt 1 words) (f .value) y ey (entry-1 .value (early .1)) in
-        let pz : z ≡ byteOf (wordAt 2 words) = byte-of (wordAt 2 words) (l .value) z ez (entry-2 .value (early .2)) in
+        let px : x ≡ cappedByteOf (wordAt 0 words) = byte-of (wordAt 0 words) (p .value) x ex (entry-0 .value (early .0)) in
+        let py : y ≡ cappedByteOf (wordAt 1 words) = byte-of (wordAt 1 words) (f .value) y ey (entry-1 .value (early .1)) in
+        let pz : z ≡ cappedByteOf (wordAt 2 words) = byte-of (wordAt 2 words) (l .value) z ez (entry-2 .value (early .2)) in
         let pa : a .value ≡ hexOf (wordAt 3 words) = entry-3 .value (more .1) in
         let pb : b .value ≡ hexOf (wordAt 4 words) = entry-4 .value (late is .1) in
         λ i. record { «cc_priority» = px i; «field_number» = record { 0 = py i }; «line_offset» = pz i; «cc_data_1» = pa i; «cc_data_2» = pb i }

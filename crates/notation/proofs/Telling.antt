@@ -13,7 +13,7 @@ use Rattle.notation.specs.declared.Entries.{Entries}
 use Rattle.notation.specs.declared.Head.{Head}
 use Rattle.notation.specs.declared.Meant.{Meant}
 use Rattle.notation.specs.Inside.{TakesEntries, TakesHead, wordAt}
-use Rattle.notation.specs.Value.{areRecords, byteOf, cappedOf, isDecimal, recordsOf, meantIf, meantOf, meantWords, unitOf, unreadable}
+use Rattle.notation.specs.Value.{areRecords, cappedByteOf, cappedOf, isDecimal, recordsOf, meantIf, meantOf, meantWords, unitOf, unreadable}
 use Rattle.notation.specs.Words.{wordsOf}
 use Rattle.notation.proofs.Digits.{decimal-none}
 
@@ -22,7 +22,7 @@ abbrev areTold : List (List ℕ) → Bool
 areTold words = isDecimal (wordAt 0 words) && (isDecimal (wordAt 1 words) && (isDecimal (wordAt 2 words) && areRecords (drop 3 words)))
 
 abbrev unitIn : List (List ℕ) → CaptionUnit
-unitIn words = unitOf (byteOf (wordAt 0 words)) (byteOf (wordAt 1 words)) (cappedOf (wordAt 2 words)) (recordsOf (drop 3 words))
+unitIn words = unitOf (cappedByteOf (wordAt 0 words)) (cappedByteOf (wordAt 1 words)) (cappedOf (wordAt 2 words)) (recordsOf (drop 3 words))
 
 -- two words tell nothing
 two-words : (r f : List ℕ) (t : Bool) (u : CaptionUnit) → meantIf (isDecimal r && (isDecimal f && (isDecimal [] && t))) u ≡ unreadable

@@ -12,7 +12,7 @@ use lib.ListN.{length, length-append}
 use Rattle.lists.specs.Each.{Each}
 use Rattle.lists.proofs.Below.{below}
 use Rattle.listing.specs.Texts.{decimal, digit, digitsBefore, digitsOf, hex}
-use Rattle.notation.specs.Value.{allDigits, byteOf, cappedOf, decimalFrom, decimalOf, hexDigit, hexOf, isDecimal, isDigit, isHex}
+use Rattle.notation.specs.Value.{allDigits, cappedByteOf, cappedOf, decimalFrom, decimalOf, hexDigit, hexOf, isDecimal, isDigit, isHex}
 use Rattle.notation.specs.Words.{isSpace, wordsOf}
 use Rattle.notation.proofs.Cutting.{cut-space, words-space, words-word}
 use Rattle.notation.proofs.Digits.{between-bounds}
@@ -119,7 +119,7 @@ module _ (n : ℕ) (h : n < 1000000000) where
 pub byte-is : (n : ℕ) → n < 256 → isDecimal (decimal n) ≡ true
 byte-is n h = decimal-is n (omega arith)
 
-pub byte-value : (n : ℕ) → n < 256 → byteOf (decimal n) ≡ n
+pub byte-value : (n : ℕ) → n < 256 → cappedByteOf (decimal n) ≡ n
 byte-value n h =
     let small : n ≤ 255 = omega arith in
     ap (λ (m : ℕ). min m 255) (decimal-number n (omega arith)) ∙ min-eq-left small

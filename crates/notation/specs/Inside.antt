@@ -1,5 +1,5 @@
--- What private functions promise each other: where a text's next word stands, and what the words from there on tell. No theorem for a signer
--- speaks of it.
+-- What private functions promise each other: where a text's next word stands, and what the words from there on tell. No
+-- theorem for a signer speaks of it.
 use Prim.Native.Nat.{ℕ, _≤_, _<_}
 use mathlib.Core.Path.{_≡_}
 use mathlib.Core.Bool.{Bool, true, false, _&&_}
@@ -16,7 +16,7 @@ use Rattle.notation.specs.declared.Number.{Number}
 use Rattle.notation.specs.declared.Taken.{Taken}
 use Rattle.notation.specs.declared.Word.{Word}
 use Rattle.notation.specs.Words.{closed, isSpace, wordsOf}
-use Rattle.notation.specs.Value.{areRecords, byteOf, cappedOf, isDecimal, isRecord, recordOf, recordsOf}
+use Rattle.notation.specs.Value.{areRecords, cappedByteOf, cappedOf, isDecimal, isRecord, recordOf, recordsOf}
 
 -- from `at` on, r is the first character that is no space, or the end: no word is passed
 pub record Skips (text : List ℕ) (at r : ℕ) : Type 0 where
@@ -26,7 +26,7 @@ pub record Skips (text : List ℕ) (at r : ℕ) : Type 0 where
   pub stops : r < length text → isSpace (getD text r 0) ≡ false
 
 -- from `at` on, r is the first character that is a space, or the end: what is passed is a word, if it has a character
-pub record Ends (text : List ℕ) (at r : ℕ) : Type 0 where
+pub record EndsWord (text : List ℕ) (at r : ℕ) : Type 0 where
   pub from : at ≤ r
   pub inside : r ≤ length text
   pub passed : wordsOf (drop at text) ≡ closed (part at r text) (wordsOf (drop r text))
@@ -41,13 +41,13 @@ pub record Finds (text : List ℕ) (at : ℕ) (w : Word) : Type 0 where
   pub none : w .start ≡ w .end → w .end ≡ length text
 
 -- n says whether a word is a number, and which
-pub record Reads (isNumber : Bool) (number : ℕ) (n : Number) : Type 0 where
+pub record ReadsNumber (isNumber : Bool) (number : ℕ) (n : Number) : Type 0 where
   pub told : n .«is_readable» ≡ isNumber
   pub value : isNumber ≡ true → n .value ≡ number
 
 -- and the number is a byte in any case
 pub record ReadsByte (isNumber : Bool) (number : ℕ) (n : Number) : Type 0 where
-  pub reads : Reads isNumber number n
+  pub reads : ReadsNumber isNumber number n
   pub small : n .value < 256
 
 -- the word with index k, of no character where there is none
@@ -70,9 +70,11 @@ pub record TakesByte (isNumber : List ℕ → Bool) (numberOf : List ℕ → ℕ
 
 -- h says what the first three words tell, and where the other words begin
 pub record TakesHead (text : List ℕ) (h : Head) : Type 0 where
-  pub told : h .«is_readable» ≡ (isDecimal (wordAt 0 (wordsOf text)) && (isDecimal (wordAt 1 (wordsOf text)) && isDecimal (wordAt 2 (wordsOf text))))
-  pub reserved : h .«is_readable» ≡ true → h .reserved ≡ byteOf (wordAt 0 (wordsOf text))
-  pub flag : h .«is_readable» ≡ true → h .«vbi_data_flag» ≡ byteOf (wordAt 1 (wordsOf text))
+  pub told : h .«is_readable»
+      ≡ (isDecimal (wordAt 0 (wordsOf text))
+      && (isDecimal (wordAt 1 (wordsOf text)) && isDecimal (wordAt 2 (wordsOf text))))
+  pub reserved : h .«is_readable» ≡ true → h .reserved ≡ cappedByteOf (wordAt 0 (wordsOf text))
+  pub flag : h .«is_readable» ≡ true → h .«vbi_data_flag» ≡ cappedByteOf (wordAt 1 (wordsOf text))
   pub z : h .«is_readable» ≡ true → h .z ≡ cappedOf (wordAt 2 (wordsOf text))
   pub rest : wordsOf (drop (h .end) text) ≡ drop 3 (wordsOf text)
   pub inside : h .end ≤ length text

@@ -1,14 +1,15 @@
--- The value that a text tells: three words for reserved, flag and z, then five for each record, as `cclist` prints them: priority, field and line in
--- decimal, the two data bytes in hex.
-use Prim.Native.Nat.{ℕ, _+_, _-_, _*_, min}
+-- The value that a text tells (RULES, "Programs", PR-2): three words for reserved, flag and z, then five for each
+-- record, as `cclist` prints them: priority, field and line in decimal, the two data bytes in hex.
+use Prim.Native.Nat.{ℕ, _+_, _-_, _*_, _<_, min}
 use mathlib.Core.Bool.{Bool, true, false, not, _&&_}
-use mathlib.Core.List.{List, [], _∷_}
+use mathlib.Core.List.{List, [], _∷_, _++_}
 use lib.Dec.{ltb}
 use lib.ListN.{length, take}
 use Rattle.lists.specs.Room.{filled}
 use Rattle.scte20.specs.declared.Record.{Record}
 use Rattle.scte20.specs.declared.CaptionUnit.{CaptionUnit}
-use Rattle.scte20.specs.Value.{blank, none, stored}
+use Rattle.scte20.specs.Value.{Content, blank, fieldOf, none, stored}
+use Rattle.listing.specs.Texts.{decimal, recordsText, space}
 use Rattle.notation.specs.declared.Meant.{Meant}
 use Rattle.notation.specs.Words.{wordsOf}
 
@@ -37,8 +38,8 @@ abbrev pub decimalOf : List ℕ → ℕ
 decimalOf word = decimalFrom 0 word
 
 -- what a byte of the struct can hold: a larger number becomes 255, which no item of a unit's value allows
-abbrev pub byteOf : List ℕ → ℕ
-byteOf word = min (decimalOf word) 255
+abbrev pub cappedByteOf : List ℕ → ℕ
+cappedByteOf word = min (decimalOf word) 255
 
 -- what is told of z, which has no end in the struct: a larger number becomes 999,999,999, which no z may be
 abbrev pub cappedOf : List ℕ → ℕ
@@ -50,7 +51,9 @@ choose false a b = b
 
 -- 0 to 9, A to F or a to f; else 16
 unfoldable pub hexDigit : ℕ → ℕ
-hexDigit c = choose (isDigit c) (c - 0x30) (choose (between 0x41 0x46 c) (c - 0x37) (choose (between 0x61 0x66 c) (c - 0x57) 16))
+hexDigit c =
+    choose (isDigit c) (c - 0x30)
+    (choose (between 0x41 0x46 c) (c - 0x37) (choose (between 0x61 0x66 c) (c - 0x57) 16))
 
 -- two hex digits
 abbrev pub isHex : List ℕ → Bool
@@ -71,7 +74,13 @@ isRecord p f l a b = isDecimal p && (isDecimal f && (isDecimal l && (isHex a && 
 
 abbrev pub recordOf : List ℕ → List ℕ → List ℕ → List ℕ → List ℕ → Record
 recordOf p f l a b =
-    record { «cc_priority» = byteOf p; «field_number» = record { 0 = byteOf f }; «line_offset» = byteOf l; «cc_data_1» = hexOf a; «cc_data_2» = hexOf b }
+    record {
+      «cc_priority» = cappedByteOf p;
+      «field_number» = record { 0 = cappedByteOf f };
+      «line_offset» = cappedByteOf l;
+      «cc_data_1» = hexOf a;
+      «cc_data_2» = hexOf b;
+    }
 
 -- five words for each record, and none left over
 abbrev pub areRecords : List (List ℕ) → Bool
@@ -107,7 +116,22 @@ meantWords [] = unreadable
 meantWords (r ∷ []) = unreadable
 meantWords (r ∷ f ∷ []) = unreadable
 meantWords (r ∷ f ∷ z ∷ words) =
-    meantIf (isDecimal r && (isDecimal f && (isDecimal z && areRecords words))) (unitOf (byteOf r) (byteOf f) (cappedOf z) (recordsOf words))
+    meantIf (isDecimal r && (isDecimal f && (isDecimal z && areRecords words)))
+    (unitOf (cappedByteOf r) (cappedByteOf f) (cappedOf z) (recordsOf words))
 
 abbrev pub meantOf : List ℕ → Meant
 meantOf text = meantWords (wordsOf text)
+
+-- a value as it is typed: reserved, flag and z, then the lines that `cclist` prints of its records
+abbrev pub unitText : Content → List ℕ
+unitText c =
+    decimal (c .reserved)
+    ++ (space ++ (decimal (c .flag) ++ (space ++ (decimal (c .z) ++ (space ++ recordsText (c .records))))))
+
+-- a record whose numbers are bytes
+pub record InBytes (r : Record) : Type 0 where
+  pub priority : r .«cc_priority» < 256
+  pub field : fieldOf r < 256
+  pub line : r .«line_offset» < 256
+  pub data-1 : r .«cc_data_1» < 256
+  pub data-2 : r .«cc_data_2» < 256

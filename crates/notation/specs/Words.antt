@@ -9,7 +9,7 @@ abbrev pub isSpace : ℕ → Bool
 isSpace c = (eqb c 0x20 || eqb c 0x09) || eqb c 0x0A
 
 -- the word that a text begins in, and those behind it
-pub record Cut : Type 0 where
+pub record WordCut : Type 0 where
   pub word : List ℕ
   pub words : List (List ℕ)
 
@@ -19,13 +19,13 @@ closed [] words = words
 closed (c ∷ word) words = (c ∷ word) ∷ words
 
 -- the cut of a text that a character is put in front of, which is a space or is not
-abbrev pub cutAt : Bool → ℕ → Cut → Cut
-cutAt true c cut = record { word = []; words = closed (cut .word) (cut .words) }
-cutAt false c cut = record { word = c ∷ cut .word; words = cut .words }
+abbrev pub wordCutAt : Bool → ℕ → WordCut → WordCut
+wordCutAt true c cut = record { word = []; words = closed (cut .word) (cut .words) }
+wordCutAt false c cut = record { word = c ∷ cut .word; words = cut .words }
 
-abbrev pub cutOf : List ℕ → Cut
-cutOf [] = record { word = []; words = [] }
-cutOf (c ∷ text) = cutAt (isSpace c) c (cutOf text)
+abbrev pub wordCutOf : List ℕ → WordCut
+wordCutOf [] = record { word = []; words = [] }
+wordCutOf (c ∷ text) = wordCutAt (isSpace c) c (wordCutOf text)
 
 unfoldable pub wordsOf : List ℕ → List (List ℕ)
-wordsOf text = closed (cutOf text .word) (cutOf text .words)
+wordsOf text = closed (wordCutOf text .word) (wordCutOf text .words)

@@ -3,7 +3,7 @@ ghost use mathlib.Core.Path.{_≡_};
 ghost use mathlib.Core.Bool.{false};
 ghost use Prim.Native.Nat.{_≤_, min};
 ghost use lib.ListN.{length};
-ghost use Rattle.notation.specs.Inside.{Reads, ReadsByte, Takes, TakesByte};
+ghost use Rattle.notation.specs.Inside.{ReadsNumber, ReadsByte, Takes, TakesByte};
 ghost use Rattle.notation.specs.Value.{between, cappedOf, hexDigit, hexOf, isDecimal, isHex};
 use crate::Number;
 use crate::Taken;
@@ -46,7 +46,7 @@ pub(crate) fn hex_at(text: &[u8], at: usize) -> Taken
 
 // One digit or more.
 fn decimal(word: &[u8]) -> Number
-    ensures { λ r. ⌜ Reads (isDecimal (now (word .entry))) (cappedOf (now (word .entry))) r ⌝ }
+    ensures { λ r. ⌜ ReadsNumber (isDecimal (now (word .entry))) (cappedOf (now (word .entry))) r ⌝ }
 {
     if word.len() < 1 {
         return unread();

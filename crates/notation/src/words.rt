@@ -2,7 +2,7 @@
 ghost use mathlib.Core.Path.{_≡_};
 ghost use Prim.Native.Nat.{_≤_};
 ghost use lib.ListN.{length};
-ghost use Rattle.notation.specs.Inside.{Ends, Finds, Skips};
+ghost use Rattle.notation.specs.Inside.{EndsWord, Finds, Skips};
 ghost use Rattle.notation.specs.Words.{isSpace};
 use crate::Word;
 
@@ -34,7 +34,7 @@ pub(crate) fn skipped(text: &[u8], at: usize) -> usize
 // The first character from `at` on that is a space, or the end.
 fn ended(text: &[u8], at: usize) -> usize
     requires { ⌜ at ≤ length (now text) ⌝ }
-    ensures { λ r. ⌜ Ends (now (text .entry)) at r ⌝ }
+    ensures { λ r. ⌜ EndsWord (now (text .entry)) at r ⌝ }
 {
     let mut i = at;
     while i < text.len() {

@@ -1,4 +1,4 @@
--- Reading and layout of an area agree, from the units and the content. Document 01, "Picture area", and demand 3.
+-- Reading and layout of an area agree, from the units and the content. RULES, "Picture area" and "Demands", D-3.
 -- Assumes nothing.
 use Prim.Native.Nat.{ℕ, _+_, _≤_}
 use native.Mathlib.Omega.{arith}

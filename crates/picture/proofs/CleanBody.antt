@@ -1,4 +1,4 @@
--- A legal caption body does not hold 00 00 01, so that it stands in an area as it is. Document 01, "Picture area".
+-- A legal caption body does not hold 00 00 01, so that it stands in an area as it is. RULES, "Picture area".
 -- Assumes nothing.
 use Prim.Native.Nat.{ℕ}
 use mathlib.Core.Path.{_≡_, _∙_, ap, refl, sym}

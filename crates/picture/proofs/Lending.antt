@@ -19,7 +19,6 @@ use Rattle.scte20.specs.declared.Head as scte20
 use Rattle.scte20.specs.declared.CaptionUnit.{CaptionUnit}
 use Rattle.scte20.specs.Value.{Content, blank, none, stored}
 use Rattle.scte20.specs.Reading.{contentVerdict, valueOf}
-use Rattle.scte20.specs.Reading as content
 use Rattle.scte20.specs.Lent.{recordsBytes, unitIn, numbersOf}
 use Rattle.scte20.specs.Lent as scte20-lent
 use Rattle.scte20.proofs.Lending.{lent-unit, lent-filled}
@@ -56,7 +55,7 @@ module _ (s lent : List ℕ) (bytes : Bytes s) where
 
   -- the caption unit's body leaves in the array what the area does
   placed-left : (unit : ℕ) (verdict : Verdict) (c : Content)
-      → lentOf verdict (recordsBytes (content.answerOf verdict c .unit .records)) lent
+      → lentOf verdict (recordsBytes (stored c .records)) lent
       ≡ lentOf (placed unit verdict) (recordsBytes (answerOf (placed unit verdict) (c ∷ []) .unit .records)) lent
   placed-left unit Accepted c = refl
   placed-left unit (Refused reason item) c = refl

@@ -7,6 +7,11 @@ pub mod Laying
 pub mod Wholes
 pub mod Spots
 pub mod Replaced
-pub mod LentBack
 pub mod Sequence
+pub mod Accepting
+pub mod Refusing
+pub mod Writing
+pub mod Replacing
+pub mod LentBack
+pub mod Determined
 pub mod Theorems

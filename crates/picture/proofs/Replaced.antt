@@ -10,6 +10,7 @@ use Rattle.lists.specs.Room.{over}
 use Rattle.refusal.specs.declared.Verdict.{Verdict}
 use Rattle.refusal.specs.declared.Written.{Written}
 use Rattle.refusal.specs.Checks.{andThen}
+use Rattle.refusal.specs.Answers.{written}
 use Rattle.units.specs.declared.Found.{Found}
 use Rattle.units.specs.Layout.{layoutUnit}
 use Rattle.units.specs.Layout as units
@@ -62,9 +63,9 @@ replaced-long (uncaptioned us) c = omega (arith, length-around us (content.layou
 replaced-long (captioned before old after) c = omega (arith, length-around before (content.layout c) after)
 
 -- the foreign units are the same, in the same order
-pub foreign-same : (v : Area) (c : Content) → foreignOf (replaced v c) ≡ foreignOf v
-foreign-same (uncaptioned us) c = append-nil us
-foreign-same (captioned before old after) c = refl
+pub foreign-kept : (v : Area) (c : Content) → foreignOf (replaced v c) ≡ foreignOf v
+foreign-kept (uncaptioned us) c = append-nil us
+foreign-kept (captioned before old after) c = refl
 
 -- once the area is accepted, the value decides
 pub value-next : (v : Area) → Legal v → (u : CaptionUnit) (room : ℕ) → replaceVerdict (layout v) u room ≡ writeVerdict u (length (layout (replaced v (held u)))) room
@@ -73,6 +74,6 @@ value-next v h u room =
     ∙ ap (λ (t : List ℕ). writeVerdict u (length t) room) (replaced-layout v (held u) h)
 
 -- what was counted as written, as it then stands
-pub written-bytes : (laid out : List ℕ) (r : Written) (exit : List ℕ) → (r ≡ record { refusal = record { number = 0; place = 0 }; len = length laid }) × (exit ≡ over laid out) → take (r .len) exit ≡ laid
+pub written-bytes : (laid out : List ℕ) (r : Written) (exit : List ℕ) → (r ≡ written (length laid)) × (exit ≡ over laid out) → take (r .len) exit ≡ laid
 written-bytes laid out r exit w =
     ap₂ (λ (n : ℕ) (bytes : List ℕ). take n bytes) (ap (λ (x : Written). x .len) (w .0)) (w .1) ∙ take-append-seam laid (drop (length laid) out)

@@ -1,9 +1,9 @@
--- The definitions of reading, writing and replacing check in 01's sequence.
+-- The definitions of reading, writing and replacing check in the order of RULES.
 -- Assumes nothing.
 use Prim.Native.Nat.{ℕ, _+_, _≤_, _<_}
 use native.Mathlib.Omega.{arith}
 use mathlib.Core.Path.{_≡_, _∙_, ap, ap₂, sym, subst, refl}
-use mathlib.Core.Bool.{Bool, true, false}
+use mathlib.Core.Bool.{Bool, true}
 use mathlib.Core.List.{List, [], _∷_, _++_, map, append-nil}
 use borrow.Author.Tests.{lt-ltb}
 use lib.Dec.{ltb}
@@ -24,9 +24,9 @@ use Rattle.units.specs.declared.Found.{Found}
 use Rattle.units.specs.declared.Found.the-variants as found
 use Rattle.units.specs.Layout.{Clean, layoutUnit}
 use Rattle.units.specs.Layout as units
-use Rattle.units.specs.Split.{Cut, cutOf, frontVerdict, splitVerdict, bodiesOf}
+use Rattle.units.specs.Split.{Cut, cutOf, frontVerdict, splitVerdict, bodiesOf, putIf, ofKind}
 use Rattle.units.proofs.Splits.{split-short, split-layout, split-clean, layout-pieces, layout-accepted}
-use Rattle.units.proofs.Spans.{tally, count, Alone, nowhere-exactly, found-at, many-second, refused-split}
+use Rattle.units.proofs.Spans.{length-putIf, Alone, nowhere-exactly, found-at, many-second, refused-split}
 use Rattle.scte20.specs.declared.CaptionUnit.{CaptionUnit}
 use Rattle.scte20.specs.Value.{held}
 use Rattle.scte20.specs.Reading.{contentVerdict}
@@ -35,31 +35,25 @@ use Rattle.scte20.specs.Order as content
 use Rattle.scte20.proofs.Sequence as contents
 use Rattle.picture.specs.Reading.{placed, captionsIn, foundVerdict, areaVerdict}
 use Rattle.picture.specs.Writing.{unitBytes, replacedOf, replaceVerdict}
-use Rattle.picture.specs.Order.{Caption, keptIf, captionsOf, captionChecks, readingChecks, writingChecks, replacingChecks}
+use Rattle.picture.specs.Order.{Caption, captionsOf, captionChecks, readingChecks, writingChecks, replacingChecks}
+use Rattle.picture.proofs.Areas.{Other}
 
 -- THE CAPTION UNITS OF A LIST OF BODIES
 
-abbrev Other : List ℕ → Type 0
-Other body = ours Scte20 body ≡ false
-
-length-kept : (t : Bool) (c : Caption) (cs : List Caption) → length (keptIf t c cs) ≡ tally t (length cs)
-length-kept true c cs = refl
-length-kept false c cs = refl
-
 -- they are as many as the bodies that are ours,
-length-captions : (at : ℕ) (bodies : List (List ℕ)) → length (captionsOf at (map layoutUnit bodies)) ≡ count (ours Scte20) bodies
+length-captions : (at : ℕ) (bodies : List (List ℕ)) → length (captionsOf at (map layoutUnit bodies)) ≡ length (ofKind (ours Scte20) bodies)
 length-captions at [] = refl
 length-captions at (body ∷ bodies) =
     let next = at + length (layoutUnit body) in
-    length-kept (ours Scte20 body) (record { unit = at; body = body }) (captionsOf next (map layoutUnit bodies))
-    ∙ ap (λ (n : ℕ). tally (ours Scte20 body) n) (length-captions next bodies)
+    let here : Caption = record { unit = at; body = body } in
+    length-putIf (ours Scte20 body) here (captionsOf next (map layoutUnit bodies)) body (ofKind (ours Scte20) bodies) (length-captions next bodies)
 
 -- none where all are foreign,
 captions-none : (at : ℕ) (bodies : List (List ℕ)) → Each Other bodies → captionsOf at (map layoutUnit bodies) ≡ []
 captions-none at [] h = refl
 captions-none at (body ∷ bodies) h =
     let next = at + length (layoutUnit body) in
-    ap (λ (t : Bool). keptIf t (record { unit = at; body = body }) (captionsOf next (map layoutUnit bodies))) (h .0) ∙ captions-none next bodies (h .1)
+    ap (λ (t : Bool). putIf t (record { unit = at; body = body }) (captionsOf next (map layoutUnit bodies))) (h .0) ∙ captions-none next bodies (h .1)
 
 -- and the only one among foreign ones
 captions-only : (at : ℕ) (before : List (List ℕ)) (body : List ℕ) (after : List (List ℕ)) → Each Other before → Each Other after → ours Scte20 body ≡ true
@@ -67,12 +61,12 @@ captions-only : (at : ℕ) (before : List (List ℕ)) (body : List ℕ) (after :
 captions-only at [] body after hb ha mine =
     let next = at + length (layoutUnit body) in
     let here : at ≡ at + 0 = omega arith in
-    ap₂ (λ (t : Bool) (cs : List Caption). keptIf t (record { unit = at; body = body }) cs) mine (captions-none next after ha)
+    ap₂ (λ (t : Bool) (cs : List Caption). putIf t (record { unit = at; body = body }) cs) mine (captions-none next after ha)
     ∙ ap (λ (n : ℕ). record { unit = n; body = body } ∷ []) here
 captions-only at (other ∷ before) body after hb ha mine =
     let next = at + length (layoutUnit other) in
     let here : next + length (units.layout before) ≡ at + length (units.layout (other ∷ before)) = omega (arith, length-append (layoutUnit other) (units.layout before)) in
-    ap (λ (t : Bool). keptIf t (record { unit = at; body = other }) (captionsOf next (map layoutUnit (before ++ (body ∷ after))))) (hb .0)
+    ap (λ (t : Bool). putIf t (record { unit = at; body = other }) (captionsOf next (map layoutUnit (before ++ (body ∷ after))))) (hb .0)
     ∙ captions-only next before body after (hb .1) ha mine
     ∙ ap (λ (n : ℕ). record { unit = n; body = body } ∷ []) here
 

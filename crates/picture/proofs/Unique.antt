@@ -11,10 +11,8 @@ use Rattle.kind.specs.Ours.{ours}
 use Rattle.units.specs.Layout.{Clean}
 use Rattle.units.proofs.Theorems as units
 use Rattle.scte20.specs.Value.{Content}
-use Rattle.scte20.specs.Value as scte20
 use Rattle.scte20.specs.Layout as content
-use Rattle.scte20.specs.Reading.{valueOf}
-use Rattle.scte20.proofs.Layouts.{layout-value}
+use Rattle.scte20.proofs.Theorems as contents
 use Rattle.picture.specs.Value.{Area, uncaptioned, captioned, bodies, layout, LegalBodies, Legal}
 use Rattle.picture.proofs.CleanBody.{legal-clean}
 use Rattle.picture.proofs.Areas.{Other, foreign-clean, foreign-other, caption-ours}
@@ -47,9 +45,6 @@ never us before c after h e =
     let parts = append-each Other before (content.layout c ∷ after) (subst (λ (bs : List (List ℕ)). Each Other bs) e h) in
     both-ways (content.layout c) (caption-ours c) (parts .1 .0)
 
-same-content : (c d : Content) → scte20.Legal c → scte20.Legal d → content.layout c ≡ content.layout d → c ≡ d
-same-content c d hc hd e = sym (layout-value c hc) ∙ ap valueOf e ∙ layout-value d hd
-
 same-bodies : (v w : Area) → LegalBodies v → LegalBodies w → bodies v ≡ bodies w → v ≡ w
 same-bodies (uncaptioned us) (uncaptioned ws) hv hw e = ap uncaptioned e
 same-bodies (uncaptioned us) (captioned before c after) hv hw e = absurd (never us before c after (foreign-other us hv) e)
@@ -57,9 +52,9 @@ same-bodies (captioned before c after) (uncaptioned ws) hv hw e = absurd (never 
 same-bodies (captioned before c after) (captioned front d back) hv hw e =
     let same =
     around before front (content.layout c) (content.layout d) after back (foreign-other before (hv .0)) (foreign-other front (hw .0)) (caption-ours c) (caption-ours d) e in
-    let value : c ≡ d = same-content c d (hv .1) (hw .1) (same .body) in
+    let value : c ≡ d = contents.only-one c d (hv .1) (hw .1) (same .body) in
     λ i. captioned (same .before i) (value i) (same .after i)
 
-pub same-layout : (v w : Area) → Legal v → Legal w → layout v ≡ layout w → v ≡ w
-same-layout v w hv hw e =
+pub only-one : (v w : Area) → Legal v → Legal w → layout v ≡ layout w → v ≡ w
+only-one v w hv hw e =
     same-bodies v w (hv .units) (hw .units) (units.only-one (bodies v) (bodies w) (bodies-clean v (hv .units)) (bodies-clean w (hw .units)) e)

@@ -17,7 +17,7 @@ use Rattle.scte20.specs.declared.Laid.{Laid}
 use Rattle.scte20.specs.Value.{held}
 use Rattle.scte20.specs.Layout.{layout}
 use Rattle.scte20.specs.Writing.{writeVerdict, Writes}
-use Rattle.scte20.proofs.Theorems.{writes-exactly, written-there, written-in-order, refused-untouched}
+use Rattle.scte20.proofs.Theorems.{writes-exactly, written-there, write-in-order, refused-untouched}
 
 -- a body was written for this whole, and this refusal was told of it
 pub record Judged (u : CaptionUnit) (before after : ℕ) (out whole : List ℕ) (laid : Laid) (exit : List ℕ) (refusal : Refusal) : Type 0 where
@@ -31,7 +31,7 @@ module _ {u : CaptionUnit} {before after : ℕ} {out whole : List ℕ} {laid : L
   whole-told : refusal ≡ refusalOf (writeVerdict u (length whole) (length out))
   whole-told =
       j .told
-      ∙ ap refusalOf (written-in-order u before after out laid exit (j .wrote) ∙ ap (λ (n : ℕ). writeVerdict u n (length out)) (j .size))
+      ∙ ap refusalOf (write-in-order u before after out laid exit (j .wrote) ∙ ap (λ (n : ℕ). writeVerdict u n (length out)) (j .size))
 
   -- where it refuses, nothing was stored
   pub whole-refused : (refusal .number ≡ 0 → ⊥) → Wrote (writeVerdict u (length whole) (length out)) whole out (record { refusal = refusal; len = 0 }) exit

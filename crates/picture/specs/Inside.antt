@@ -39,6 +39,8 @@ pub record ReadsOld (s lent : List ℕ) (r : Old) (exit : List ℕ) : Type 0 whe
   pub place : r .spot ≡ spotOf (captionsIn s) (length s)
 
 -- what `exchange` answers and leaves: the new area is judged as a whole
-pub record Exchanges (s : List ℕ) (start end : ℕ) (u : CaptionUnit) (out : List ℕ) (answer : Written) (exit : List ℕ) : Type 0 where
+pub record Exchanges (s : List ℕ) (start end : ℕ) (u : CaptionUnit) (out : List ℕ) (r : Written) (exit : List ℕ) : Type 0 where
   pub typed : Typed u
-  pub wrote : Wrote (writeVerdict u (length (exchanged s start end (unitBytes (held u)))) (length out)) (exchanged s start end (unitBytes (held u))) out answer exit
+  pub wrote :
+      let new = exchanged s start end (unitBytes (held u)) in
+      Wrote (writeVerdict u (length new) (length out)) new out r exit

@@ -12,7 +12,8 @@ use Rattle.picture.specs.Reading.{areaVerdict, readOf}
 abbrev pub headOf : Answer → Head
 headOf a = record { refusal = a .refusal; present = a .present; numbers = numbersOf (a .unit) }
 
--- the promise of `read_into`: the numbers, and all records of `read`'s answer in the lent array, zeros beyond n and where no caption unit stands
+-- the promise of `read_into`: the numbers, and all records of `read`'s answer in the lent array, zeros beyond n and
+-- where no caption unit stands
 pub record ReadsInto (s lent : List ℕ) (r : Head) (exit : List ℕ) : Type 0 where
   pub bytes : Bytes s
   pub answer : r ≡ headOf (readOf s)

@@ -1,7 +1,8 @@
--- Document 01, "Which refusal comes first", for the picture area: all checks of reading, of writing a unit and of replacing one, each of the input alone,
--- in 01's sequence. The checks of a caption unit's body, and those of a value, are listed in crate `scte20`.
+-- RULES, "Order of checks", for the picture area: all checks of reading, of writing a unit and of replacing one, each
+-- of the input alone, in the order of RULES. The checks of a caption unit's body, and those of a value, are listed in
+-- crate `scte20`.
 use Prim.Native.Nat.{ℕ, _+_}
-use mathlib.Core.Bool.{Bool, true, false, not, _&&_}
+use mathlib.Core.Bool.{not, _&&_}
 use mathlib.Core.List.{List, [], _∷_, _++_, map}
 use lib.Dec.{ltb}
 use lib.ListN.{length, drop}
@@ -12,7 +13,7 @@ use Rattle.refusal.specs.Checks.{refuseIf}
 use Rattle.refusal.specs.Order.{eachOf}
 use Rattle.kind.specs.declared.Kind.the-variants.{Scte20}
 use Rattle.kind.specs.Ours.{ours}
-use Rattle.units.specs.Split.{cutOf, opened, allOpened, empty}
+use Rattle.units.specs.Split.{cutOf, opened, allOpened, empty, putIf}
 use Rattle.scte20.specs.declared.CaptionUnit.{CaptionUnit}
 use Rattle.scte20.specs.Value.{held}
 use Rattle.scte20.specs.Order as content
@@ -24,14 +25,12 @@ pub record Caption : Type 0 where
   pub unit : ℕ
   pub body : List ℕ
 
-abbrev pub keptIf : Bool → Caption → List Caption → List Caption
-keptIf true c cs = c ∷ cs
-keptIf false c cs = cs
-
 -- the caption units among pieces, the first of which begins at `at`: a piece is four start bytes and a body
 abbrev pub captionsOf : ℕ → List (List ℕ) → List Caption
 captionsOf at [] = []
-captionsOf at (piece ∷ pieces) = keptIf (ours Scte20 (drop 4 piece)) (record { unit = at; body = drop 4 piece }) (captionsOf (at + length piece) pieces)
+captionsOf at (piece ∷ pieces) =
+    putIf (ours Scte20 (drop 4 piece)) (record { unit = at; body = drop 4 piece })
+    (captionsOf (at + length piece) pieces)
 
 -- the checks of a body, told in its area
 abbrev pub captionChecks : Caption → List Verdict

@@ -1,4 +1,5 @@
--- What reading a picture area answers, for every list of bytes. Document 01, "Which refusal comes first": 1, 2, 3, 4, then the caption content.
+-- What reading a picture area answers, for every list of bytes. RULES, "Order of checks": 1, 2, 3, 4, then the caption
+-- content.
 use Prim.Native.Nat.{ℕ, _+_, _*_}
 use mathlib.Core.Path.{_≡_}
 use mathlib.Core.Bool.{true, false}
@@ -11,6 +12,7 @@ use Rattle.refusal.specs.declared.Reason.the-variants.{SecondUnit}
 use Rattle.refusal.specs.declared.Item.{Item}
 use Rattle.refusal.specs.declared.Item.the-variants.{Whole, Bit, Body, Word, Length}
 use Rattle.refusal.specs.Numbers.{refusalOf}
+use Rattle.refusal.specs.Answers.{accepted}
 use Rattle.kind.specs.declared.Kind.the-variants.{Scte20}
 use Rattle.kind.specs.Ours.{ours}
 use Rattle.units.specs.declared.Found.{Found}
@@ -53,11 +55,12 @@ foundContent found.Nowhere s = []
 foundContent (found.At unit end) s = valueOf (part (unit + 4) end s) ∷ []
 foundContent (found.Many k) s = []
 
--- a refusal returns no records, and all else in it is zero; so it is with no caption unit
+-- in a refusal, and where no caption unit stands, the unit is all zero
 abbrev pub answerOf : Verdict → List Content → Answer
-answerOf (Refused reason item) cs = record { refusal = refusalOf (Refused reason item); present = false; unit = stored none }
-answerOf Accepted [] = record { refusal = refusalOf Accepted; present = false; unit = stored none }
-answerOf Accepted (c ∷ cs) = record { refusal = refusalOf Accepted; present = true; unit = stored c }
+answerOf (Refused reason item) cs =
+    record { refusal = refusalOf (Refused reason item); present = false; unit = stored none }
+answerOf Accepted [] = record { refusal = accepted; present = false; unit = stored none }
+answerOf Accepted (c ∷ cs) = record { refusal = accepted; present = true; unit = stored c }
 
 abbrev pub readOf : List ℕ → Answer
 readOf s = answerOf (areaVerdict s) (foundContent (captionsIn s) s)
@@ -67,7 +70,8 @@ abbrev pub shown : Area → Answer
 shown (uncaptioned foreign) = answerOf Accepted []
 shown (captioned before c after) = answerOf Accepted (c ∷ [])
 
--- the promise of `read`. By its type its input is a list of bytes; the code shows that too, so that the theorems assume nothing
+-- the promise of `read`. By its type its input is a list of bytes; the code shows that too, so that the theorems assume
+-- nothing
 pub record Reads (s : List ℕ) (r : Answer) : Type 0 where
   pub bytes : Bytes s
   pub answer : r ≡ readOf s

@@ -1,5 +1,5 @@
--- A picture area's value, when it is legal, and its bytes. Document 01, "Picture area", and demand 3: foreign units and at most one caption unit,
--- in order. The layout is from the value alone.
+-- A picture area's value, when it is legal, and its bytes. RULES, "Picture area" and "Demands", D-3: foreign units and
+-- at most one caption unit, in order. The layout is from the value alone.
 use Prim.Native.Nat.{ℕ, _≤_}
 use mathlib.Core.Path.{_≡_}
 use mathlib.Core.Bool.{false}

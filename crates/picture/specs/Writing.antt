@@ -1,5 +1,5 @@
--- What writing a caption unit and replacing one in an area answer, and what the lent output then holds, for every value, area and output.
--- Document 01, "Picture area" and "Which refusal comes first".
+-- What writing a caption unit and replacing one in an area answer, and what the lent output then holds, for every
+-- value, area and output. RULES, "Picture area" and "Order of checks".
 use Prim.Native.Nat.{ℕ}
 use mathlib.Core.List.{List, _++_}
 use lib.ListN.{length, take, drop}
@@ -21,7 +21,8 @@ use Rattle.picture.specs.Reading.{captionsIn, areaVerdict}
 abbrev pub unitBytes : Content → List ℕ
 unitBytes c = layoutUnit (content.layout c)
 
--- the promise of `write`. By its type the struct's data bytes are bytes and its array has 31 places; the code shows that too
+-- the promise of `write`. By its type the struct's data bytes are bytes and its array has 31 places; the code shows
+-- that too
 pub record Writes (u : CaptionUnit) (out : List ℕ) (answer : Written) (exit : List ℕ) : Type 0 where
   pub typed : Typed u
   pub wrote : Wrote (writeVerdict u (length (unitBytes (held u))) (length out)) (unitBytes (held u)) out answer exit
@@ -30,7 +31,7 @@ pub record Writes (u : CaptionUnit) (out : List ℕ) (answer : Written) (exit : 
 abbrev pub exchanged : List ℕ → ℕ → ℕ → List ℕ → List ℕ
 exchanged s start end new = take start s ++ (new ++ drop end s)
 
--- the caption unit with its stuffing gives way to the new one. Where there is none, the new unit is put after the last byte
+-- the new unit in the place of the caption unit, stuffing and all; behind the last byte where there is none
 abbrev pub replacedIn : Found → List ℕ → List ℕ → List ℕ
 replacedIn (NotUnits reason item) s new = s
 replacedIn Nowhere s new = s ++ new
@@ -40,7 +41,7 @@ replacedIn (Many k) s new = s
 abbrev pub replacedOf : List ℕ → Content → List ℕ
 replacedOf s c = replacedIn (captionsIn s) s (unitBytes c)
 
--- all the reading refusals of the area, then those of writing, with 1 and 14 judged on the whole new area
+-- the checks of reading the area, then those of writing: 1 and 14 look at the new area as a whole
 abbrev pub replaceVerdict : List ℕ → CaptionUnit → ℕ → Verdict
 replaceVerdict s u room = andThen (areaVerdict s) (writeVerdict u (length (replacedOf s (held u))) room)
 

@@ -1,6 +1,6 @@
 // A picture's user data area: foreign units, and at most one caption unit.
 //
-// Normative references: document 01, "Picture area"; document 001, 5.7.
+// Normative references: docs/RULES.md, "Picture area"; document 001, 5.7.
 mod reading;
 
 pub use reading::read;

@@ -1,6 +1,6 @@
 // Writing a caption unit, and putting one into a picture's user data area.
 //
-// Normative references: document 01, "Picture area" and "Which refusal comes first"; document 001, 5.7.
+// Normative references: docs/RULES.md, "Picture area" and "Order of checks"; document 001, 5.7.
 ghost use mathlib.Core.Path.{_≡_};
 ghost use Prim.Native.Nat.{_≤_};
 ghost use lib.ListN.{length};

@@ -1,13 +1,15 @@
 -- A caller tells a refusal from an acceptance by its number: no reason has number 0.
 -- Assumes nothing.
-use Prim.Native.Nat.{_<_}
+use Prim.Native.Nat.{ℕ, _<_}
 use native.Mathlib.Omega.{arith}
-use mathlib.Core.Path.{_≡_, refl}
+use mathlib.Core.Path.{_≡_, _∙_, ap, sym, refl}
 use Rattle.refusal.specs.declared.Reason.{Reason}
 use Rattle.refusal.specs.declared.Reason.the-variants.{TooLong, NoStart, StartCode, SecondUnit, Ends, Unfixed, FieldNumberZero, DescriptorLine, FieldFalls, LineDoesNotRise, FifthPriority, SampledVideo, WordRange, WordParity, SdpChecksum, Checksum, Unfit, NoRoom, Unholdable}
 use Rattle.refusal.specs.declared.Verdict.{Verdict}
 use Rattle.refusal.specs.declared.Verdict.the-variants.{Accepted, Refused}
+use Rattle.refusal.specs.declared.Refusal.{Refusal}
 use Rattle.refusal.specs.Numbers.{numberOf, refusalOf}
+use Rattle.refusal.specs.Answers.{refused}
 
 number-not-zero : (reason : Reason) → 0 < numberOf reason
 number-not-zero TooLong = omega arith
@@ -33,3 +35,7 @@ number-not-zero (Unholdable which) = omega arith
 pub told-accepted : (verdict : Verdict) → refusalOf verdict .number ≡ 0 → verdict ≡ Accepted
 told-accepted Accepted e = refl
 told-accepted (Refused reason item) e = let f : ⊥ = omega (arith, number-not-zero reason) in absurd f
+
+pub told-refused : (verdict : Verdict) (number place : ℕ) → 0 < number → refusalOf verdict ≡ refused number place → verdict ≡ Accepted → ⊥
+told-refused verdict number place some told e =
+    omega (arith, sym (ap (λ (v : Verdict). refusalOf v .number) e) ∙ ap (λ (x : Refusal). x .number) told)

@@ -2,5 +2,6 @@ pub mod Checks
 pub mod Sequence
 pub mod Acceptance
 pub mod Outputs
+pub mod Determined
 pub mod Theorems
 pub mod Gives

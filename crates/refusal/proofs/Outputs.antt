@@ -10,7 +10,7 @@ use Rattle.refusal.specs.declared.Verdict.{Verdict}
 use Rattle.refusal.specs.declared.Verdict.the-variants.{Accepted, Refused}
 use Rattle.refusal.specs.declared.Written.{Written}
 use Rattle.refusal.specs.Numbers.{refusalOf}
-use Rattle.refusal.specs.Answers.{countedOf, leftOf, Wrote}
+use Rattle.refusal.specs.Answers.{written, countedOf, leftOf, Wrote}
 use Rattle.refusal.proofs.Acceptance.{told-accepted}
 use Rattle.refusal.proofs.Checks.{refused-not-accepted}
 
@@ -47,7 +47,7 @@ module _ (verdict : Verdict) (laid out : List ℕ) (answer : Written) (exit : Li
   accepted-wrote e = number ∙ ap (λ (v : Verdict). refusalOf v .number) e
 
   -- a success counts what it laid, and changes nothing else
-  pub success-left : verdict ≡ Accepted → (answer ≡ record { refusal = record { number = 0; place = 0 }; len = length laid }) × (exit ≡ over laid out)
+  pub success-left : verdict ≡ Accepted → (answer ≡ written (length laid)) × (exit ≡ over laid out)
   success-left e = (wrote .counted ∙ ap (λ (v : Verdict). countedOf v laid) e, wrote .left ∙ ap (λ (v : Verdict). leftOf v laid out) e)
 
   -- a refusal counts nothing, and changes nothing

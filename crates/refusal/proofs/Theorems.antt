@@ -1,18 +1,29 @@
--- For each public function, two answers that keep its promise are equal.
+-- The theorems of refusals (docs/RULES.md, "Refusals"). What they speak of is defined in specs/Numbers. What an answer
+-- tells of a writer's output is shown in proofs/Outputs, for the pages of the carriages.
+-- How to read it: docs/NOTATION.md.
 -- Assumes nothing.
 use Prim.Native.Nat.{ℕ}
-use mathlib.Core.Path.{_≡_, _∙_, sym}
+use mathlib.Core.Path.{_≡_}
 use Rattle.refusal.specs.declared.Reason.{Reason}
 use Rattle.refusal.specs.declared.Item.{Item}
 use Rattle.refusal.specs.declared.Verdict.{Verdict}
+use Rattle.refusal.specs.declared.Verdict.the-variants.{Accepted}
 use Rattle.refusal.specs.declared.Refusal.{Refusal}
 use Rattle.refusal.specs.Numbers.{numberOf, placeOf, refusalOf}
+use Rattle.refusal.proofs.Acceptance as acceptance
+use Rattle.refusal.proofs.Determined as determined
 
+-- A caller tells an acceptance by its number: no refusal has number 0.
+pub told-accepted : (verdict : Verdict) → refusalOf verdict .number ≡ 0 → verdict ≡ Accepted
+told-accepted = acceptance.told-accepted
+
+-- For each function, two answers that keep its promise are equal.
 pub number-determined : (reason : Reason) (a b : ℕ) → a ≡ numberOf reason → b ≡ numberOf reason → a ≡ b
-number-determined reason a b ea eb = ea ∙ sym eb
+number-determined = determined.number-determined
 
 pub place-determined : (item : Item) (a b : ℕ) → a ≡ placeOf item → b ≡ placeOf item → a ≡ b
-place-determined item a b ea eb = ea ∙ sym eb
+place-determined = determined.place-determined
 
-pub told-determined : (verdict : Verdict) (a b : Refusal) → a ≡ refusalOf verdict → b ≡ refusalOf verdict → a ≡ b
-told-determined verdict a b ea eb = ea ∙ sym eb
+pub told-determined : (verdict : Verdict) (a b : Refusal)
+    → a ≡ refusalOf verdict → b ≡ refusalOf verdict → a ≡ b
+told-determined = determined.told-determined

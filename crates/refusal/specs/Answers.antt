@@ -1,4 +1,4 @@
--- Document 01, "Numbers a call may refuse with": what a writer answers, and what its lent output then holds. A success changes only what it
+-- RULES, "Refusals": what a call answers, and what a writer's lent output then holds. A success changes only what it
 -- counts as written, at the front; a refusal leaves the output as it was and counts nothing.
 use Prim.Native.Nat.{ℕ}
 use mathlib.Core.Path.{_≡_}
@@ -7,11 +7,24 @@ use lib.ListN.{length}
 use Rattle.lists.specs.Room.{over}
 use Rattle.refusal.specs.declared.Verdict.{Verdict}
 use Rattle.refusal.specs.declared.Verdict.the-variants.{Accepted, Refused}
+use Rattle.refusal.specs.declared.Refusal.{Refusal}
 use Rattle.refusal.specs.declared.Written.{Written}
 use Rattle.refusal.specs.Numbers.{refusalOf}
 
+-- accepted: number and place 0
+abbrev pub accepted : Refusal
+accepted = record { number = 0; place = 0 }
+
+-- refused with a number, at a place
+abbrev pub refused : ℕ → ℕ → Refusal
+refused number place = record { number = number; place = place }
+
+-- accepted, and so many bytes or words counted
+abbrev pub written : ℕ → Written
+written n = record { refusal = accepted; len = n }
+
 abbrev pub countedOf : Verdict → List ℕ → Written
-countedOf Accepted laid = record { refusal = refusalOf Accepted; len = length laid }
+countedOf Accepted laid = written (length laid)
 countedOf (Refused reason item) laid = record { refusal = refusalOf (Refused reason item); len = 0 }
 
 abbrev pub leftOf : Verdict → List ℕ → List ℕ → List ℕ

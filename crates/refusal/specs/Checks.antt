@@ -1,4 +1,4 @@
--- Document 01, "Which refusal comes first": an order of checks is a list of verdicts, of which the first that refuses decides.
+-- RULES, "Order of checks": an order of checks is a list of verdicts, of which the first that refuses decides.
 use Prim.Native.Nat.{ℕ}
 use mathlib.Core.Bool.{Bool, true, false}
 use mathlib.Core.List.{List, [], _∷_}
@@ -27,4 +27,5 @@ first (verdict ∷ rest) = andThen verdict (first rest)
 
 -- the last checks of writing: 1 for the length of the result, then 14
 abbrev pub fitVerdict : ℕ → ℕ → ℕ → Verdict
-fitVerdict limit size room = first (refuseIf (ltb limit size) TooLong Whole ∷ refuseIf (ltb room size) NoRoom Whole ∷ [])
+fitVerdict limit size room =
+    first (refuseIf (ltb limit size) TooLong Whole ∷ refuseIf (ltb room size) NoRoom Whole ∷ [])

@@ -1,5 +1,5 @@
--- Document 01, "Numbers a call may refuse with": which number a reason has, and which place is told for the item that failed.
--- Nothing else in the project says a refusal number or a place.
+-- RULES, "Refusals": which number a reason has, and which place is told for the item that failed. Nothing else in the
+-- project says a refusal number or a place. The words beside a number are a reminder; RULES says when it is given.
 use Prim.Native.Nat.{ℕ}
 use Rattle.refusal.specs.declared.Reason.{Reason}
 use Rattle.refusal.specs.declared.Reason.the-variants.{TooLong, NoStart, StartCode, SecondUnit, Ends, Unfixed, FieldNumberZero, DescriptorLine, FieldFalls, LineDoesNotRise, FifthPriority, SampledVideo, WordRange, WordParity, SdpChecksum, Checksum, Unfit, NoRoom, Unholdable}
@@ -10,42 +10,44 @@ use Rattle.refusal.specs.declared.Verdict.the-variants.{Accepted, Refuse
 use Rattle.refusal.specs.declared.Refusal.{Refusal}
 
 abbrev pub numberOf : Reason → ℕ
--- longer than 16,384 bytes, 245 words or 1,456 bytes
+-- too long for its carriage
 numberOf TooLong = 1
--- a non-empty area without its first start code; first three words not the flag; a payload of length 0
+-- no area, packet or payload begins so
 numberOf NoStart = 2
--- 00 00 01 not followed by B2, also at the very end
+-- a start code of something else, or cut off
 numberOf StartCode = 3
--- a second caption unit
+-- more than one unit is ours
 numberOf SecondUnit = 4
--- input ends before the next item
+-- too little is left
 numberOf Ends = 5
--- a fixed bit, byte or word is another
+-- a constant has another value
 numberOf (Unfixed which) = 6
--- field_number 0, or line 1 to 5 or 23 to 31 in a descriptor
+-- no such field
 numberOf FieldNumberZero = 7
+-- no such line
 numberOf DescriptorLine = 7
--- field falls, or line does not rise
+-- out of order
 numberOf FieldFalls = 8
 numberOf LineDoesNotRise = 8
--- a fifth priority 0 in one field
+-- one priority 0 too many
 numberOf FifthPriority = 9
--- sampled video count above 0
+-- sampled video
 numberOf SampledVideo = 10
--- a word above 1023, or its parity bits wrong
+-- no word of ten bits
 numberOf WordRange = 11
+-- a word whose upper bits contradict the others
 numberOf WordParity = 11
--- SDP checksum or CS wrong
+-- a wrong sum
 numberOf SdpChecksum = 12
 numberOf Checksum = 12
--- DC, LENGTH or payload length does not fit
+-- lengths that contradict each other
 numberOf (Unfit which) = 13
--- output too short
+-- the buffer is too short
 numberOf NoRoom = 14
--- a number that its layout cannot hold
+-- no layout has room for it
 numberOf (Unholdable which) = 15
 
--- the first byte of an area's unit when reading inside that unit's body gives the number, else 0; a bit of a body that stands in no area has none
+-- the unit's first byte for what failed in its body, in an area; nothing else has a place
 abbrev pub placeOf : Item → ℕ
 placeOf Whole = 0
 placeOf (Bit bit) = 0

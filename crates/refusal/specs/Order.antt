@@ -1,5 +1,5 @@
--- Document 01, "Which refusal comes first": the checks of a carriage stand in one list, in 01's sequence. Here is what such a list is made with where
--- a thing is repeated.
+-- RULES, "Order of checks": the checks of a carriage stand in one list, in the order of RULES. Here is what such a list
+-- is made with where a thing is repeated.
 use mathlib.Core.List.{List, [], _∷_, _++_}
 use Rattle.refusal.specs.declared.Verdict.{Verdict}
 

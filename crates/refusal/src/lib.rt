@@ -1,7 +1,7 @@
-// The numbers and places of a refusal (document 01, "Numbers a call may refuse with").
+// The numbers and places of a refusal (docs/RULES.md, "Refusals").
 //
 // A reader or a writer says why it refuses by a reason, and where by the item that failed. Only this
-// crate knows which number and which place 01 gives for them.
+// crate knows which number and which place the rules have for them.
 ghost use mathlib.Core.Path.{_≡_};
 ghost use Rattle.refusal.specs.Numbers.{numberOf, placeOf, refusalOf};
 
@@ -52,7 +52,7 @@ pub enum Excess {
     FlagsByte,
 }
 
-// Why a check refused: finer than 01's numbers, since two reasons may share one.
+// Why a check refused: finer than the numbers of RULES, since two reasons may share one.
 pub enum Reason {
     TooLong,
     NoStart,
@@ -96,7 +96,7 @@ pub enum Verdict {
     Refused(Reason, Item),
 }
 
-// What a caller is told: 01's number and place, both 0 where the call is accepted.
+// What a caller is told: number and place, both 0 where the call is accepted.
 #[repr(C)]
 pub struct Refusal {
     pub number: u8,

@@ -2,9 +2,9 @@
 -- Assumes nothing.
 use Prim.Native.Nat.{ℕ, _+_, _-_, _*_, _/_, _≤_}
 use native.Mathlib.Omega.{arith}
-use mathlib.Core.Path.{_≡_, _∙_, ap, ap₂, sym, refl}
+use mathlib.Core.Path.{_≡_, _∙_, ap, ap₂, sym}
 use mathlib.Core.List.{List, [], _∷_}
-use lib.ListN.{length, getD, replicate, length-append, length-replicate}
+use lib.ListN.{length, getD}
 use Rattle.lists.specs.Bytes.{Bytes}
 use Rattle.refusal.specs.declared.Reason.{Reason}
 use Rattle.refusal.specs.declared.Item.{Item}
@@ -15,26 +15,12 @@ use Rattle.refusal.specs.Answers.{lentOf}
 use Rattle.refusal.proofs.Checks.{accepted-andThen, andThen-last}
 use Rattle.bits.specs.Bits.{bitsOf}
 use Rattle.bits.proofs.Stream.{length-bitsOf}
-use Rattle.scte20.specs.declared.CaptionUnit.{CaptionUnit}
-use Rattle.scte20.specs.declared.Answer.{Answer}
-use Rattle.scte20.specs.declared.Head.{Head}
-use Rattle.scte20.specs.Value.{Content, blank, none, stored}
-use Rattle.scte20.specs.Reading.{missing, headVerdict, flagIn, countIn, flagVerdict, restVerdict, constructsVerdict, recordsAt, sampledVerdict, contentVerdict, valueOf, answerOf, readOf}
-use Rattle.scte20.specs.Lent.{recordsBytes, unitIn, numbersOf, headOf, ReadsInto}
+use Rattle.scte20.specs.Value.{Content, none, stored}
+use Rattle.scte20.specs.Reading.{missing, headVerdict, flagIn, countIn, flagVerdict, restVerdict, constructsVerdict, recordsAt, sampledVerdict, contentVerdict, valueOf}
+use Rattle.scte20.specs.Lent.{recordsBytes, numbersOf, headOf, ReadsInto}
 use Rattle.scte20.proofs.Constructs.{accepted-missing}
-use Rattle.scte20.proofs.Contents.{accepted-head, value-legal}
+use Rattle.scte20.proofs.Contents.{accepted-head}
 use Rattle.scte20.proofs.Bytewise.{reserved-in}
-use Rattle.scte20.proofs.Lending.{lent-unit}
-
--- a refusal has no value beside it
-refused-answer : (verdict : Verdict) (content : Content) (reason : Reason) (item : Item) → verdict ≡ Refused reason item
-    → record { verdict = verdict; unit = stored none } ≡ answerOf verdict content
-refused-answer verdict content reason item told =
-    ap (λ (v : Verdict). record { verdict = v; unit = stored none }) told ∙ ap (λ (v : Verdict). answerOf v content) (sym told)
-
-accepted-answer : (verdict : Verdict) (content : Content) → verdict ≡ Accepted → record { verdict = verdict; unit = stored content } ≡ answerOf verdict content
-accepted-answer verdict content told =
-    ap (λ (v : Verdict). record { verdict = v; unit = stored content }) told ∙ ap (λ (v : Verdict). answerOf v content) (sym told)
 
 -- reading into a lent array, by the verdict: a refusal leaves the array as it was
 module _ (body lent : List ℕ) (bytes : Bytes body) (verdict : Verdict) (same : verdict ≡ contentVerdict body) where
@@ -43,43 +29,26 @@ module _ (body lent : List ℕ) (bytes : Bytes body) (verdict : Verdict) (same :
   refused-into reason item told =
       record {
         bytes = bytes;
-        answer = ap headOf (refused-answer verdict (valueOf body) reason item told ∙ ap (λ (v : Verdict). answerOf v (valueOf body)) same);
-        left = ap (λ (v : Verdict). lentOf v (recordsBytes (readOf body .unit .records)) lent) (sym told ∙ same);
+        answer =
+            ap (λ (v : Verdict). record { verdict = v; numbers = numbersOf (stored none) }) told
+            ∙ ap (λ (v : Verdict). headOf v (valueOf body)) (sym told ∙ same);
+        left = ap (λ (v : Verdict). lentOf v (recordsBytes (stored (valueOf body) .records)) lent) (sym told ∙ same);
       }
 
   -- and else all of it is the value's records
   pub accepted-into : (c : Content) (found : List ℕ) → verdict ≡ Accepted → valueOf body ≡ c → found ≡ recordsBytes (stored c .records)
       → ReadsInto body lent record { verdict = verdict; numbers = numbersOf (stored c) } found
   accepted-into c found told value laid =
-      let answer : record { verdict = verdict; unit = stored c } ≡ readOf body =
-      accepted-answer verdict c told ∙ ap₂ (λ (v : Verdict) (content : Content). answerOf v content) same (sym value)
-      in
       record {
         bytes = bytes;
-        answer = ap headOf answer;
+        answer =
+            ap₂ (λ (v : Verdict) (d : Content). record { verdict = v; numbers = numbersOf (stored d) }) told (sym value)
+            ∙ ap (λ (v : Verdict). headOf v (valueOf body)) (sym told ∙ same);
         left =
             laid
-            ∙ ap (λ (a : Answer). recordsBytes (a .unit .records)) answer
-            ∙ ap (λ (v : Verdict). lentOf v (recordsBytes (readOf body .unit .records)) lent) (sym told ∙ same);
+            ∙ ap (λ (d : Content). recordsBytes (stored d .records)) (sym value)
+            ∙ ap (λ (v : Verdict). lentOf v (recordsBytes (stored (valueOf body) .records)) lent) (sym told ∙ same);
       }
-
--- reading into an array of zeros tells the whole answer
-module _ (body : List ℕ) (bytes : Bytes body) where
-  places : (verdict : Verdict) → contentVerdict body ≡ verdict → length (answerOf verdict (valueOf body) .unit .records) ≡ 31
-  places Accepted e =
-      let rs = valueOf body .records in
-      let few : length rs ≤ 31 = value-legal body bytes e .few in
-      length-append rs (replicate (31 - length rs) blank) ∙ ap (λ (k : ℕ). length rs + k) (length-replicate (31 - length rs) blank) ∙ (omega arith)
-  places (Refused reason item) e = refl
-
-  left : (verdict : Verdict) → let rs = answerOf verdict (valueOf body) .unit .records in lentOf verdict (recordsBytes rs) (replicate 155 0) ≡ recordsBytes rs
-  left Accepted = refl
-  left (Refused reason item) = refl
-
-  pub read-back : (r : Head) (exit : List ℕ) → ReadsInto body (replicate 155 0) r exit → record { verdict = r .verdict; unit = unitIn (r .numbers) exit } ≡ readOf body
-  read-back r exit p =
-      ap₂ (λ (h : Head) (s : List ℕ). record { verdict = h .verdict; unit = unitIn (h .numbers) s }) (p .answer) (p .left ∙ left (contentVerdict body))
-      ∙ ap (λ (u : CaptionUnit). record { verdict = readOf body .verdict; unit = u }) (lent-unit (readOf body .unit) (places (contentVerdict body) refl))
 
 -- what an accepted check has shown of the length
 pub sampled-long : (at : ℕ) (s : List ℕ) → sampledVerdict at (bitsOf s) ≡ Accepted → at + 4 ≤ 8 * length s

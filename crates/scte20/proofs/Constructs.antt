@@ -17,8 +17,8 @@ use Rattle.refusal.specs.declared.Fixed.the-variants.{Marker}
 use Rattle.refusal.specs.declared.Item.the-variants.{Bit}
 use Rattle.refusal.specs.Checks.{first}
 use Rattle.refusal.proofs.Checks.{accepted-andThen, andThen-accepted, refuseIf-accepted, accepted-equal, accepted-within}
-use Rattle.bits.specs.Bits.{bits, num, field, reversed, AreBits}
-use Rattle.bits.proofs.Numbers.{num-bits-small}
+use Rattle.bits.specs.Bits.{bits, num, field, reversed}
+use Rattle.bits.proofs.Numbers.{AreBits, num-bits-small}
 use Rattle.bits.proofs.Fields.{field-lt, field-bits}
 use Rattle.bits.proofs.Turn.{reversed-lt, reversed-reversed}
 use Rattle.scte20.specs.declared.Record.{Record}

@@ -20,7 +20,8 @@ use Rattle.refusal.specs.declared.Fixed.the-variants.{Alignment, Stuffing, Iden
 use Rattle.refusal.specs.declared.Item.the-variants.{Whole, Bit}
 use Rattle.refusal.specs.Checks.{refuseIf, first}
 use Rattle.refusal.proofs.Checks.{accepted-andThen, accepted-equal, accepted-within}
-use Rattle.bits.specs.Bits.{bits, bitsOf, field, AreBits}
+use Rattle.bits.specs.Bits.{bits, bitsOf, field}
+use Rattle.bits.proofs.Numbers.{AreBits}
 use Rattle.bits.proofs.Stream.{length-bitsOf, bitsOf-are, bitsOf-same}
 use Rattle.bits.proofs.Fields.{field-lt, field-bits}
 use Rattle.scte20.specs.declared.Record.{Record}

@@ -13,8 +13,7 @@ use Rattle.refusal.proofs.Checks.{accepted-andThen, accepted-refuseIf, accepted
 use Rattle.scte20.specs.declared.Record.{Record}
 use Rattle.scte20.specs.declared.CaptionUnit.{CaptionUnit}
 use Rattle.scte20.specs.Value.{fieldOf, held}
-use Rattle.scte20.specs.Layout.{layout}
-use Rattle.scte20.specs.Reading.{sizeIn}
+use Rattle.scte20.specs.Layout.{layout, sizeIn}
 use Rattle.scte20.specs.Writing.{wholeVerdict, rangeVerdict, valueVerdict}
 use Rattle.scte20.proofs.Sizes.{length-layout}
 

@@ -15,16 +15,16 @@ use Rattle.scte20.specs.declared.Record.{Record}
 use Rattle.scte20.specs.declared.Last.{Last}
 use Rattle.scte20.specs.Value.{blank}
 use Rattle.scte20.specs.Rules.{recordVerdict}
-use Rattle.scte20.specs.Inside.{lastOf, lastVerdict, lastAfter}
+use Rattle.scte20.specs.Inside.{lastOf, lastVerdict, lastAfter, FieldsDescend}
 use Rattle.scte20.specs.Writing.{rangeVerdict, recordsVerdict}
-use Rattle.scte20.proofs.Order.{Back, last-record, record-back, last-after}
+use Rattle.scte20.proofs.Order.{last-record, record-descend, last-after}
 
 -- what holds where i records are judged and accepted: `last` is what counts of them, and the records from i on decide as all of them do
 pub record Judging (rs : List Record) (last : Last) (i : ℕ) : Type 0 where
   -- the records before i, the latest first
   pub before : List Record
   pub latest : last ≡ lastOf before
-  pub back : Back before
+  pub back : FieldsDescend before
   pub left : recordsVerdict [] 21 rs ≡ recordsVerdict before (21 + 26 * i) (drop i rs)
 
 pub judging-first : (rs : List Record) → Judging rs (lastOf []) 0
@@ -62,7 +62,7 @@ module _ (rs : List Record) (last : Last) (i : ℕ) (r : Record) (judging : Judg
       record {
         before = r ∷ before;
         latest = ap (λ (l : Last). lastAfter l r) (judging .latest) ∙ last-after at before r (judging .back) fits;
-        back = record-back at before r (judging .back) fits;
+        back = record-descend at before r (judging .back) fits;
         left = on ∙ ap (λ (k : ℕ). recordsVerdict (r ∷ before) k (drop (i + 1) rs)) far;
       }
 

@@ -14,7 +14,7 @@ use Rattle.lists.specs.Bytes.{Bytes}
 use Rattle.lists.specs.Flat.{taken}
 use Rattle.lists.specs.Room.{filled, over, overAt}
 use Rattle.lists.proofs.Each.{each-of, each-at}
-use Rattle.lists.proofs.Flat.{length-taken, getD-taken, flat-more, length-flat, taken-flat, flat-filled, flat-front}
+use Rattle.lists.proofs.Flat.{length-taken, getD-taken, flat-more, length-flat, flat-taken, flat-filled, flat-front}
 use Rattle.lists.proofs.Lay.{length-over, sets-overAt, overAt-overAt}
 use Rattle.scte20.specs.declared.Record.{Record}
 use Rattle.scte20.specs.declared.Numbers.{Numbers}
@@ -65,7 +65,7 @@ length-lent rs = length-flat recordBytes 5 length-record rs
 pub lent-records : (rs : List Record) → length rs ≡ 31 → lentRecords (recordsBytes rs) ≡ rs
 lent-records rs e =
     ap lentRecords (sym (append-nil (recordsBytes rs)))
-    ∙ subst (λ (n : ℕ). taken recordIn 5 n (recordsBytes rs ++ []) ≡ rs) e (taken-flat recordBytes 5 length-record recordIn record-back rs [])
+    ∙ subst (λ (n : ℕ). taken recordIn 5 n (recordsBytes rs ++ []) ≡ rs) e (flat-taken recordBytes 5 length-record recordIn record-back rs [])
 
 pub lent-unit : (u : CaptionUnit) → length (u .records) ≡ 31 → unitIn (numbersOf u) (recordsBytes (u .records)) ≡ u
 lent-unit u e =

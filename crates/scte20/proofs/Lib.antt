@@ -17,4 +17,7 @@ pub mod Holding
 pub mod Judged
 pub mod Writable
 pub mod Sequence
+pub mod Accepting
+pub mod Writing
+pub mod Determined
 pub mod Theorems

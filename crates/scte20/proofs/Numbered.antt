@@ -25,7 +25,7 @@ use Rattle.scte20.specs.declared.Record.{Record}
 use Rattle.scte20.specs.Value.{fieldOf, urgent}
 use Rattle.scte20.specs.Layout.{padding}
 use Rattle.scte20.specs.Rules.{falls, notRising, recordVerdict}
-use Rattle.scte20.specs.Reading.{missing, zeroVerdict, constructAt, markerVerdict, constructsVerdict, sampledVerdict, restVerdict, headVerdict, flagIn, countIn, flagVerdict, contentVerdict}
+use Rattle.scte20.specs.Reading.{missing, zeroVerdict, constructAt, markerVerdict, constructsVerdict, sampledVerdict, restVerdict, headVerdict, flagIn, countIn, flagVerdict, contentVerdict, AtBit}
 use Rattle.scte20.proofs.Constructs.{accepted-missing, constructs-within}
 
 module _ (P : Reason → Item → Type 0) where
@@ -48,14 +48,6 @@ module _ (P : Reason → Item → Type 0) where
   andThen-only : (check next : Verdict) → Only check → (check ≡ Accepted → Only next) → Only (andThen check next)
   andThen-only Accepted next p q = q refl
   andThen-only (Refused reason item) next p q = p
-
--- a refusal at a bit that is at most `limit`, of a number from `low` to `high`
-pub record AtBit (low high limit : ℕ) (reason : Reason) (item : Item) : Type 0 where
-  pub bit : ℕ
-  pub here : item ≡ Bit bit
-  pub within : bit ≤ limit
-  pub least : low ≤ numberOf reason
-  pub most : numberOf reason ≤ high
 
 module _ (low high limit : ℕ) where
   bit-only : (fault : Bool) (reason : Reason) (b : ℕ) → b ≤ limit → low ≤ numberOf reason → numberOf reason ≤ high → Only (AtBit low high limit) (refuseIf fault reason (Bit b))

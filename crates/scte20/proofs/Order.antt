@@ -19,13 +19,7 @@ use Rattle.refusal.proofs.Checks.{refused-not-accepted}
 use Rattle.scte20.specs.declared.Record.{Record}
 use Rattle.scte20.specs.Value.{fieldOf, countIf, urgent}
 use Rattle.scte20.specs.Rules.{falls, notRising, recordVerdict}
-use Rattle.scte20.specs.Inside.{lastOf, lastVerdict, kept, lastAfter}
-
--- going back, the latest first, fields never rise
-abbrev pub Back : List Record → Type 0
-Back [] = Unit {0}
-Back (r ∷ []) = Unit {0}
-Back (r ∷ s ∷ rs) = (fieldOf s ≤ fieldOf r) × Back (s ∷ rs)
+use Rattle.scte20.specs.Inside.{lastOf, FieldsDescend, lastVerdict, kept, lastAfter}
 
 -- a field that no record is of has none of priority 0
 pub urgent-none : (f : ℕ) (before : List Record) → Each (λ (r : Record). fieldOf r < f) before → urgent f before ≡ 0
@@ -36,12 +30,12 @@ urgent-none f (r ∷ rs) h =
     ap₂ _+_ (ap (λ (t : Bool). countIf (t && eqb (r .«cc_priority») 0)) (ne-eqb (fieldOf r) f other)) (urgent-none f rs (h .1))
 
 -- behind a latest record of a lower field, all are of lower fields
-pub back-below : (f : ℕ) (r : Record) (before : List Record) → Back (r ∷ before) → fieldOf r < f → Each (λ (s : Record). fieldOf s < f) (r ∷ before)
-back-below f r [] b below = (below, tt)
-back-below f r (s ∷ rs) b below =
+pub descend-below : (f : ℕ) (r : Record) (before : List Record) → FieldsDescend (r ∷ before) → fieldOf r < f → Each (λ (s : Record). fieldOf s < f) (r ∷ before)
+descend-below f r [] b below = (below, tt)
+descend-below f r (s ∷ rs) b below =
     let h : fieldOf s ≤ fieldOf r = b .0 in
     let next : fieldOf s < f = omega arith in
-    (below, back-below f s rs (b .1) next)
+    (below, descend-below f s rs (b .1) next)
 
 -- a check that comes later need be the same only where those before it accept
 later : (t : Bool) (reason : Reason) (item : Item) (v w : Verdict) → (t ≡ false → v ≡ w) → andThen (refuseIf t reason item) v ≡ andThen (refuseIf t reason item) w
@@ -49,13 +43,13 @@ later true reason item v w h = refl
 later false reason item v w h = h refl
 
 -- how many of the latest's field have priority 0, and how many of the next record's field have
-kept-urgent : (f : ℕ) (last : Record) (earlier : List Record) (t : Bool) → eqb (fieldOf last) f ≡ t → Back (last ∷ earlier) → fieldOf last ≤ f
+kept-urgent : (f : ℕ) (last : Record) (earlier : List Record) (t : Bool) → eqb (fieldOf last) f ≡ t → FieldsDescend (last ∷ earlier) → fieldOf last ≤ f
     → kept t (urgent (fieldOf last) (last ∷ earlier)) ≡ urgent f (last ∷ earlier)
 kept-urgent f last earlier true e b h = ap (λ (g : ℕ). urgent g (last ∷ earlier)) (eqb-true (fieldOf last) f e)
 kept-urgent f last earlier false e b h =
     let other : fieldOf last ≡ f → ⊥ = eqb-false (fieldOf last) f e in
     let below : fieldOf last < f = omega (arith, other) in
-    sym (urgent-none f (last ∷ earlier) (back-below f last earlier b below))
+    sym (urgent-none f (last ∷ earlier) (descend-below f last earlier b below))
 
 -- four are as good as more
 four-enough : (k : ℕ) → ltb 3 (min k 4) ≡ ltb 3 k
@@ -86,7 +80,7 @@ none-four : (t : Bool) → (t && (false && ltb 3 0)) ≡ (t && ltb 3 0)
 none-four true = refl
 none-four false = refl
 
-pub last-record : (at : ℕ) (before : List Record) (r : Record) → Back before → lastVerdict at (lastOf before) r ≡ recordVerdict at before r
+pub last-record : (at : ℕ) (before : List Record) (r : Record) → FieldsDescend before → lastVerdict at (lastOf before) r ≡ recordVerdict at before r
 unfolding lastVerdict recordVerdict
 last-record at [] r b =
     later (eqb (fieldOf r) 0) _ _ _ _ (λ allowed. rw (none-falls (fieldOf r), none-field (fieldOf r) allowed, none-four (eqb (r .«cc_priority») 0)))
@@ -118,12 +112,12 @@ record-checks at before r e =
 accepted-rises : (at : ℕ) (last : Record) (earlier : List Record) (r : Record) → recordVerdict at (last ∷ earlier) r ≡ Accepted → fieldOf last ≤ fieldOf r
 accepted-rises at last earlier r e = ltb-false (fieldOf r) (fieldOf last) (record-checks at (last ∷ earlier) r e .1)
 
-pub record-back : (at : ℕ) (before : List Record) (r : Record) → Back before → recordVerdict at before r ≡ Accepted → Back (r ∷ before)
-record-back at [] r b e = tt
-record-back at (last ∷ earlier) r b e = (accepted-rises at last earlier r e, b)
+pub record-descend : (at : ℕ) (before : List Record) (r : Record) → FieldsDescend before → recordVerdict at before r ≡ Accepted → FieldsDescend (r ∷ before)
+record-descend at [] r b e = tt
+record-descend at (last ∷ earlier) r b e = (accepted-rises at last earlier r e, b)
 
 -- how many count on for the record, of which n more are of priority 0
-counts-on : (at : ℕ) (before : List Record) (r : Record) (n : ℕ) → Back before → recordVerdict at before r ≡ Accepted
+counts-on : (at : ℕ) (before : List Record) (r : Record) (n : ℕ) → FieldsDescend before → recordVerdict at before r ≡ Accepted
     → min (n + kept (eqb (lastOf before .«field_number» .0) (fieldOf r)) (lastOf before .urgent)) 4 ≡ min (n + urgent (fieldOf r) before) 4
 counts-on at [] r n b e = ap (λ (t : Bool). min (n + kept t 0) 4) (none-field (fieldOf r) (record-checks at [] r e .0))
 counts-on at (last ∷ earlier) r n b e =
@@ -131,7 +125,7 @@ counts-on at (last ∷ earlier) r n b e =
     ∙ ap (λ (k : ℕ). min (n + k) 4)
     (kept-urgent (fieldOf r) last earlier (eqb (fieldOf last) (fieldOf r)) refl b (accepted-rises at last earlier r e))
 
-pub last-after : (at : ℕ) (before : List Record) (r : Record) → Back before → recordVerdict at before r ≡ Accepted → lastAfter (lastOf before) r ≡ lastOf (r ∷ before)
+pub last-after : (at : ℕ) (before : List Record) (r : Record) → FieldsDescend before → recordVerdict at before r ≡ Accepted → lastAfter (lastOf before) r ≡ lastOf (r ∷ before)
 unfolding lastAfter
 last-after at before r b e =
     ap (λ (k : ℕ). record { «field_number» = r .«field_number»; «line_offset» = r .«line_offset»; urgent = k })

@@ -8,13 +8,12 @@ use lib.ListN.{length, drop, replicate, length-append, length-replicate}
 use Rattle.lists.specs.Bytes.{Bytes}
 use Rattle.lists.proofs.Each.{each-replicate}
 use Rattle.lists.proofs.Each.{each-append}
-use Rattle.bits.specs.Bits.{bits, bitsOf, bytesOf, AreBits}
-use Rattle.bits.proofs.Numbers.{bits-are, are-append, are-zeros}
+use Rattle.bits.specs.Bits.{bits, bitsOf, bytesOf}
+use Rattle.bits.proofs.Numbers.{AreBits, bits-are, are-append, are-zeros}
 use Rattle.bits.proofs.Stream.{bitsOf-append, bitsOf-zeros, length-bytesOf, bytesOf-bytes, bitsOf-bytesOf}
 use Rattle.scte20.specs.declared.Record.{Record}
 use Rattle.scte20.specs.Value.{Content}
-use Rattle.scte20.specs.Layout.{constructBits, constructsBits, flaggedBits, itemBits, padding, contentBits, contentBytes, layout}
-use Rattle.scte20.specs.Reading.{sizeIn}
+use Rattle.scte20.specs.Layout.{constructBits, constructsBits, flaggedBits, itemBits, padding, contentBits, contentBytes, layout, sizeIn}
 use Rattle.scte20.proofs.Constructs.{length-constructs}
 
 -- ---- sizes
@@ -63,6 +62,9 @@ content-size c = length-bytesOf (length (contentBits c) / 8) (contentBits c) ∙
 pub length-layout : (c : Content) → length (layout c) ≡ sizeIn (c .flag) (length (c .records)) + c .z
 length-layout c =
     length-append (contentBytes c) (replicate (c .z) 0) ∙ ap₂ (λ (a b : ℕ). a + b) (content-size c) (length-replicate (c .z) 0)
+
+pub sizes-told : (sizeIn 0 0 ≡ 2) × (sizeIn 1 0 ≡ 4) × (sizeIn 1 1 ≡ 7) × (sizeIn 1 31 ≡ 104)
+sizes-told = (refl, refl, refl, refl)
 
 -- ---- bits
 

@@ -16,7 +16,8 @@ use Rattle.refusal.specs.declared.Fixed.the-variants.{Marker}
 use Rattle.refusal.specs.declared.Item.the-variants.{Bit}
 use Rattle.refusal.specs.Checks.{andThen}
 use Rattle.refusal.proofs.Checks.{andThen-last}
-use Rattle.bits.specs.Bits.{field, AreBits}
+use Rattle.bits.specs.Bits.{field}
+use Rattle.bits.proofs.Numbers.{AreBits}
 use Rattle.bits.proofs.Fields.{field-lt, field-within}
 use Rattle.scte20.specs.declared.Record.{Record}
 use Rattle.scte20.specs.declared.Last.{Last}
@@ -24,9 +25,9 @@ use Rattle.scte20.specs.Value.{blank}
 use Rattle.scte20.specs.Rules.{recordVerdict}
 use Rattle.scte20.specs.Reading.{missing, constructAt, markerVerdict, constructsVerdict, recordsAt}
 use Rattle.scte20.specs.Lent.{recordBytes, recordsBytes}
-use Rattle.scte20.specs.Inside.{constructOf, lastOf, lastVerdict, lastAfter}
+use Rattle.scte20.specs.Inside.{constructOf, lastOf, lastVerdict, lastAfter, FieldsDescend}
 use Rattle.scte20.proofs.Constructs.{length-records}
-use Rattle.scte20.proofs.Order.{Back, last-record, record-back, last-after}
+use Rattle.scte20.proofs.Order.{last-record, record-descend, last-after}
 use Rattle.scte20.proofs.Lending.{lent-next, lent-room}
 
 module _ (xs : List ℕ) (at : ℕ) (h : AreBits xs) (fits : at + 26 ≤ length xs) where
@@ -82,7 +83,7 @@ behind (suc i) xs = constructAt (21 + 26 * i) xs ∷ behind i xs
 pub record Going (xs : List ℕ) (n : ℕ) (lent records : List ℕ) (last : Last) (i : ℕ) : Type 0 where
   pub within : i ≤ n
   pub latest : last ≡ lastOf (behind i xs)
-  pub back : Back (behind i xs)
+  pub back : FieldsDescend (behind i xs)
   pub left : constructsVerdict [] n 21 xs ≡ constructsVerdict (behind i xs) (n - i) (21 + 26 * i) xs
   pub laid : records ≡ over (recordsBytes (take i (recordsAt n 21 xs))) lent
 
@@ -147,7 +148,7 @@ module _ (xs : List ℕ) (n : ℕ) (lent records : List ℕ) (last : Last) (i : 
       record {
         within = omega arith;
         latest = ap (λ (l : Last). lastAfter l r) (going .latest) ∙ last-after at before r (going .back) fits ∙ ap lastOf (sym next);
-        back = subst Back (sym next) (record-back at before r (going .back) fits);
+        back = subst FieldsDescend (sym next) (record-descend at before r (going .back) fits);
         left = on ∙ ap₂ (λ (rs : List Record) (k : ℕ). constructsVerdict rs (n - (i + 1)) k xs) (sym next) far;
         laid =
             ap₂ (λ (s : Record) (bytes : List ℕ). overAt (5 * i) (recordBytes s) bytes) (sym (getD-recordsAt n 21 i xs more)) (going .laid)

@@ -3,7 +3,7 @@
 use Prim.Native.Nat.{ℕ, _+_, _≤_, _<_}
 use native.Mathlib.Omega.{arith}
 use mathlib.Core.Path.{_≡_, _∙_, ap, refl}
-use mathlib.Core.Logic.{_⊎_, inl, inr}
+use mathlib.Core.Logic.{inl, inr}
 use mathlib.Core.Bool.{not, _&&_}
 use mathlib.Core.List.{List, [], _∷_}
 use lib.Dec.{eqb, ltb}
@@ -18,6 +18,7 @@ use Rattle.refusal.specs.declared.Excess.the-variants.{Count, Reserved, Flag, S
 use Rattle.refusal.specs.declared.Item.the-variants.{Whole, Bit}
 use Rattle.refusal.specs.Numbers.{refusalOf}
 use Rattle.refusal.specs.Checks.{andThen, first, fitVerdict}
+use Rattle.refusal.specs.Answers.{refused}
 use Rattle.refusal.proofs.Checks.{accepted-andThen, andThen-accepted, andThen-assoc, accepted-fit, fit-accepted, fit-long, fit-no-room}
 use Rattle.refusal.proofs.Gives.{Gives, refuseIf-gives, andThen-gives, refused-gives}
 use Rattle.scte20.specs.declared.Record.{Record}
@@ -25,7 +26,7 @@ use Rattle.scte20.specs.declared.CaptionUnit.{CaptionUnit}
 use Rattle.scte20.specs.Value.{fieldOf, urgent, Ranged, LegalRecord, ByteRecord, LegalCaptionUnit, Typed, held}
 use Rattle.scte20.specs.Layout.{layout}
 use Rattle.scte20.specs.Rules.{falls, notRising, recordVerdict}
-use Rattle.scte20.specs.Writing.{wholeVerdict, rangeVerdict, recordsVerdict, valueVerdict, writeVerdict}
+use Rattle.scte20.specs.Writing.{wholeVerdict, rangeVerdict, recordsVerdict, valueVerdict, ForValue, writeVerdict}
 use Rattle.scte20.proofs.Fitting.{AllFit, record-fits, fits-record, fit-allowed, fit-order, fit-four, legal-fit}
 use Rattle.scte20.proofs.Sizes.{length-layout}
 use Rattle.scte20.proofs.Holding as holding
@@ -130,19 +131,11 @@ write-accepted u size room t h within short fits =
 
 -- ---- which refusal
 
--- a number of 01, and no place
-abbrev pub refused : ℕ → Refusal
-refused number = record { number = number; place = 0 }
-
 -- those of the whole value give 15
 abbrev pub Whole15 : Refusal → Type 0
-Whole15 r = r ≡ refused 15
+Whole15 r = r ≡ refused 15 0
 
--- those of a value 15, 7, 8 or 9
-abbrev pub ForValue : Refusal → Type 0
-ForValue r = (r ≡ refused 15) ⊎ ((r ≡ refused 7) ⊎ ((r ≡ refused 8) ⊎ (r ≡ refused 9)))
-
-whole-gives : (P : Refusal → Type 0) → P (refused 15) → (u : CaptionUnit) → Gives P (wholeVerdict u)
+whole-gives : (P : Refusal → Type 0) → P (refused 15 0) → (u : CaptionUnit) → Gives P (wholeVerdict u)
 unfolding wholeVerdict
 whole-gives P p u =
     andThen-gives P _ _ (refuseIf-gives P (ltb 31 (u .n)) (Unholdable Count) Whole p)
@@ -178,7 +171,7 @@ value-gives : (u : CaptionUnit) → Gives ForValue (valueVerdict u)
 unfolding valueVerdict
 value-gives u = andThen-gives ForValue _ _ (whole-gives ForValue (inl refl) u) (records-give [] 21 (held u .records))
 
-pub whole-15 : (u : CaptionUnit) (size room : ℕ) → (wholeVerdict u ≡ Accepted → ⊥) → refusalOf (writeVerdict u size room) ≡ record { number = 15; place = 0 }
+pub whole-15 : (u : CaptionUnit) (size room : ℕ) → (wholeVerdict u ≡ Accepted → ⊥) → refusalOf (writeVerdict u size room) ≡ refused 15 0
 unfolding valueVerdict
 whole-15 u size room h =
     ap refusalOf (andThen-assoc (wholeVerdict u) (recordsVerdict [] 21 (held u .records)) (fitVerdict 16384 size room))

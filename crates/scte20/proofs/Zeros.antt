@@ -1,4 +1,4 @@
--- No legal SCTE 20 content, stuffing aside, holds 23 zero bits in a row, and one holds 22. Document 01, "Picture area".
+-- The longest run of zero bits in legal SCTE 20 content, without its stuffing, has 22 of them. RULES, "Picture area".
 -- Assumes nothing.
 use Prim.Native.Nat.{ℕ, zero, suc, _+_, _≤_, _<_}
 use native.Mathlib.Omega.{arith}

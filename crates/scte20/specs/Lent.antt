@@ -1,4 +1,5 @@
--- A unit's records as bytes in a lent array, five bytes each, in the order of the struct: what the C interface lends and is lent.
+-- A unit's records as bytes in a lent array, five bytes each, in the order of the struct: what the C interface lends
+-- and is lent.
 use Prim.Native.Nat.{ℕ, _*_}
 use mathlib.Core.Path.{_≡_}
 use mathlib.Core.Bool.{Bool, true, false}
@@ -8,14 +9,15 @@ use lib.ListN.{getD}
 use lib.Seq.{sets}
 use Rattle.lists.specs.Bytes.{Bytes}
 use Rattle.lists.specs.Flat.{flat, taken}
+use Rattle.refusal.specs.declared.Verdict.{Verdict}
+use Rattle.refusal.specs.declared.Verdict.the-variants.{Accepted, Refused}
 use Rattle.refusal.specs.Answers.{lentOf}
 use Rattle.scte20.specs.declared.Record.{Record}
 use Rattle.scte20.specs.declared.Numbers.{Numbers}
 use Rattle.scte20.specs.declared.CaptionUnit.{CaptionUnit}
-use Rattle.scte20.specs.declared.Answer.{Answer}
 use Rattle.scte20.specs.declared.Head.{Head}
-use Rattle.scte20.specs.Value.{fieldOf}
-use Rattle.scte20.specs.Reading.{contentVerdict, readOf}
+use Rattle.scte20.specs.Value.{Content, fieldOf, none, stored}
+use Rattle.scte20.specs.Reading.{contentVerdict, valueOf}
 
 abbrev pub recordBytes : Record → List ℕ
 recordBytes r = r .«cc_priority» ∷ fieldOf r ∷ r .«line_offset» ∷ r .«cc_data_1» ∷ r .«cc_data_2» ∷ []
@@ -47,16 +49,21 @@ storedAt i r s = storedIf (ltb i 31) i r s
 
 -- the struct that numbers and a lent array tell
 abbrev pub unitIn : Numbers → List ℕ → CaptionUnit
-unitIn v s = record { reserved = v .reserved; «vbi_data_flag» = v .«vbi_data_flag»; n = v .n; records = lentRecords s; z = v .z }
+unitIn v s =
+    record { reserved = v .reserved; «vbi_data_flag» = v .«vbi_data_flag»; n = v .n; records = lentRecords s; z = v .z }
 
 abbrev pub numbersOf : CaptionUnit → Numbers
 numbersOf u = record { reserved = u .reserved; «vbi_data_flag» = u .«vbi_data_flag»; n = u .n; z = u .z }
 
-abbrev pub headOf : Answer → Head
-headOf a = record { verdict = a .verdict; numbers = numbersOf (a .unit) }
+-- what reading answers beside the records: in a refusal all numbers are zero
+abbrev pub headOf : Verdict → Content → Head
+headOf Accepted c = record { verdict = Accepted; numbers = numbersOf (stored c) }
+headOf (Refused reason item) c = record { verdict = Refused reason item; numbers = numbersOf (stored none) }
 
--- the promise of `read_into`: the numbers, and all records of `read`'s answer in the lent array, zeros beyond n
+-- the promise of `read_into`: verdict and numbers, and in the lent array all the value's records, zeros beyond n; a
+-- refusal leaves the array as it was. By its type the input is a list of bytes; the code shows that too, so that the
+-- theorems assume nothing
 pub record ReadsInto (body lent : List ℕ) (r : Head) (exit : List ℕ) : Type 0 where
   pub bytes : Bytes body
-  pub answer : r ≡ headOf (readOf body)
-  pub left : exit ≡ lentOf (contentVerdict body) (recordsBytes (readOf body .unit .records)) lent
+  pub answer : r ≡ headOf (contentVerdict body) (valueOf body)
+  pub left : exit ≡ lentOf (contentVerdict body) (recordsBytes (stored (valueOf body) .records)) lent

@@ -1,4 +1,5 @@
--- Document 01, "Which refusal comes first", for caption content: all checks of reading and of writing, each of the input alone, in 01's sequence.
+-- RULES, "Order of checks", for caption content: all checks of reading and of writing, each of the input alone, in the
+-- order of RULES.
 use Prim.Native.Nat.{ℕ, zero, suc, _+_, _*_}
 use mathlib.Core.Bool.{not, _&&_}
 use mathlib.Core.List.{List, [], _∷_, _++_}
@@ -57,7 +58,9 @@ zeroChecks which at (b ∷ bs) = refuseIf (not (eqb b 0)) (Unfixed which) (Bit a
 
 -- 6: alignment bits, from bit `at` up to a whole byte, then stuffing
 abbrev pub restChecks : ℕ → List ℕ → List Verdict
-restChecks at xs = zeroChecks Alignment at (take (padding at) (drop at xs)) ++ zeroChecks Stuffing (at + padding at) (drop (at + padding at) xs)
+restChecks at xs =
+    zeroChecks Alignment at (take (padding at) (drop at xs))
+    ++ zeroChecks Stuffing (at + padding at) (drop (at + padding at) xs)
 
 -- behind the flag: with flag 0 the content is two bytes
 abbrev pub flagChecks : ℕ → List ℕ → List Verdict
@@ -76,7 +79,8 @@ flagChecks (suc f) xs =
     -- 6: alignment bits, then stuffing
     ∷ restChecks (25 + 26 * countIn xs) xs))
 
--- a unit's body. One in an area is shorter than 16,384 bytes and begins 03, so that 1 and the first 6 are never given there
+-- a unit's body. One in an area is shorter than 16,384 bytes and begins 03, so that 1 and the first 6 are never given
+-- there
 abbrev pub readingChecks : List ℕ → List Verdict
 readingChecks body =
     -- 1: longer than an area

@@ -1,26 +1,27 @@
--- What reading a caption unit's body answers, for every list of bytes. Document 01, "Which refusal comes first": the content from left to right,
--- each item 5 before its own test. In a construct: 5 (fewer than 26 bits left), 7, 8, 9, then marker 6. Then the count: 5, 10. Then alignment bits and stuffing: 6.
+-- The verdict on a caption unit's body, and the value that it holds, for every list of bytes. RULES, "Order of checks":
+-- from the first bit to the last, and whether an item is all there comes before what it holds.
 --
 -- A refusal has the bit of the body at which the failing item begins.
-use Prim.Native.Nat.{ℕ, zero, suc, _+_, _-_, _*_, _/_}
+use Prim.Native.Nat.{ℕ, zero, suc, _+_, _-_, _*_, _≤_}
 use mathlib.Core.Path.{_≡_}
 use mathlib.Core.Bool.{not}
 use mathlib.Core.List.{List, [], _∷_}
 use lib.Dec.{eqb, ltb}
 use lib.ListN.{length, take, drop}
-use Rattle.lists.specs.Bytes.{Bytes}
 use Rattle.refusal.specs.declared.Verdict.{Verdict}
-use Rattle.refusal.specs.declared.Verdict.the-variants.{Accepted, Refused}
+use Rattle.refusal.specs.declared.Verdict.the-variants.{Accepted}
+use Rattle.refusal.specs.declared.Reason.{Reason}
 use Rattle.refusal.specs.declared.Reason.the-variants.{TooLong, Ends, Unfixed, SampledVideo}
 use Rattle.refusal.specs.declared.Fixed.{Fixed}
 use Rattle.refusal.specs.declared.Fixed.the-variants.{Marker, Alignment, Stuffing, Identifier}
+use Rattle.refusal.specs.declared.Item.{Item}
 use Rattle.refusal.specs.declared.Item.the-variants.{Whole, Bit}
+use Rattle.refusal.specs.Numbers.{numberOf}
 use Rattle.refusal.specs.Checks.{refuseIf, andThen, first}
 use Rattle.bits.specs.Bits.{bitsOf, field, reversed}
 use Rattle.scte20.specs.declared.Record.{Record}
-use Rattle.scte20.specs.declared.Answer.{Answer}
-use Rattle.scte20.specs.Value.{Content, none, stored}
-use Rattle.scte20.specs.Layout.{padding}
+use Rattle.scte20.specs.Value.{Content}
+use Rattle.scte20.specs.Layout.{padding, sizeIn}
 use Rattle.scte20.specs.Rules.{recordVerdict}
 
 -- 5: fewer than w bits are left at bit `at`
@@ -30,7 +31,8 @@ missing at w xs = refuseIf (ltb (length xs) (at + w)) Ends (Bit at)
 -- 6: the bits, of which the first is bit `at`, are all zero, or the first that is not is refused
 abbrev pub zeroVerdict : Fixed → ℕ → List ℕ → Verdict
 zeroVerdict which at [] = Accepted
-zeroVerdict which at (b ∷ bs) = andThen (refuseIf (not (eqb b 0)) (Unfixed which) (Bit at)) (zeroVerdict which (suc at) bs)
+zeroVerdict which at (b ∷ bs) =
+    andThen (refuseIf (not (eqb b 0)) (Unfixed which) (Bit at)) (zeroVerdict which (suc at) bs)
 
 -- the construct that begins at bit `at`, and its marker
 unfoldable pub constructAt : ℕ → List ℕ → Record
@@ -73,7 +75,8 @@ restVerdict at xs =
     ∷ zeroVerdict Stuffing (at + padding at) (drop (at + padding at) xs)
     ∷ [])
 
--- what stands before the flag's decision. A body of an area's caption unit is shorter than 16,384 bytes and begins 03, so that 1 and 6 are never given there
+-- what stands before the flag's decision. A body of an area's caption unit is shorter than 16,384 bytes and begins 03,
+-- so that 1 and 6 are never given there
 unfoldable pub headVerdict : List ℕ → Verdict
 headVerdict body =
     first
@@ -109,11 +112,6 @@ abbrev pub recordsIn : ℕ → List ℕ → List Record
 recordsIn zero xs = []
 recordsIn (suc f) xs = recordsAt (countIn xs) 21 xs
 
--- how many bytes the content takes: (25 + 26n) / 8 rounded up, or 2
-abbrev pub sizeIn : ℕ → ℕ → ℕ
-sizeIn zero n = 2
-sizeIn (suc f) n = (25 + 26 * n + 7) / 8
-
 unfoldable pub valueOf : List ℕ → Content
 valueOf body =
     record {
@@ -123,15 +121,10 @@ valueOf body =
       z = length body - sizeIn (flagIn (bitsOf body)) (countIn (bitsOf body));
     }
 
--- a refusal returns no records, and all else in it is zero
-abbrev pub answerOf : Verdict → Content → Answer
-answerOf Accepted c = record { verdict = Accepted; unit = stored c }
-answerOf (Refused reason item) c = record { verdict = Refused reason item; unit = stored none }
-
-abbrev pub readOf : List ℕ → Answer
-readOf body = answerOf (contentVerdict body) (valueOf body)
-
--- the promise of `read`. By its type its input is a list of bytes; the code shows that too, so that the theorems assume nothing
-pub record Reads (body : List ℕ) (r : Answer) : Type 0 where
-  pub bytes : Bytes body
-  pub answer : r ≡ readOf body
+-- a refusal at a bit that is at most `limit`, of a number from `low` to `high`
+pub record AtBit (low high limit : ℕ) (reason : Reason) (item : Item) : Type 0 where
+  pub bit : ℕ
+  pub here : item ≡ Bit bit
+  pub within : bit ≤ limit
+  pub least : low ≤ numberOf reason
+  pub most : numberOf reason ≤ high

@@ -1,4 +1,4 @@
--- The rules over a record and those before it, in 01's order of checks: 7, 8, 9. Document 01, "Legal records" and "Which refusal comes first".
+-- The rules over a record and those before it: 7, 8, 9. RULES, "Picture area" and "Order of checks".
 use Prim.Native.Nat.{ℕ, _+_}
 use mathlib.Core.Bool.{Bool, false, not, _&&_}
 use mathlib.Core.List.{List, [], _∷_}
@@ -20,7 +20,7 @@ abbrev pub notRising : List Record → Record → Bool
 notRising [] r = false
 notRising (last ∷ earlier) r = eqb (fieldOf last) (fieldOf r) && not (ltb (last .«line_offset») (r .«line_offset»))
 
--- 7 field_number 0; 8 field falls, or line does not rise; 9 a fifth priority 0 in one field. The construct begins at bit `at`
+-- 7, then 8 for the field and 8 for the line, then 9. The construct begins at bit `at`
 unfoldable pub recordVerdict : ℕ → List Record → Record → Verdict
 recordVerdict at before r =
     first

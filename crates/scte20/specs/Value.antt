@@ -1,4 +1,5 @@
--- The value of a caption unit, when it is legal, and how the code's structs hold it. Document 01, "Picture area"; document 001, 5.4 to 5.8.
+-- The value of a caption unit, when it is legal, and how the code's structs hold it. RULES, "Picture area"; document
+-- 001, 5.4 to 5.8.
 use Prim.Native.Nat.{ℕ, _+_, _≤_, _<_}
 use mathlib.Core.Path.{_≡_}
 use mathlib.Core.Bool.{Bool, true, false, _&&_}
@@ -41,7 +42,8 @@ pub record LegalRecord (r : Record) : Type 0 where
 
 -- a record may follow another of a lower field, or one of its own field on a lower line (000, 6.2, third requirement)
 abbrev pub Follows : Record → Record → Type 0
-Follows earlier r = (fieldOf earlier < fieldOf r) ⊎ (fieldOf earlier ≡ fieldOf r × earlier .«line_offset» < r .«line_offset»)
+Follows earlier r =
+    (fieldOf earlier < fieldOf r) ⊎ (fieldOf earlier ≡ fieldOf r × earlier .«line_offset» < r .«line_offset»)
 
 abbrev pub InOrder : List Record → Type 0
 InOrder [] = Unit {0}
@@ -58,7 +60,7 @@ abbrev pub urgent : ℕ → List Record → ℕ
 urgent f [] = 0
 urgent f (r ∷ rs) = countIf (eqb (fieldOf r) f && eqb (r .«cc_priority») 0) + urgent f rs
 
--- 01, "Legal records"
+-- RULES, "Picture area", "The value"
 pub record Legal (c : Content) : Type 0 where
   pub reserved : c .reserved < 128
   pub flag : c .flag < 2
@@ -70,7 +72,14 @@ pub record Legal (c : Content) : Type 0 where
 
 -- a record of zeros, which fills the room beyond the n records
 abbrev pub blank : Record
-blank = record { «cc_priority» = 0; «field_number» = record { 0 = 0 }; «line_offset» = 0; «cc_data_1» = 0; «cc_data_2» = 0 }
+blank =
+    record {
+      «cc_priority» = 0;
+      «field_number» = record { 0 = 0 };
+      «line_offset» = 0;
+      «cc_data_1» = 0;
+      «cc_data_2» = 0;
+    }
 
 -- no value: what a refusal holds
 abbrev pub none : Content

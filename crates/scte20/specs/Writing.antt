@@ -1,18 +1,21 @@
--- What writing a caption unit's body answers, and what the lent output then holds, for every value and output. Document 01, "Which refusal comes
--- first": 15 of the whole value; each record in order 15, 7, 8, 9; then 1 for the length of the result; then 14.
+-- What writing a caption unit's body answers, and what the lent output then holds, for every value and output. RULES,
+-- "Order of checks": the whole value, record after record, the length of the result, the room.
 use Prim.Native.Nat.{ℕ, _+_}
 use mathlib.Core.Path.{_≡_}
 use mathlib.Core.Bool.{not, _&&_}
+use mathlib.Core.Logic.{_⊎_}
 use mathlib.Core.List.{List, [], _∷_}
 use lib.Dec.{eqb, ltb}
 use lib.ListN.{length}
 use Rattle.lists.specs.Room.{overAt}
+use Rattle.refusal.specs.declared.Refusal.{Refusal}
 use Rattle.refusal.specs.declared.Verdict.{Verdict}
 use Rattle.refusal.specs.declared.Verdict.the-variants.{Accepted, Refused}
 use Rattle.refusal.specs.declared.Reason.the-variants.{Unholdable}
 use Rattle.refusal.specs.declared.Excess.the-variants.{Count, Reserved, Flag, Stuffing, FlagWithRecords, Priority, FieldNumber, LineOffset}
 use Rattle.refusal.specs.declared.Item.the-variants.{Whole, Bit}
 use Rattle.refusal.specs.Checks.{refuseIf, andThen, first, fitVerdict}
+use Rattle.refusal.specs.Answers.{refused}
 use Rattle.scte20.specs.declared.Record.{Record}
 use Rattle.scte20.specs.declared.CaptionUnit.{CaptionUnit}
 use Rattle.scte20.specs.declared.Laid.{Laid}
@@ -54,6 +57,10 @@ recordsVerdict before at (r ∷ rs) =
 unfoldable pub valueVerdict : CaptionUnit → Verdict
 valueVerdict u = andThen (wholeVerdict u) (recordsVerdict [] 21 (held u .records))
 
+-- what a value that is not legal is refused with: 15, 7, 8 or 9
+abbrev pub ForValue : Refusal → Type 0
+ForValue r = (r ≡ refused 15 0) ⊎ ((r ≡ refused 7 0) ⊎ ((r ≡ refused 8 0) ⊎ (r ≡ refused 9 0)))
+
 -- then those of the result, which has `size` bytes
 abbrev pub writeVerdict : CaptionUnit → ℕ → ℕ → Verdict
 writeVerdict u size room = andThen (valueVerdict u) (fitVerdict 16384 size room)
@@ -71,7 +78,8 @@ abbrev pub bodyLeft : Verdict → ℕ → List ℕ → List ℕ → List ℕ
 bodyLeft Accepted at laid out = overAt at laid out
 bodyLeft (Refused reason item) at laid out = out
 
--- the promise of `write`. By its type the struct's data bytes are bytes and its array has 31 places; the code shows that too
+-- the promise of `write_from`, of the struct that it is told by numbers and a lent array (`unitIn`). By its type the
+-- data bytes are bytes and there are 31 places; the code shows that too
 pub record Writes (u : CaptionUnit) (before after : ℕ) (out : List ℕ) (answer : Laid) (exit : List ℕ) : Type 0 where
   pub typed : Typed u
   pub counted : answer ≡ laidOf (bodyVerdict u before after (length out)) (layout (held u))

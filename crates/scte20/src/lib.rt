@@ -1,6 +1,6 @@
 // SCTE 20 caption content: what a caption unit of a picture's user data holds behind its start code.
 //
-// Normative references: document 01, "Picture area"; document 001, 5.4 to 5.8.
+// Normative references: docs/RULES.md, "Picture area"; document 001, 5.4 to 5.8.
 mod lent;
 
 pub use lent::bytes_of;
@@ -64,12 +64,6 @@ pub struct Numbers {
 pub struct Head {
     pub verdict: Verdict,
     pub numbers: Numbers,
-}
-
-// What `scte20_reader::read` answers: the verdict, and the value, all zero where it refuses.
-pub struct Answer {
-    pub verdict: Verdict,
-    pub unit: CaptionUnit,
 }
 
 // What writing answers: the verdict, and how many bytes the body has, 0 where it refuses.

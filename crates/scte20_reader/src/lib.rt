@@ -1,6 +1,6 @@
 // Reading SCTE 20 caption content: the body of a caption unit, from left to right.
 //
-// Normative references: document 01, "Picture area" and "Which refusal comes first"; document 001, 5.4 to 5.8.
+// Normative references: docs/RULES.md, "Picture area" and "Order of checks"; document 001, 5.4 to 5.8.
 ghost use mathlib.Core.Path.{_≡_};
 ghost use Prim.Native.Nat.{_-_, _*_, _≤_, _<_};
 ghost use lib.ListN.{length};
@@ -8,14 +8,13 @@ ghost use Rattle.refusal.specs.declared.Verdict.the-variants.{Accepted};
 ghost use Rattle.refusal.specs.Checks.{andThen};
 ghost use Rattle.bits.specs.Bits.{bitsOf};
 ghost use Rattle.scte20.specs.Value.{none, stored};
-ghost use Rattle.scte20.specs.Reading.{headVerdict, flagIn, sampledVerdict, restVerdict, Reads};
+ghost use Rattle.scte20.specs.Reading.{headVerdict, flagIn, sampledVerdict, restVerdict};
 ghost use Rattle.scte20.specs.Lent.{numbersOf, ReadsInto};
 ghost use Rattle.scte20.specs.Inside.{constructOf, Runs};
 use refusal::Fixed;
 use refusal::Item;
 use refusal::Reason;
 use refusal::Verdict;
-use scte20::Answer;
 use scte20::CONSTRUCT_BITS;
 use scte20::CONSTRUCTS;
 use scte20::DisplayField;
@@ -28,18 +27,6 @@ use scte20::SAMPLED_BITS;
 
 // user_data_type_code, reserved and vbi_data_flag take two bytes; then cc_count begins.
 const COUNT: usize = 16;
-
-// Reads the body of a caption unit.
-pub fn read(body: &[u8]) -> Answer
-    ensures { λ r. ⌜ Reads (now (body .entry)) r ⌝ }
-{
-    let mut records = [0; LENT_RECORDS];
-    let head = read_into(body, &mut records);
-    let verdict = head.verdict;
-    let numbers = head.numbers;
-    let unit = scte20::unit_of(numbers, &records);
-    Answer { verdict, unit }
-}
 
 // Reads the body of a caption unit, its records into a lent array, which a refusal leaves as it is.
 pub fn read_into(body: &[u8], records: &mut [u8; LENT_RECORDS]) -> Head

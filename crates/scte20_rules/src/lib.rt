@@ -1,6 +1,6 @@
 // The rules over SCTE 20 records, which reading and writing share, and whether a value can be written.
 //
-// Normative references: document 01, "Picture area" and "Which refusal comes first"; document 001, 5.8.
+// Normative references: docs/RULES.md, "Picture area" and "Order of checks"; document 001, 5.8.
 mod judging;
 mod rules;
 

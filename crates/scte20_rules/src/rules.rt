@@ -1,4 +1,4 @@
-// The rules over a record and those before it (document 01, "Legal records").
+// The rules over a record and those before it (docs/RULES.md, "Picture area").
 ghost use mathlib.Core.Path.{_≡_};
 ghost use Prim.Native.Nat.{_+_, min};
 ghost use mathlib.Core.List.{[]};

@@ -1,4 +1,3 @@
 pub mod Packing
 pub mod Pieces
 pub mod Penned
-pub mod Theorems

@@ -8,8 +8,8 @@ use lib.ListN.{length, drop, length-append}
 use lib.Pow.{low}
 use lib.Seq.{sets}
 use Rattle.lists.specs.Room.{overAt}
-use Rattle.bits.specs.Bits.{bits, num, bytesOf, field, reversed, AreBits}
-use Rattle.bits.proofs.Numbers.{length-bits, bits-are, are-append, num-lt, num-bits-small, num-front}
+use Rattle.bits.specs.Bits.{bits, num, bytesOf, field, reversed}
+use Rattle.bits.proofs.Numbers.{AreBits, length-bits, bits-are, are-append, num-lt, num-bits-small, num-front}
 use Rattle.bits.proofs.Stream.{length-bytesOf}
 use Rattle.bits.proofs.Fields.{bytesAt, bytes-at, rest-at}
 use Rattle.bits.proofs.Turn.{reversed-lt}

@@ -9,8 +9,8 @@ use lib.ListN.{length, getD, take, drop, set, replicate, length-append, length-d
 use lib.Seq.{take-at, take-suc, drop-drop, drop-append-le}
 use Rattle.lists.specs.Room.{overAt}
 use Rattle.lists.proofs.Lay.{length-overAt, sets-overAt, overAt-overAt}
-use Rattle.bits.specs.Bits.{bits, num, bytesOf, AreBits}
-use Rattle.bits.proofs.Numbers.{length-bits, num-bits-small, num-lt, bits-num, are-drop}
+use Rattle.bits.specs.Bits.{bits, num, bytesOf}
+use Rattle.bits.proofs.Numbers.{AreBits, length-bits, num-bits-small, num-lt, bits-num, are-drop}
 use Rattle.bits.proofs.Stream.{length-bytesOf, bytesOf-add, bytesOf-front}
 use Rattle.bits.proofs.Runs.{bits-shifted}
 use Rattle.scte20.specs.declared.Record.{Record}

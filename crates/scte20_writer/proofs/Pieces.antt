@@ -11,13 +11,12 @@ use Rattle.lists.specs.Bytes.{Bytes}
 use Rattle.lists.specs.Room.{over, overAt}
 use Rattle.lists.proofs.Lay.{length-over, take-over, length-rest}
 use Rattle.lists.proofs.Each.{each-append, each-replicate}
-use Rattle.bits.specs.Bits.{bits, num, bitsOf, bytesOf, AreBits}
-use Rattle.bits.proofs.Numbers.{num-append, num-bits-small, bits-add, are-append, are-zeros, bits-are}
+use Rattle.bits.specs.Bits.{bits, num, bitsOf, bytesOf}
+use Rattle.bits.proofs.Numbers.{AreBits, num-append, num-bits-small, bits-add, are-append, are-zeros, bits-are}
 use Rattle.bits.proofs.Stream.{bitsOf-append, bitsOf-zeros, bitsOf-same, length-bytesOf, bytesOf-bytes, bitsOf-bytesOf, bytesOf-front}
 use Rattle.scte20.specs.declared.Record.{Record}
 use Rattle.scte20.specs.Value.{Content}
-use Rattle.scte20.specs.Layout.{constructsBits, itemBits, padding, layout}
-use Rattle.scte20.specs.Reading.{sizeIn}
+use Rattle.scte20.specs.Layout.{constructsBits, itemBits, padding, layout, sizeIn}
 use Rattle.scte20_writer.specs.Inside.{countedBits, countedSize, countedBytes}
 use Rattle.scte20.proofs.Constructs.{length-constructs}
 use Rattle.scte20.proofs.Sizes.{padded, length-items, length-layout, constructs-are, layout-bytes, bitsOf-layout}

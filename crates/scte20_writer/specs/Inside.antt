@@ -13,7 +13,8 @@ use Rattle.scte20_writer.specs.declared.Pen.{Pen}
 abbrev pub pushed : Pen → ℕ → List ℕ
 pushed p c = bits (p .width) (p .bits) ++ bits 26 c
 
--- the promise of `push`: the bytes that these bits fill stand in the output from where the pen was, and what is left over waits in the pen
+-- the promise of `push`: the bytes that these bits fill stand in the output from where the pen was, and what is left
+-- over waits in the pen
 pub record Pushes (p : Pen) (c : ℕ) (out : List ℕ) (r : Pen) (exit : List ℕ) : Type 0 where
   pub at : r .at ≡ p .at + (p .width + 26) / 8
   pub width : r .width ≡ (p .width + 26) % 8

@@ -1,6 +1,6 @@
 // Writing SCTE 20 caption content: the body of a caption unit.
 //
-// Normative references: document 01, "Picture area" and "Which refusal comes first"; document 001, 5.4 to 5.8.
+// Normative references: docs/RULES.md, "Picture area" and "Order of checks"; document 001, 5.4 to 5.8.
 ghost use mathlib.Core.Path.{_≡_};
 ghost use Prim.Native.Nat.{_+_, _≤_, _<_, _^_};
 ghost use lib.ListN.{length, replicate};
@@ -9,8 +9,7 @@ ghost use Rattle.refusal.specs.declared.Verdict.the-variants.{Accepted};
 ghost use Rattle.refusal.specs.Checks.{fitVerdict};
 ghost use Rattle.bits.specs.Bits.{num};
 ghost use Rattle.scte20.specs.Value.{held, Ranged};
-ghost use Rattle.scte20.specs.Layout.{constructBits, layout};
-ghost use Rattle.scte20.specs.Reading.{sizeIn};
+ghost use Rattle.scte20.specs.Layout.{constructBits, layout, sizeIn};
 ghost use Rattle.scte20.specs.Lent.{unitIn};
 ghost use Rattle.scte20.specs.Writing.{valueVerdict, Writes};
 ghost use Rattle.scte20_writer.specs.Inside.{countedBytes, countedSize, Pushes};
@@ -19,7 +18,6 @@ use refusal::Reason;
 use refusal::Verdict;
 use scte20::CONSTRUCT_BITS;
 use scte20::CONSTRUCTS;
-use scte20::CaptionUnit;
 use scte20::LENT_RECORDS;
 use scte20::Laid;
 use scte20::MAX_BYTES;
@@ -35,17 +33,8 @@ struct Pen {
     bits: u64,
 }
 
-// Writes a unit's body into out from index `before` on. Judged is the whole result, which has `before` bytes in front of the
-// body and `after` bytes behind it.
-pub fn write(unit: CaptionUnit, before: usize, after: usize, out: &mut [u8]) -> Laid
-    ensures { λ r. ⌜ Writes unit before after (now (out .entry)) r (now (out .exit)) ⌝ }
-{
-    let numbers = scte20::numbers_of(unit);
-    let records = scte20::bytes_of(unit);
-    write_from(numbers, &records, before, after, out)
-}
-
-// The same of the value that numbers and a lent array tell.
+// Writes the body of the unit that numbers and a lent array tell, into out from index `before` on. Judged is the whole result,
+// which has `before` bytes in front of the body and `after` bytes behind it.
 pub fn write_from(
     v: Numbers,
     records: &[u8; LENT_RECORDS],

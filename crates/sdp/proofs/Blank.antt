@@ -11,7 +11,7 @@ use lib.Bits.{bitOr, or-zero-l, or-add-and, and-le-r}
 use lib.Dec.{eqb}
 use lib.ListN.{length, getD, take}
 use lib.Seq.{take-suc}
-use Rattle.sdp.specs.Holdable.{allZero}
+use Rattle.sdp.specs.SlotVerdict.{allZero}
 
 or-blank : (a b : ℕ) → eqb (bitOr a b) 0 ≡ (eqb a 0 && eqb b 0)
 or-blank zero b = ap (λ (n : ℕ). eqb n 0) (or-zero-l b)

@@ -16,18 +16,19 @@ use Rattle.refusal.specs.declared.Reason.the-variants.{Unholdable, DescriptorLi
 use Rattle.refusal.specs.declared.Excess.the-variants.{SlotMark, SlotLine, SlotReserved, SlotField, SlotUnwritable}
 use Rattle.refusal.specs.declared.Item.the-variants.{Whole}
 use Rattle.refusal.specs.Numbers.{refusalOf}
+use Rattle.refusal.specs.Answers.{refused}
 use Rattle.refusal.specs.Checks.{refuseIf, andThen, first}
 use Rattle.refusal.proofs.Checks.{accepted-refuseIf, accepted-within, accepted-andThen, andThen-assoc, andThen-last}
 use Rattle.refusal.proofs.Gives.{Gives, refuseIf-gives, andThen-gives, refused-gives}
 use Rattle.sdp.specs.Value.{SlotRow, descriptor, emptyRow, LegalLine, Row}
 use Rattle.sdp.specs.User.{lineVerdict}
-use Rattle.sdp.specs.Holdable.{allZero, unwritable, slotVerdict}
+use Rattle.sdp.specs.SlotVerdict.{allZero, unwritable, slotVerdict}
 use Rattle.sdp.specs.SlotFaults.{Holdable, Unwritable, NoLine}
 use Rattle.sdp.proofs.Slots.{line-accepted}
 use Rattle.sdp.proofs.Numbers.{accepted-slot}
 
 abbrev is : ℕ → Refusal → Type 0
-is number r = r ≡ record { number = number; place = 0 }
+is number r = r ≡ refused number 0
 
 other : {P : Type 0} (v : Verdict) (a b : ℕ) → (a ≡ b → ⊥) → is a (refusalOf v) → is b (refusalOf v) → P
 other v a b h p q = absurd (h (ap (λ (r : Refusal). r .number) (sym p ∙ q)))
@@ -99,20 +100,20 @@ line-or-none l h = ⊎-elim (λ e. low (omega arith)) (λ p. ⊎-elim (λ e. inl
     low few = ⊎-elim (λ e. inl (inl e)) (λ some. inr (inl (some, few))) (eq-zero-or-pos l)
 
 -- 15 exactly where a number cannot be held or the slot is unwritable,
-pub slot-15 : (x : SlotRow) → refusalOf (slotVerdict x) ≡ record { number = 15; place = 0 } ↔ (Holdable x → ⊥)
+pub slot-15 : (x : SlotRow) → refusalOf (slotVerdict x) ≡ refused 15 0 ↔ (Holdable x → ⊥)
 slot-15 x = (
   λ e h. ⊎-elim (λ legal. accepts e h legal) (λ none. seven e h none) (line-or-none (x .slot .line) (h .line)),
   λ h. subst (λ (v : Verdict). is 15 (refusalOf v)) (sym (slot-split x)) (refused-gives (is 15) (numbers x) (lineVerdict Whole (x .slot .line)) (numbers-15 x) (λ e. h (accepted-holdable x e))),
 )
   where
-    accepts : refusalOf (slotVerdict x) ≡ record { number = 15; place = 0 } → Holdable x → LegalLine (x .slot .line) → ⊥
+    accepts : refusalOf (slotVerdict x) ≡ refused 15 0 → Holdable x → LegalLine (x .slot .line) → ⊥
     accepts e h legal = other (slotVerdict x) 15 0 (λ z. omega arith) e (ap refusalOf (holdable-line x h ∙ line-accepted Whole (x .slot .line) legal))
 
-    seven : refusalOf (slotVerdict x) ≡ record { number = 15; place = 0 } → Holdable x → NoLine (x .slot .line) → ⊥
+    seven : refusalOf (slotVerdict x) ≡ refused 15 0 → Holdable x → NoLine (x .slot .line) → ⊥
     seven e h none = other (slotVerdict x) 15 7 (λ z. omega arith) e (ap refusalOf (holdable-line x h ∙ line-7 (x .slot .line) none))
 
 -- and else 7 exactly where its line is 1 to 5 or 23 to 31
-pub slot-7 : (x : SlotRow) → refusalOf (slotVerdict x) ≡ record { number = 7; place = 0 } ↔ (Holdable x × NoLine (x .slot .line))
+pub slot-7 : (x : SlotRow) → refusalOf (slotVerdict x) ≡ refused 7 0 ↔ (Holdable x × NoLine (x .slot .line))
 slot-7 x = (
   λ e. let h = holdable e in (h, ⊎-elim (λ legal. accepts e h legal) (λ none. none) (line-or-none (x .slot .line) (h .line))),
   λ w. ap refusalOf (holdable-line x (w .0) ∙ line-7 (x .slot .line) (w .1)),
@@ -121,12 +122,12 @@ slot-7 x = (
     refuses : is 15 (refusalOf (numbers x)) → numbers x ≡ Accepted → ⊥
     refuses p e = other (numbers x) 15 0 (λ z. omega arith) p (ap refusalOf e)
 
-    holdable : refusalOf (slotVerdict x) ≡ record { number = 7; place = 0 } → Holdable x
+    holdable : refusalOf (slotVerdict x) ≡ refused 7 0 → Holdable x
     holdable e =
         ⊎-elim (accepted-holdable x)
         (λ p. other (slotVerdict x) 7 15 (λ z. omega arith) e (slot-15 x .1 (λ h. refuses p (holdable-accepted x h)))) (numbers-15 x)
 
-    accepts : {P : Type 0} → refusalOf (slotVerdict x) ≡ record { number = 7; place = 0 } → Holdable x → LegalLine (x .slot .line) → P
+    accepts : {P : Type 0} → refusalOf (slotVerdict x) ≡ refused 7 0 → Holdable x → LegalLine (x .slot .line) → P
     accepts e h legal = other (slotVerdict x) 7 0 (λ z. omega arith) e (ap refusalOf (holdable-line x h ∙ line-accepted Whole (x .slot .line) legal))
 
 both-true : (a b : Bool) → not (a && b) ≡ false → a ≡ true
@@ -134,7 +135,7 @@ both-true true b e = refl
 both-true false b e = absurd (true≢false e)
 
 -- an unwritable slot gives 15
-pub unwritable-15 : (x : SlotRow) → Row (x .row) → Unwritable x → refusalOf (slotVerdict x) ≡ record { number = 15; place = 0 }
+pub unwritable-15 : (x : SlotRow) → Row (x .row) → Unwritable x → refusalOf (slotVerdict x) ≡ refused 15 0
 unwritable-15 x row w = slot-15 x .1 (λ h. ⊎-elim (full h) (empty h) w)
   where
     full : Holdable x → (x .slot .full ≡ 1) × (descriptor (x .slot) ≡ 0) → ⊥

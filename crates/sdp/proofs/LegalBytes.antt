@@ -12,7 +12,7 @@ use Rattle.lists.proofs.Each.{each-append}
 use Rattle.sdp.specs.Value.{SlotRow, Sdp, LegalSlot, Legal, descriptor}
 use Rattle.sdp.specs.Layout.{descriptorsOf, count, structure, structures, footer, body, sdpChecksum, userBytes}
 use Rattle.sdp.proofs.Slots.{descriptors-below}
-use Rattle.sdp.proofs.Numbers.{count-most, length-user}
+use Rattle.sdp.proofs.Numbers.{count-most, user-size}
 
 abbrev Byte : ℕ → Type 0
 Byte b = b < 256
@@ -60,7 +60,7 @@ module _ (v : Sdp) (h : Legal v) where
   user-bytes = each-append Byte (body v) (sdpChecksum (body v) ∷ []) body-bytes (omega arith, tt)
 
   pub user-long : 13 ≤ length (userBytes v)
-  user-long = omega (arith, length-user v h)
+  user-long = omega (arith, user-size v h)
 
   pub user-short : length (userBytes v) ≤ 238
-  user-short = omega (arith, length-user v h, few)
+  user-short = omega (arith, user-size v h, few)

@@ -11,4 +11,6 @@ pub mod Types
 pub mod Blank
 pub mod Sequence
 pub mod Fifteen
+pub mod Accepting
+pub mod Determined
 pub mod Theorems

@@ -16,10 +16,10 @@ use Rattle.refusal.specs.declared.Item.the-variants.{Whole}
 use Rattle.refusal.proofs.Checks.{accepted-refuseIf, accepted-andThen, accepted-each, each-accepted, accepted-within}
 use Rattle.sdp.specs.declared.Slot.{Slot}
 use Rattle.sdp.specs.declared.Packet.{Packet}
-use Rattle.sdp.specs.Value.{SlotRow, Sdp, descriptor, zeros, together, emptyRow, LegalLine, FullSlot, LegalSlot, Legal, beside, held, Row, Typed}
+use Rattle.sdp.specs.Value.{SlotRow, Sdp, descriptor, zeroRow, together, emptyRow, LegalLine, FullSlot, LegalSlot, Legal, beside, held, Row, Typed}
 use Rattle.sdp.specs.Layout.{descriptorsOf, count, structure, structures, userLength, body, userBytes}
 use Rattle.sdp.specs.User.{lineVerdict}
-use Rattle.sdp.specs.Holdable.{allZero, unwritable, slotVerdict, slotsVerdict}
+use Rattle.sdp.specs.SlotVerdict.{allZero, unwritable, slotVerdict, slotsVerdict}
 use Rattle.sdp.proofs.Slots.{accepted-line, line-accepted, legal-below}
 
 -- ONE SLOT
@@ -49,7 +49,7 @@ module _ (x : SlotRow) (typed : Row (x .row)) (small : Small (x .slot)) (legal :
       let line : s .line ≡ 0 = omega arith in
       let reserved : s .reserved ≡ 0 = omega arith in
       let field : s .field .0 ≡ 0 = omega arith in
-      let row : x .row ≡ zeros = all-zero (x .row) (both .1) ∙ ap (λ (n : ℕ). replicate n 0) (typed .0) in
+      let row : x .row ≡ zeroRow = all-zero (x .row) (both .1) ∙ ap (λ (n : ℕ). replicate n 0) (typed .0) in
       inl (λ i. together (record { full = none i; line = line i; reserved = reserved i; field = record { 0 = field i } }) (row i))
 
   legal-some : (m : ℕ) → x .slot .full ≡ suc m → eqb (descriptor (x .slot)) 0 ≡ false → LegalSlot x
@@ -178,38 +178,38 @@ module _ (v : Sdp) (h : Shaped v) where
   pub length-user-shaped : length (userBytes v) ≡ userLength (count (descriptorsOf (v .slots)))
   length-user-shaped = length-append (body v) _ ∙ omega (arith, length-body)
 
-pub length-user : (v : Sdp) → Legal v → length (userBytes v) ≡ userLength (count (descriptorsOf (v .slots)))
-length-user v h = length-user-shaped v (legal-shaped v h)
+pub user-size : (v : Sdp) → Legal v → length (userBytes v) ≡ userLength (count (descriptorsOf (v .slots)))
+user-size v h = length-user-shaped v (legal-shaped v h)
 
 -- WHAT THE CODE HOLDS
 
-pub descriptors-beside : (ss : List Slot) (rows : List (List ℕ)) → length ss ≡ length rows → descriptorsOf (beside ss rows) ≡ map descriptor ss
-descriptors-beside [] rows e = refl
-descriptors-beside (s ∷ ss) [] e = let f : ⊥ = omega arith in absurd f
-descriptors-beside (s ∷ ss) (row ∷ rows) e =
+pub beside-descriptors : (ss : List Slot) (rows : List (List ℕ)) → length ss ≡ length rows → descriptorsOf (beside ss rows) ≡ map descriptor ss
+beside-descriptors [] rows e = refl
+beside-descriptors (s ∷ ss) [] e = let f : ⊥ = omega arith in absurd f
+beside-descriptors (s ∷ ss) (row ∷ rows) e =
     let rest : length ss ≡ length rows = omega arith in
-    ap (λ (ds : List ℕ). descriptor s ∷ ds) (descriptors-beside ss rows rest)
+    ap (λ (ds : List ℕ). descriptor s ∷ ds) (beside-descriptors ss rows rest)
 
 pub length-beside : (ss : List Slot) (rows : List (List ℕ)) → length ss ≡ length rows → length (beside ss rows) ≡ length ss
 length-beside [] rows e = refl
 length-beside (s ∷ ss) [] e = let f : ⊥ = omega arith in absurd f
 length-beside (s ∷ ss) (row ∷ rows) e = let rest : length ss ≡ length rows = omega arith in ap suc (length-beside ss rows rest)
 
-pub each-beside : (ss : List Slot) (rows : List (List ℕ)) → Each Row rows → Each RowSlot (beside ss rows)
-each-beside [] rows h = tt
-each-beside (s ∷ ss) [] h = tt
-each-beside (s ∷ ss) (row ∷ rows) h = (h .0, each-beside ss rows (h .1))
+pub beside-each : (ss : List Slot) (rows : List (List ℕ)) → Each Row rows → Each RowSlot (beside ss rows)
+beside-each [] rows h = tt
+beside-each (s ∷ ss) [] h = tt
+beside-each (s ∷ ss) (row ∷ rows) h = (h .0, beside-each ss rows (h .1))
 
 module _ (p : Packet) (rows : List (List ℕ)) (t : Typed p rows) where
   pub length-held : length (held p rows .slots) ≡ 5
   length-held = length-beside (p .slots) rows (t .slots ∙ sym (t .five)) ∙ t .slots
 
-  pub descriptors-held : descriptorsOf (held p rows .slots) ≡ map descriptor (p .slots)
-  descriptors-held = descriptors-beside (p .slots) rows (t .slots ∙ sym (t .five))
+  pub held-descriptors : descriptorsOf (held p rows .slots) ≡ map descriptor (p .slots)
+  held-descriptors = beside-descriptors (p .slots) rows (t .slots ∙ sym (t .five))
 
   pub held-shaped : Shaped (held p rows)
-  held-shaped = record { five = length-held; wide = each-map RowSlot Wide (λ x row. row .0) (held p rows .slots) (each-beside (p .slots) rows (t .each)) }
+  held-shaped = record { five = length-held; wide = each-map RowSlot Wide (λ x row. row .0) (held p rows .slots) (beside-each (p .slots) rows (t .each)) }
 
-pub legal-held : (p : Packet) (rows : List (List ℕ)) → Typed p rows → p .counter ≤ 65535 → slotsVerdict (held p rows .slots) ≡ Accepted → Legal (held p rows)
-legal-held p rows t few e =
-    record { count = omega arith; five = length-held p rows t; each = accepted-slots (held p rows .slots) (each-beside (p .slots) rows (t .each)) e }
+pub checked-legal : (p : Packet) (rows : List (List ℕ)) → Typed p rows → p .counter ≤ 65535 → slotsVerdict (held p rows .slots) ≡ Accepted → Legal (held p rows)
+checked-legal p rows t few e =
+    record { count = omega arith; five = length-held p rows t; each = accepted-slots (held p rows .slots) (beside-each (p .slots) rows (t .each)) e }

@@ -18,9 +18,9 @@ use Rattle.sdp.specs.Value.{SlotRow, Sdp, descriptor, Legal}
 use Rattle.sdp.specs.Layout.{descriptorsOf, count, structures, userLength, footer, body, sdpChecksum, userBytes}
 use Rattle.sdp.specs.User.{descriptorsVerdict, structuresVerdict, descriptorsIn, structuresIn, headVerdict, tailVerdict, userVerdict, slotsIn, counterIn, userValue}
 use Rattle.sdp.proofs.Slots.{lines-accepted}
-use Rattle.sdp.proofs.Structures.{Laid, structures-accepted, slots-structures, structures-laid}
+use Rattle.sdp.proofs.Structures.{Laid, structures-accepted, structures-slots, structures-laid}
 use Rattle.sdp.proofs.Accepted.{Head, Tail}
-use Rattle.sdp.proofs.Numbers.{length-user}
+use Rattle.sdp.proofs.Numbers.{user-size}
 
 -- LAID, THEN READ
 
@@ -55,60 +55,60 @@ module _ (v : Sdp) (h : Legal v) where
   ended : userBytes v ≡ front ++ last
   ended = parted ∙ ap (λ (r : List ℕ). 0x51 ∷ 0x15 ∷ userLength (count ds) ∷ 0x02 ∷ r) (sym (append-assoc ds (structures (v .slots)) last))
 
-  descriptors-user : descriptorsIn (userBytes v) ≡ ds
-  descriptors-user = ap descriptorsIn parted ∙ five-in ds (structures (v .slots) ++ last) 0x51 0x15 (userLength (count ds)) 0x02 five
+  user-descriptors : descriptorsIn (userBytes v) ≡ ds
+  user-descriptors = ap descriptorsIn parted ∙ five-in ds (structures (v .slots) ++ last) 0x51 0x15 (userLength (count ds)) 0x02 five
 
-  behind-user : drop 9 (userBytes v) ≡ structures (v .slots) ++ last
-  behind-user = ap (λ (u : List ℕ). drop 9 u) parted ∙ behind-in ds (structures (v .slots) ++ last) 0x51 0x15 (userLength (count ds)) 0x02 five
+  user-behind : drop 9 (userBytes v) ≡ structures (v .slots) ++ last
+  user-behind = ap (λ (u : List ℕ). drop 9 u) parted ∙ behind-in ds (structures (v .slots) ++ last) 0x51 0x15 (userLength (count ds)) 0x02 five
 
   length-front : length front + 4 ≡ length (userBytes v)
   length-front = sym (ap length ended ∙ length-append front last)
 
   -- the byte i of the footer
-  last-user : (i : ℕ) → getD (userBytes v) (length front + i) 0 ≡ getD last i 0
-  last-user i = ap (λ (u : List ℕ). getD u (length front + i) 0) ended ∙ getD-append-add front last i 0
+  user-last : (i : ℕ) → getD (userBytes v) (length front + i) 0 ≡ getD last i 0
+  user-last i = ap (λ (u : List ℕ). getD u (length front + i) 0) ended ∙ getD-append-add front last i 0
 
   at-front : (k : ℕ) → k ≤ 4 → length (userBytes v) - k ≡ length front + (4 - k)
   at-front k few = omega (arith, length-front)
 
-  pub sum-user : sum (userBytes v) % 256 ≡ 0
+  pub user-sum : sum (userBytes v) % 256 ≡ 0
   unfolding sdpChecksum
-  sum-user = omega (arith, sum-append (body v) (sdpChecksum (body v) ∷ []))
+  user-sum = omega (arith, sum-append (body v) (sdpChecksum (body v) ∷ []))
 
-  counter-user : counterIn (userBytes v) ≡ v .counter
+  user-counter : counterIn (userBytes v) ≡ v .counter
   unfolding counterIn
-  counter-user =
+  user-counter =
       let three : 3 ≤ 4 = omega arith in
       let two : 2 ≤ 4 = omega arith in
-      let high = ap (λ (i : ℕ). getD (userBytes v) i 0) (at-front 3 three) ∙ last-user 1 in
-      let low = ap (λ (i : ℕ). getD (userBytes v) i 0) (at-front 2 two) ∙ last-user 2 in
+      let high = ap (λ (i : ℕ). getD (userBytes v) i 0) (at-front 3 three) ∙ user-last 1 in
+      let low = ap (λ (i : ℕ). getD (userBytes v) i 0) (at-front 2 two) ∙ user-last 2 in
       omega (arith, high, low)
 
-  head-user : (dc : ℕ) → headVerdict dc (userBytes v) ≡ Accepted
+  user-head : (dc : ℕ) → headVerdict dc (userBytes v) ≡ Accepted
   unfolding headVerdict
-  head-user dc =
-      let long : 13 ≤ length (userBytes v) = omega (arith, length-user v h) in
-      let lines = ap (descriptorsVerdict (dc + 5)) descriptors-user ∙ lines-accepted (dc + 5) (v .slots) (h .each) in
-      let fits : length (userBytes v) ≡ userLength (structuresIn (userBytes v)) = length-user v h ∙ ap (λ (d : List ℕ). userLength (count d)) (sym descriptors-user) in
-      simp (le-ltb (length (userBytes v)) 13 long, eq-eqb (userLength (count ds)) (length (userBytes v)) (sym (length-user v h)), lines, eq-eqb (length (userBytes v)) (userLength (structuresIn (userBytes v))) fits)
+  user-head dc =
+      let long : 13 ≤ length (userBytes v) = omega (arith, user-size v h) in
+      let lines = ap (descriptorsVerdict (dc + 5)) user-descriptors ∙ lines-accepted (dc + 5) (v .slots) (h .each) in
+      let fits : length (userBytes v) ≡ userLength (structuresIn (userBytes v)) = user-size v h ∙ ap (λ (d : List ℕ). userLength (count d)) (sym user-descriptors) in
+      simp (le-ltb (length (userBytes v)) 13 long, eq-eqb (userLength (count ds)) (length (userBytes v)) (sym (user-size v h)), lines, eq-eqb (length (userBytes v)) (userLength (structuresIn (userBytes v))) fits)
 
-  tail-user : (dc : ℕ) → tailVerdict dc (userBytes v) ≡ Accepted
+  user-tail : (dc : ℕ) → tailVerdict dc (userBytes v) ≡ Accepted
   unfolding tailVerdict
-  tail-user dc =
-      let fixed = ap₂ (λ (d r : List ℕ). structuresVerdict (dc + 10) (count d) r) descriptors-user behind-user ∙ structures-accepted (dc + 10) (v .slots) (h .each) last in
+  user-tail dc =
+      let fixed = ap₂ (λ (d r : List ℕ). structuresVerdict (dc + 10) (count d) r) user-descriptors user-behind ∙ structures-accepted (dc + 10) (v .slots) (h .each) last in
       let four : 4 ≤ 4 = omega arith in
-      let foot = ap (λ (i : ℕ). getD (userBytes v) i 0) (at-front 4 four) ∙ last-user 0 in
-      simp (fixed, eq-eqb (getD (userBytes v) (length (userBytes v) - 4) 0) 0x74 foot, eq-eqb (sum (userBytes v) % 256) 0 sum-user)
+      let foot = ap (λ (i : ℕ). getD (userBytes v) i 0) (at-front 4 four) ∙ user-last 0 in
+      simp (fixed, eq-eqb (getD (userBytes v) (length (userBytes v) - 4) 0) 0x74 foot, eq-eqb (sum (userBytes v) % 256) 0 user-sum)
 
   -- they are let through,
   pub user-accepted : (dc : ℕ) → userVerdict dc (userBytes v) ≡ Accepted
-  user-accepted dc = andThen-accepted (headVerdict dc (userBytes v)) (tailVerdict dc (userBytes v)) (head-user dc) (tail-user dc)
+  user-accepted dc = andThen-accepted (headVerdict dc (userBytes v)) (tailVerdict dc (userBytes v)) (user-head dc) (user-tail dc)
 
   -- and hold the value
-  pub value-user : userValue (userBytes v) ≡ v
-  value-user =
-      let slots = ap₂ slotsIn descriptors-user behind-user ∙ slots-structures (v .slots) (h .each) last in
-      λ i. record { counter = counter-user i; slots = slots i }
+  pub user-value : userValue (userBytes v) ≡ v
+  user-value =
+      let slots = ap₂ slotsIn user-descriptors user-behind ∙ structures-slots (v .slots) (h .each) last in
+      λ i. record { counter = user-counter i; slots = slots i }
 
 -- READ, THEN LAID
 

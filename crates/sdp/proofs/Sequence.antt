@@ -1,4 +1,4 @@
--- The definitions check descriptors, structures and slots in 01's sequence.
+-- The definitions check descriptors, structures and slots in the order of RULES.
 -- Assumes nothing.
 use Prim.Native.Nat.{ℕ, zero, suc, _+_}
 use mathlib.Core.Path.{_≡_, refl}
@@ -9,7 +9,7 @@ use Rattle.refusal.proofs.Checks.{andThen-assoc}
 use Rattle.refusal.proofs.Sequence.{first-each}
 use Rattle.sdp.specs.Value.{SlotRow}
 use Rattle.sdp.specs.User.{lineVerdict, descriptorsVerdict, structureVerdict, structuresVerdict}
-use Rattle.sdp.specs.Holdable.{slotVerdict, slotsVerdict}
+use Rattle.sdp.specs.SlotVerdict.{slotVerdict, slotsVerdict}
 use Rattle.refusal.specs.Order.{eachOf}
 use Rattle.sdp.specs.Order.{descriptorsChecks, structuresChecks, slotChecks}
 

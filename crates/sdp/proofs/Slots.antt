@@ -14,7 +14,7 @@ use Rattle.refusal.specs.declared.Verdict.the-variants.{Accepted}
 use Rattle.refusal.specs.declared.Item.{Item}
 use Rattle.refusal.specs.declared.Item.the-variants.{Word}
 use Rattle.refusal.proofs.Checks.{accepted-refuseIf, andThen-accepted}
-use Rattle.sdp.specs.Value.{SlotRow, descriptor, empty, LegalLine, FullSlot, LegalSlot}
+use Rattle.sdp.specs.Value.{SlotRow, descriptor, emptySlot, LegalLine, FullSlot, LegalSlot}
 use Rattle.sdp.specs.Layout.{descriptorsOf}
 use Rattle.sdp.specs.User.{lineVerdict, descriptorsVerdict, markOf, slotOf}
 
@@ -48,9 +48,9 @@ pub legal-below : (l : ℕ) → LegalLine l → l < 32
 legal-below l h = ⊎-elim (λ e. omega arith) (λ w. omega (arith, w .1)) h
 
 -- a byte is the descriptor of the slot that it tells of
-pub descriptor-slotOf : (d : ℕ) → d < 256 → descriptor (slotOf d) ≡ d
+pub slotOf-descriptor : (d : ℕ) → d < 256 → descriptor (slotOf d) ≡ d
 unfolding slotOf
-descriptor-slotOf d h = omega arith
+slotOf-descriptor d h = omega arith
 
 pub mark-some : (d : ℕ) → (d ≡ 0 → ⊥) → markOf d ≡ 1
 mark-some zero h = absurd (h refl)
@@ -72,12 +72,12 @@ full-slotOf x h =
     let field : descriptor s / 128 ≡ s .field .0 = omega arith in
     λ i. record { full = mark i; line = line i; reserved = reserved i; field = record { 0 = field i } }
 
-empty-slotOf : slotOf 0 ≡ empty
+empty-slotOf : slotOf 0 ≡ emptySlot
 unfolding slotOf
 empty-slotOf = refl
 
-pub slotOf-descriptor : (x : SlotRow) → LegalSlot x → slotOf (descriptor (x .slot)) ≡ x .slot
-slotOf-descriptor x h = ⊎-elim (λ e. subst (λ (y : SlotRow). slotOf (descriptor (y .slot)) ≡ y .slot) (sym e) empty-slotOf) (full-slotOf x) h
+pub descriptor-slotOf : (x : SlotRow) → LegalSlot x → slotOf (descriptor (x .slot)) ≡ x .slot
+descriptor-slotOf x h = ⊎-elim (λ e. subst (λ (y : SlotRow). slotOf (descriptor (y .slot)) ≡ y .slot) (sym e) empty-slotOf) (full-slotOf x) h
 
 pub descriptor-below : (x : SlotRow) → LegalSlot x → descriptor (x .slot) < 256
 descriptor-below x h =

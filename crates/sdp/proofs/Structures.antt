@@ -13,26 +13,26 @@ use Rattle.lists.proofs.Each.{each-take, each-drop}
 use Rattle.refusal.specs.declared.Verdict.the-variants.{Accepted}
 use Rattle.refusal.specs.declared.Item.the-variants.{Word}
 use Rattle.refusal.proofs.Checks.{accepted-andThen, accepted-equal}
-use Rattle.sdp.specs.Value.{SlotRow, together, descriptor, zeros, FullSlot, LegalSlot}
+use Rattle.sdp.specs.Value.{SlotRow, together, descriptor, zeroRow, FullSlot, LegalSlot}
 use Rattle.sdp.specs.Layout.{descriptorsOf, count, structure, structures}
 use Rattle.sdp.specs.User.{lineVerdict, descriptorsVerdict, structureVerdict, structuresVerdict, slotOf, rowIn, behind, slotsIn}
 use Rattle.sdp.proofs.Numbers.{legal-wide}
-use Rattle.sdp.proofs.Slots.{accepted-line, descriptor-slotOf, slotOf-descriptor}
+use Rattle.sdp.proofs.Slots.{accepted-line, slotOf-descriptor, descriptor-slotOf}
 
 -- LAID, THEN READ
 
-legal-zeros : (x : SlotRow) → LegalSlot x → descriptor (x .slot) ≡ 0 → x .row ≡ zeros
+legal-zeros : (x : SlotRow) → LegalSlot x → descriptor (x .slot) ≡ 0 → x .row ≡ zeroRow
 legal-zeros x h none = ⊎-elim (λ e. ap (λ (y : SlotRow). y .row) e) (λ full. let f : ⊥ = omega (arith, full .some) in absurd f) h
 
 -- a row of 42 bytes in its structure, ahead of anything
 module _ (row rest : List ℕ) (places : length row ≡ 42) where
-  rowIn-structure : (d : ℕ) → (d ≡ 0 → row ≡ zeros) → rowIn d (structure d row ++ rest) ≡ row
-  rowIn-structure zero blank = sym (blank refl)
-  rowIn-structure (suc d) blank = take-at row rest 42 places
+  structure-rowIn : (d : ℕ) → (d ≡ 0 → row ≡ zeroRow) → rowIn d (structure d row ++ rest) ≡ row
+  structure-rowIn zero blank = sym (blank refl)
+  structure-rowIn (suc d) blank = take-at row rest 42 places
 
-  behind-structure : (d : ℕ) → behind d (structure d row ++ rest) ≡ rest
-  behind-structure zero = refl
-  behind-structure (suc d) = drop-at row rest 42 places
+  structure-behind : (d : ℕ) → behind d (structure d row ++ rest) ≡ rest
+  structure-behind zero = refl
+  structure-behind (suc d) = drop-at row rest 42 places
 
   -- its fixed bytes are right, and the structures behind it decide
   structure-accepted : (at d : ℕ) (ds : List ℕ) → ((next : ℕ) → structuresVerdict next (count ds) rest ≡ Accepted)
@@ -53,17 +53,17 @@ structures-accepted at (x ∷ xs) h rest =
     ∙ structure-accepted (x .row) (structures xs ++ rest) (legal-wide x (h .0)) at d (descriptorsOf xs)
     (λ next. structures-accepted next xs (h .1) rest)
 
-pub slots-structures : (xs : List SlotRow) → Each LegalSlot xs → (rest : List ℕ) → slotsIn (descriptorsOf xs) (structures xs ++ rest) ≡ xs
-slots-structures [] h rest = refl
-slots-structures (x ∷ xs) h rest =
+pub structures-slots : (xs : List SlotRow) → Each LegalSlot xs → (rest : List ℕ) → slotsIn (descriptorsOf xs) (structures xs ++ rest) ≡ xs
+structures-slots [] h rest = refl
+structures-slots (x ∷ xs) h rest =
     let d = descriptor (x .slot) in
     let behindX = structures xs ++ rest in
     let places = legal-wide x (h .0) in
-    let row : rowIn d (structure d (x .row) ++ behindX) ≡ x .row = rowIn-structure (x .row) behindX places d (legal-zeros x (h .0)) in
+    let row : rowIn d (structure d (x .row) ++ behindX) ≡ x .row = structure-rowIn (x .row) behindX places d (legal-zeros x (h .0)) in
     ap (slotsIn (descriptorsOf (x ∷ xs))) (laid-ahead x xs rest)
     ∙ ap₂ (λ (y : SlotRow) (ys : List SlotRow). y ∷ ys)
-    (ap₂ together (slotOf-descriptor x (h .0)) row)
-    (ap (slotsIn (descriptorsOf xs)) (behind-structure (x .row) behindX places d) ∙ slots-structures xs (h .1) rest)
+    (ap₂ together (descriptor-slotOf x (h .0)) row)
+    (ap (slotsIn (descriptorsOf xs)) (structure-behind (x .row) behindX places d) ∙ structures-slots xs (h .1) rest)
 
 -- READ, THEN LAID
 
@@ -82,7 +82,7 @@ module _ (d : ℕ) (ds u : List ℕ) (byte : suc d < 256) (bytes : Bytes u) (lon
   full-legal : (item : ℕ) → lineVerdict (Word item) (suc d % 32) ≡ Accepted → FullSlot (together (slotOf (suc d)) (take 42 (drop 3 u)))
   unfolding slotOf
   full-legal item line =
-      let back : descriptor (slotOf (suc d)) ≡ suc d = descriptor-slotOf (suc d) byte in
+      let back : descriptor (slotOf (suc d)) ≡ suc d = slotOf-descriptor (suc d) byte in
       let fits : 42 ≤ length (drop 3 u) = omega (arith, length-drop 3 u) in
       record {
         mark = refl;
@@ -113,7 +113,7 @@ module _ (d : ℕ) (ds u : List ℕ) (byte : suc d < 256) (bytes : Bytes u) (lon
   laid-full : (at item : ℕ) → structureVerdict at u ≡ Accepted → lineVerdict (Word item) (suc d % 32) ≡ Accepted → Laid ds (drop 45 u) → Laid (suc d ∷ ds) u
   laid-full at item fixed line more =
       let row = take 42 (drop 3 u) in
-      let back : descriptor (slotOf (suc d)) ≡ suc d = descriptor-slotOf (suc d) byte in
+      let back : descriptor (slotOf (suc d)) ≡ suc d = slotOf-descriptor (suc d) byte in
       let three : 3 ≤ length u = omega arith in
       let far : 45 * count (suc d ∷ ds) ≡ 45 + 45 * count ds = omega arith in
       let rest : drop (45 * count (suc d ∷ ds)) u ≡ drop (45 * count ds) (drop 45 u) = ap (λ (k : ℕ). drop k u) far ∙ sym (drop-drop (45 * count ds) 45 u) in

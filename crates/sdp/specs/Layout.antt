@@ -1,4 +1,4 @@
--- The user bytes of a subtitling packet, from its value alone. Document 01, "Subtitling packet"; document 002, clause 5.
+-- The user bytes of a subtitling packet, from its value alone. RULES, "Subtitling packet"; 002, clause 5.
 use Prim.Native.Nat.{ℕ, zero, suc, _+_, _-_, _*_, _/_, _%_}
 use mathlib.Core.List.{List, [], _∷_, _++_, map}
 use Rattle.lists.specs.Sum.{sum}

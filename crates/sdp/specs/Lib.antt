@@ -1,6 +1,6 @@
 pub mod Value
 pub mod Layout
 pub mod User
-pub mod Holdable
+pub mod SlotVerdict
 pub mod Order
 pub mod SlotFaults

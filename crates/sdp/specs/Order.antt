@@ -1,4 +1,4 @@
--- Document 01, "Which refusal comes first": the checks of descriptors, structures and slots, as lists in 01's sequence.
+-- RULES, "Order of checks": the checks of descriptors, structures and slots, as lists in the order of RULES.
 use Prim.Native.Nat.{ℕ, zero, suc, _+_, _%_}
 use mathlib.Core.Bool.{not, _&&_, _||_}
 use mathlib.Core.List.{List, [], _∷_}
@@ -12,7 +12,7 @@ use Rattle.refusal.specs.declared.Item.{Item}
 use Rattle.refusal.specs.declared.Item.the-variants.{Whole, Word}
 use Rattle.refusal.specs.Checks.{refuseIf}
 use Rattle.sdp.specs.Value.{SlotRow, descriptor}
-use Rattle.sdp.specs.Holdable.{allZero, unwritable}
+use Rattle.sdp.specs.SlotVerdict.{allZero, unwritable}
 
 -- 7: line 1 to 5, or 23 and above
 abbrev pub lineCheck : Item → ℕ → Verdict

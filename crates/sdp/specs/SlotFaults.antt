@@ -1,10 +1,10 @@
--- Which slots can be held, in the words of document 01, "Subtitling packet" and "Numbers a call may refuse with": 15 and 7.
+-- Which slots can be held, in the words of RULES, "Subtitling packet" and "Refusals": 15 and 7.
 use Prim.Native.Nat.{ℕ, _≤_}
 use mathlib.Core.Path.{_≡_}
 use mathlib.Core.Logic.{_⊎_}
 use mathlib.Core.Bool.{false}
 use Rattle.sdp.specs.Value.{SlotRow, descriptor, emptyRow}
-use Rattle.sdp.specs.Holdable.{allZero, unwritable}
+use Rattle.sdp.specs.SlotVerdict.{allZero, unwritable}
 
 -- a slot that the layout can hold: each number is in its range, and the slot is not unwritable
 pub record Holdable (x : SlotRow) : Type 0 where
@@ -14,7 +14,7 @@ pub record Holdable (x : SlotRow) : Type 0 where
   pub field : x .slot .field .0 ≤ 1
   pub writable : unwritable (x .slot .full) (descriptor (x .slot)) (allZero (x .row)) ≡ false
 
--- a full slot with line 0, reserved 0, even field, or an empty one that holds anything else
+-- full, but with the descriptor of an empty slot; or marked empty, with something in it
 abbrev pub Unwritable : SlotRow → Type 0
 Unwritable x = ((x .slot .full ≡ 1) × (descriptor (x .slot) ≡ 0)) ⊎ ((x .slot .full ≡ 0) × (x ≡ emptyRow → ⊥))
 

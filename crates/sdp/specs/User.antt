@@ -1,5 +1,6 @@
--- The rules over the user bytes of a subtitling packet, apart from its header and CS. Document 01, "Subtitling packet" and "Which refusal comes
--- first": 51, 15: 6; LENGTH not DC 13; format 6; the five descriptors 7; DC against k 13; fixed bytes of the structures, footer 6; SDP checksum 12.
+-- The rules over the user bytes of a subtitling packet, apart from its header and CS. RULES, "Subtitling packet" and
+-- "Order of checks": 6 of 51 and 15; 13 of LENGTH; 6 of the format; 7 of each descriptor; 13 of DC; 6 of each structure
+-- and of the footer; 12.
 --
 -- The bytes are those of the user words. `dc` is the word of the packet in which DC stands; the user words follow it.
 use Prim.Native.Nat.{ℕ, zero, suc, _+_, _-_, _*_, _/_, _%_}
@@ -18,7 +19,7 @@ use Rattle.refusal.specs.declared.Item.{Item}
 use Rattle.refusal.specs.declared.Item.the-variants.{Word}
 use Rattle.refusal.specs.Checks.{refuseIf, andThen, first}
 use Rattle.sdp.specs.declared.Slot.{Slot}
-use Rattle.sdp.specs.Value.{SlotRow, Sdp, together, zeros}
+use Rattle.sdp.specs.Value.{SlotRow, Sdp, together, zeroRow}
 use Rattle.sdp.specs.Layout.{count, userLength}
 
 -- 7: line 1 to 5, or 23 and above
@@ -85,7 +86,7 @@ slotOf d = record { full = markOf d; line = d % 32; reserved = d / 32 % 4; field
 
 -- a slot's row: 42 bytes behind 55 55 27 where it is full, else zeros; and where the next structure begins
 abbrev pub rowIn : ℕ → List ℕ → List ℕ
-rowIn zero u = zeros
+rowIn zero u = zeroRow
 rowIn (suc d) u = take 42 (drop 3 u)
 
 abbrev pub behind : ℕ → List ℕ → List ℕ

@@ -1,4 +1,4 @@
--- A subtitling packet's value, when it is legal, and how the code holds it. Document 01, "Subtitling packet"; document 002, 5.4.2.
+-- A subtitling packet's value, when it is legal, and how the code holds it. RULES, "Subtitling packet"; 002, 5.4.2.
 use Prim.Native.Nat.{ℕ, _+_, _*_, _≤_, _<_}
 use mathlib.Core.Path.{_≡_}
 use mathlib.Core.Logic.{_⊎_}
@@ -24,17 +24,17 @@ abbrev pub descriptor : Slot → ℕ
 descriptor s = s .line + 32 * s .reserved + 128 * s .field .0
 
 -- an empty slot: its line, reserved, field and 42 bytes are all 0
-abbrev pub empty : Slot
-empty = record { full = 0; line = 0; reserved = 0; field = record { 0 = 0 } }
+abbrev pub emptySlot : Slot
+emptySlot = record { full = 0; line = 0; reserved = 0; field = record { 0 = 0 } }
 
-abbrev pub zeros : List ℕ
-zeros = replicate 42 0
+abbrev pub zeroRow : List ℕ
+zeroRow = replicate 42 0
 
 abbrev pub together : Slot → List ℕ → SlotRow
 together slot row = record { slot = slot; row = row }
 
 abbrev pub emptyRow : SlotRow
-emptyRow = together empty zeros
+emptyRow = together emptySlot zeroRow
 
 -- 0, or 6 to 22
 abbrev pub LegalLine : ℕ → Type 0

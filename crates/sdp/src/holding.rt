@@ -5,7 +5,7 @@ ghost use mathlib.Core.List.{map};
 ghost use Rattle.sdp.specs.Value.{descriptor as Value·descriptor, together};
 ghost use Rattle.sdp.specs.Layout.{count as Layout·count};
 ghost use Rattle.sdp.specs.User.{slotOf};
-ghost use Rattle.sdp.specs.Holdable.{allZero, unwritable, slotVerdict};
+ghost use Rattle.sdp.specs.SlotVerdict.{allZero, unwritable, slotVerdict};
 use crate::OddEven;
 use crate::Packet;
 use crate::ROW_BYTES;

@@ -1,7 +1,7 @@
 // The subtitling distribution packet of RDD 8 (OP-47): five slots of teletext, and what can be held in them, apart from the ancillary packet that
 // carries them.
 //
-// Normative references: document 01, "Subtitling packet"; document 002 (RDD 8), clause 5.
+// Normative references: docs/RULES.md, "Subtitling packet"; document 002 (RDD 8), clause 5.
 mod holding;
 mod user;
 

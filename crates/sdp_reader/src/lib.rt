@@ -1,6 +1,6 @@
 // The rules over the user words of an RDD 8 (OP-47) packet, apart from the header and CS around them.
 //
-// Normative references: document 01, "Subtitling packet" and "Which refusal comes first"; document 002 (RDD 8), clause 5.
+// Normative references: docs/RULES.md, "Subtitling packet" and "Order of checks"; document 002 (RDD 8), clause 5.
 ghost use mathlib.Core.Path.{_≡_};
 ghost use Prim.Native.Nat.{_+_, _*_, _≤_, _<_};
 ghost use mathlib.Core.List.{map};
@@ -18,7 +18,7 @@ use sdp::SLOTS;
 use sdp::STRUCTURE_WORDS;
 use sdp::STRUCTURES;
 
-// 01's rules over user words. dc is the word of the packet in which DC stands; they follow it.
+// The rules over user words. dc is the word of the packet in which DC stands; they follow it.
 pub fn judge_user(user: &[u16], dc: u16) -> Verdict
     ensures { λ r. ⌜ r ≡ userVerdict dc (map byteOf (now (user .entry))) ⌝ }
 {

@@ -9,7 +9,7 @@ use Rattle.refusal.proofs.Checks.{accepted-andThen, accepted-equal, accepted-wi
 use Rattle.anc.specs.Words.{wordsVerdict, sumVerdict, checksumOf}
 use Rattle.sdp.specs.User.{headVerdict, tailVerdict}
 use Rattle.sdp.proofs.Accepted.{Head, accepted-head, Tail, accepted-tail}
-use Rattle.subtitling.specs.Reading.{coveredIn, userIn, lastOf, formVerdict, headerVerdict, checksumVerdict, packetVerdict}
+use Rattle.subtitling.specs.Reading.{coveredIn, userIn, lastWord, formVerdict, headerVerdict, checksumVerdict, packetVerdict}
 
 -- the length, the flag, and that each word is one
 pub record Form (s : List ℕ) : Type 0 where
@@ -19,7 +19,7 @@ pub record Form (s : List ℕ) : Type 0 where
   pub flag1 : getD s 1 0 ≡ 0x3FF
   pub flag2 : getD s 2 0 ≡ 0x3FF
   pub words : wordsVerdict 3 (coveredIn s) ≡ Accepted
-  pub last : sumVerdict (length s - 1) (lastOf s) ≡ Accepted
+  pub last : sumVerdict (length s - 1) (lastWord s) ≡ Accepted
 
 pub accepted-form : (s : List ℕ) → formVerdict s ≡ Accepted → Form s
 unfolding formVerdict
@@ -55,7 +55,7 @@ accepted-header s e =
     let dc = accepted-andThen _ _ (sdid .1) in
     record { did = accepted-equal _ _ _ _ (did .0); sdid = accepted-equal _ _ _ _ (sdid .0); dc = accepted-equal _ _ _ _ (dc .0) }
 
-pub accepted-checksum : (s : List ℕ) → checksumVerdict s ≡ Accepted → lastOf s ≡ checksumOf (coveredIn s)
+pub accepted-checksum : (s : List ℕ) → checksumVerdict s ≡ Accepted → lastWord s ≡ checksumOf (coveredIn s)
 unfolding checksumVerdict
 accepted-checksum s e = accepted-equal _ _ _ _ e
 
@@ -65,7 +65,7 @@ pub record Whole (s : List ℕ) : Type 0 where
   pub header : Header s
   pub head : Head 5 (userIn s)
   pub tail : Tail 5 (userIn s)
-  pub checksum : lastOf s ≡ checksumOf (coveredIn s)
+  pub checksum : lastWord s ≡ checksumOf (coveredIn s)
 
 pub accepted-packet : (s : List ℕ) → packetVerdict s ≡ Accepted → Whole s
 unfolding packetVerdict

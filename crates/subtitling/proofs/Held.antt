@@ -15,20 +15,20 @@ use Rattle.refusal.specs.Checks.{refuseIf, andThen}
 use Rattle.refusal.proofs.Checks.{andThen-last}
 use Rattle.sdp.specs.declared.Slot.{Slot}
 use Rattle.sdp.specs.declared.Packet.{Packet}
-use Rattle.sdp.specs.Value.{SlotRow, descriptor, empty, together, beside, held, Typed}
+use Rattle.sdp.specs.Value.{SlotRow, descriptor, emptySlot, together, beside, held, Typed}
 use Rattle.sdp.specs.Layout.{count}
 use Rattle.subtitling.specs.Layout.{layout}
-use Rattle.sdp.specs.Holdable.{slotVerdict, slotsVerdict}
+use Rattle.sdp.specs.SlotVerdict.{slotVerdict, slotsVerdict}
 use Rattle.subtitling.specs.Writing.{valueVerdict}
-use Rattle.sdp.proofs.Numbers.{count-most, length-held, descriptors-held, held-shaped}
+use Rattle.sdp.proofs.Numbers.{count-most, length-held, held-descriptors, held-shaped}
 use Rattle.subtitling.proofs.Numbers.{length-shaped}
 
 -- no slot and no row: what stands beyond the last
 abbrev pub beyond : SlotRow
-beyond = together empty []
+beyond = together emptySlot []
 
 pub getD-beside : (ss : List Slot) (rows : List (List ℕ)) (i : ℕ) → i < length ss → i < length rows
-    → getD (beside ss rows) i beyond ≡ together (getD ss i empty) (getD rows i [])
+    → getD (beside ss rows) i beyond ≡ together (getD ss i emptySlot) (getD rows i [])
 getD-beside [] rows i h g = let f : ⊥ = omega arith in absurd f
 getD-beside (s ∷ ss) [] i h g = let f : ⊥ = omega arith in absurd f
 getD-beside (s ∷ ss) (row ∷ rows) zero h g = refl
@@ -44,14 +44,14 @@ slots-from xs i h =
     ∙ ap (λ (k : ℕ). andThen (slotVerdict (getD xs i beyond)) (slotsVerdict (drop k xs))) (sym (add-one i))
 
 module _ (p : Packet) (rows : List (List ℕ)) (t : Typed p rows) where
-  pub held-at : (i : ℕ) → i < 5 → getD (held p rows .slots) i beyond ≡ together (getD (p .slots) i empty) (getD rows i [])
+  pub held-at : (i : ℕ) → i < 5 → getD (held p rows .slots) i beyond ≡ together (getD (p .slots) i emptySlot) (getD rows i [])
   held-at i h =
       let inside : i < length (p .slots) = omega (arith, t .slots) in
       let within : i < length rows = omega (arith, t .five) in
       getD-beside (p .slots) rows i inside within
 
   pub held-from : (i : ℕ) → i < 5
-      → slotsVerdict (drop i (held p rows .slots)) ≡ andThen (slotVerdict (together (getD (p .slots) i empty) (getD rows i []))) (slotsVerdict (drop (i + 1) (held p rows .slots)))
+      → slotsVerdict (drop i (held p rows .slots)) ≡ andThen (slotVerdict (together (getD (p .slots) i emptySlot) (getD rows i []))) (slotsVerdict (drop (i + 1) (held p rows .slots)))
   held-from i h =
       let inside : i < length (held p rows .slots) = omega (arith, length-held p rows t) in
       slots-from (held p rows .slots) i inside
@@ -59,7 +59,7 @@ module _ (p : Packet) (rows : List (List ℕ)) (t : Typed p rows) where
 
   -- the layout is as long as the code counts
   pub length-layout-held : length (layout (held p rows)) ≡ 20 + 45 * count (map descriptor (p .slots))
-  length-layout-held = length-shaped (held p rows) (held-shaped p rows t) ∙ ap (λ (ds : List ℕ). 20 + 45 * count ds) (descriptors-held p rows t)
+  length-layout-held = length-shaped (held p rows) (held-shaped p rows t) ∙ ap (λ (ds : List ℕ). 20 + 45 * count ds) (held-descriptors p rows t)
 
   pub few-structures : count (map descriptor (p .slots)) ≤ 5
   few-structures = omega (arith, count-most (map descriptor (p .slots)), length-map (p .slots) descriptor, t .slots)

@@ -14,6 +14,7 @@ use Rattle.refusal.specs.declared.Reason.the-variants.{DescriptorLine, Unholdab
 use Rattle.refusal.specs.declared.Excess.the-variants.{Counter, SlotMark, SlotLine, SlotReserved, SlotField, SlotUnwritable}
 use Rattle.refusal.specs.declared.Item.the-variants.{Whole}
 use Rattle.refusal.specs.Numbers.{refusalOf}
+use Rattle.refusal.specs.Answers.{refused}
 use Rattle.refusal.specs.Checks.{refuseIf, andThen, first, fitVerdict}
 use Rattle.refusal.proofs.Checks.{accepted-andThen, andThen-assoc, accepted-within}
 use Rattle.refusal.proofs.Gives.{Gives, refuseIf-gives, andThen-gives, each-gives, refused-gives}
@@ -21,12 +22,12 @@ use Rattle.sdp.specs.declared.Packet.{Packet}
 use Rattle.sdp.specs.Value.{SlotRow, Sdp, Typed, Legal, descriptor, held}
 use Rattle.subtitling.specs.Layout.{layout}
 use Rattle.sdp.specs.User.{lineVerdict}
-use Rattle.sdp.specs.Holdable.{allZero, unwritable, slotVerdict, slotsVerdict}
+use Rattle.sdp.specs.SlotVerdict.{allZero, unwritable, slotVerdict, slotsVerdict}
 use Rattle.subtitling.specs.Writing.{valueVerdict}
-use Rattle.sdp.proofs.Numbers.{legal-held}
+use Rattle.sdp.proofs.Numbers.{checked-legal}
 
-abbrev pub Is15or7 : Refusal → Type 0
-Is15or7 r = (r ≡ record { number = 15; place = 0 }) ⊎ (r ≡ record { number = 7; place = 0 })
+abbrev Is15or7 : Refusal → Type 0
+Is15or7 r = (r ≡ refused 15 0) ⊎ (r ≡ refused 7 0)
 
 slot-gives : (x : SlotRow) → Gives Is15or7 (slotVerdict x)
 unfolding slotVerdict lineVerdict
@@ -55,12 +56,13 @@ value-gives v =
     andThen-gives Is15or7 _ _ (refuseIf-gives Is15or7 (ltb 65535 (v .counter)) (Unholdable Counter) Whole (inl refl))
     (each-gives Is15or7 slotVerdict slot-gives (v .slots))
 
-pub illegal-15-or-7 : (p : Packet) (rows : List (List ℕ)) (room : ℕ) → Typed p rows → (Legal (held p rows) → ⊥) → Is15or7 (refusalOf (valueVerdict (held p rows) room))
+pub illegal-15-or-7 : (p : Packet) (rows : List (List ℕ)) (room : ℕ) → Typed p rows → (Legal (held p rows) → ⊥)
+    → (refusalOf (valueVerdict (held p rows) room) ≡ refused 15 0) ⊎ (refusalOf (valueVerdict (held p rows) room) ≡ refused 7 0)
 illegal-15-or-7 p rows room t h =
     let v = held p rows in
-    let refused : andThen (counted v) (slotsVerdict (v .slots)) ≡ Accepted → ⊥ =
+    let refuses : andThen (counted v) (slotsVerdict (v .slots)) ≡ Accepted → ⊥ =
     λ e.
     let both = accepted-andThen (counted v) (slotsVerdict (v .slots)) e in
-    h (legal-held p rows t (accepted-within 65535 (p .counter) _ _ (both .0)) (both .1)) in
+    h (checked-legal p rows t (accepted-within 65535 (p .counter) _ _ (both .0)) (both .1)) in
     subst (λ (verdict : Verdict). Is15or7 (refusalOf verdict)) (sym (value-first v room))
-    (refused-gives Is15or7 (andThen (counted v) (slotsVerdict (v .slots))) (rest v room) (value-gives v) refused)
+    (refused-gives Is15or7 (andThen (counted v) (slotsVerdict (v .slots))) (rest v room) (value-gives v) refuses)

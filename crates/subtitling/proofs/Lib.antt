@@ -8,4 +8,11 @@ pub mod Held
 pub mod HeldStructures
 pub mod Pieces
 pub mod Illegal
+pub mod Accepting
+pub mod Refusing
+pub mod Writing
+pub mod SlotTheorems
+pub mod BothWays
+pub mod LentTheorems
+pub mod Determined
 pub mod Theorems

@@ -12,7 +12,7 @@ use Rattle.sdp.specs.Value.{Sdp, Legal}
 use Rattle.sdp.specs.Layout.{descriptorsOf, count, userBytes}
 use Rattle.sdp.proofs.Numbers.{Shaped, legal-shaped, length-user-shaped}
 use Rattle.subtitling.specs.Layout.{packet, layout}
-use Rattle.sdp.specs.Holdable.{slotsVerdict}
+use Rattle.sdp.specs.SlotVerdict.{slotsVerdict}
 use Rattle.subtitling.specs.Writing.{valueVerdict}
 
 -- the flag, DID, SDID, DC and CS are seven words

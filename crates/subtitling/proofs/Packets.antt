@@ -12,13 +12,13 @@ use Rattle.lists.specs.Part.{part}
 use Rattle.lists.proofs.Part.{part-cons}
 use Rattle.refusal.specs.declared.Verdict.the-variants.{Accepted}
 use Rattle.anc.specs.Words.{parityOf, wordOf, byteOf, wordsVerdict, sumVerdict, checksumOf}
-use Rattle.anc.proofs.Words.{byte-word, bytes-words, words-accepted, accepted-words, sum-accepted}
+use Rattle.anc.proofs.Words.{word-byte, words-bytes, words-accepted, accepted-words, sum-accepted}
 use Rattle.subtitling.specs.Layout.{covered, packet}
 use Rattle.sdp.specs.User.{userVerdict}
-use Rattle.subtitling.specs.Reading.{coveredIn, userIn, lastOf, formVerdict, headerVerdict, checksumVerdict, packetVerdict}
+use Rattle.subtitling.specs.Reading.{coveredIn, userIn, lastWord, formVerdict, headerVerdict, checksumVerdict, packetVerdict}
 use Rattle.subtitling.proofs.Numbers.{length-packet}
 use Rattle.subtitling.proofs.Accepted.{Whole}
-use Rattle.subtitling.proofs.Sequence.{length-user}
+use Rattle.subtitling.proofs.Sequence.{length-userIn}
 
 -- LAID, THEN READ
 
@@ -26,45 +26,45 @@ module _ (u : List ℕ) (bytes : Bytes u) (long : 13 ≤ length u) (short : leng
   length-covered : length (covered u) ≡ length u + 3
   length-covered = omega (arith, length-map u wordOf)
 
-  covered-packet : coveredIn (packet u) ≡ covered u
-  covered-packet = take-at (covered u) (checksumOf (covered u) ∷ []) (length (packet u) - 1 - 3) (omega (arith, length-covered, length-packet u))
+  packet-covered : coveredIn (packet u) ≡ covered u
+  packet-covered = take-at (covered u) (checksumOf (covered u) ∷ []) (length (packet u) - 1 - 3) (omega (arith, length-covered, length-packet u))
 
-  last-packet : lastOf (packet u) ≡ checksumOf (covered u)
-  last-packet =
+  packet-last : lastWord (packet u) ≡ checksumOf (covered u)
+  packet-last =
       getD-at (0x000 ∷ 0x3FF ∷ 0x3FF ∷ covered u) (checksumOf (covered u)) [] 0 (length (packet u) - 1) (omega (arith, length-covered, length-packet u))
 
-  pub user-packet : userIn (packet u) ≡ u
-  user-packet =
+  pub packet-user : userIn (packet u) ≡ u
+  packet-user =
       ap (map byteOf) (take-at (map wordOf u) (checksumOf (covered u) ∷ []) (length (packet u) - 1 - 6) (omega (arith, length-map u wordOf, length-packet u)))
-      ∙ bytes-words u bytes
+      ∙ words-bytes u bytes
 
-  form-packet : formVerdict (packet u) ≡ Accepted
+  packet-form : formVerdict (packet u) ≡ Accepted
   unfolding formVerdict
-  form-packet =
+  packet-form =
       let most : length (packet u) ≤ 245 = omega (arith, length-packet u) in
       let least : 20 ≤ length (packet u) = omega (arith, length-packet u) in
       let byte : length u < 256 = omega arith in
-      let words = ap (wordsVerdict 3) covered-packet ∙ words-accepted 3 (0x43 ∷ 0x02 ∷ length u ∷ u) (omega arith, (omega arith, (byte, bytes))) in
-      let cs = ap (sumVerdict (length (packet u) - 1)) last-packet ∙ sum-accepted (length (packet u) - 1) (covered u) in
+      let words = ap (wordsVerdict 3) packet-covered ∙ words-accepted 3 (0x43 ∷ 0x02 ∷ length u ∷ u) (omega arith, (omega arith, (byte, bytes))) in
+      let cs = ap (sumVerdict (length (packet u) - 1)) packet-last ∙ sum-accepted (length (packet u) - 1) (covered u) in
       simp (le-ltb 245 (length (packet u)) most, le-ltb (length (packet u)) 20 least, words, cs)
 
-  header-packet : headerVerdict (packet u) ≡ Accepted
+  packet-header : headerVerdict (packet u) ≡ Accepted
   unfolding headerVerdict wordOf parityOf
-  header-packet =
+  packet-header =
       let byte : length u < 256 = omega arith in
-      let dc : wordOf (length u) % 256 ≡ length (packet u) - 7 = byte-word (length u) byte ∙ omega (arith, length-packet u) in
+      let dc : wordOf (length u) % 256 ≡ length (packet u) - 7 = word-byte (length u) byte ∙ omega (arith, length-packet u) in
       simp (eq-eqb (wordOf (length u) % 256) (length (packet u) - 7) dc)
 
-  checksum-packet : checksumVerdict (packet u) ≡ Accepted
+  packet-checksum : checksumVerdict (packet u) ≡ Accepted
   unfolding checksumVerdict
-  checksum-packet =
-      simp (eq-eqb (lastOf (packet u)) (checksumOf (coveredIn (packet u))) (last-packet ∙ ap checksumOf (sym covered-packet)))
+  packet-checksum =
+      simp (eq-eqb (lastWord (packet u)) (checksumOf (coveredIn (packet u))) (packet-last ∙ ap checksumOf (sym packet-covered)))
 
   pub packet-accepted : userVerdict 5 u ≡ Accepted → packetVerdict (packet u) ≡ Accepted
   unfolding packetVerdict
   packet-accepted e =
-      let user = ap (userVerdict 5) user-packet ∙ e in
-      simp (form-packet, header-packet, user, checksum-packet)
+      let user = ap (userVerdict 5) packet-user ∙ e in
+      simp (packet-form, packet-header, user, packet-checksum)
 
 -- READ, THEN LAID
 
@@ -88,18 +88,18 @@ module _ (s : List ℕ) (whole : Whole s) where
       (part-cons s 0 4 to (omega (arith, whole .form .long)) (omega (arith, whole .form .long))
       ∙ ap (λ (r : List ℕ). getD s 4 0 ∷ r) (part-cons s 0 5 to (omega (arith, whole .form .long)) (omega (arith, whole .form .long))))
 
-  bytes-covered : map byteOf (coveredIn s) ≡ 0x43 ∷ 0x02 ∷ length (userIn s) ∷ userIn s
-  bytes-covered =
+  covered-bytes : map byteOf (coveredIn s) ≡ 0x43 ∷ 0x02 ∷ length (userIn s) ∷ userIn s
+  covered-bytes =
       let did : byteOf (getD s 3 0) ≡ 0x43 = ap byteOf (whole .header .did) in
       let sdid : byteOf (getD s 4 0) ≡ 0x02 = ap byteOf (whole .header .sdid) in
-      let dc : byteOf (getD s 5 0) ≡ length (userIn s) = whole .header .dc ∙ sym (length-user s (whole .form .long)) in
+      let dc : byteOf (getD s 5 0) ≡ length (userIn s) = whole .header .dc ∙ sym (length-userIn s (whole .form .long)) in
       ap (map byteOf) covered-cons ∙ (λ i. did i ∷ sdid i ∷ dc i ∷ userIn s)
 
-  covered-user : covered (userIn s) ≡ coveredIn s
-  covered-user = ap (map wordOf) (sym bytes-covered) ∙ accepted-words 3 (coveredIn s) (whole .form .words)
+  user-covered : covered (userIn s) ≡ coveredIn s
+  user-covered = ap (map wordOf) (sym covered-bytes) ∙ accepted-words 3 (coveredIn s) (whole .form .words)
 
   -- CS is the last word
-  end : drop (length s - 1 - 3) (drop 3 s) ≡ lastOf s ∷ []
+  end : drop (length s - 1 - 3) (drop 3 s) ≡ lastWord s ∷ []
   end =
       let far : 3 + (length s - 1 - 3) ≡ length s - 1 = omega (arith, whole .form .long) in
       let inside : length s - 1 < length s = omega (arith, whole .form .long) in
@@ -107,11 +107,11 @@ module _ (s : List ℕ) (whole : Whole s) where
       drop-drop (length s - 1 - 3) 3 s
       ∙ ap (λ (k : ℕ). drop k s) far
       ∙ drop-cons s (length s - 1) 0 inside
-      ∙ ap (λ (r : List ℕ). lastOf s ∷ r) (drop-of-length-le s past)
+      ∙ ap (λ (r : List ℕ). lastWord s ∷ r) (drop-of-length-le s past)
 
   pub packet-back : packet (userIn s) ≡ s
   packet-back =
-      ap (λ (ws : List ℕ). 0x000 ∷ 0x3FF ∷ 0x3FF ∷ (ws ++ (checksumOf ws ∷ []))) covered-user
+      ap (λ (ws : List ℕ). 0x000 ∷ 0x3FF ∷ 0x3FF ∷ (ws ++ (checksumOf ws ∷ []))) user-covered
       ∙ ap (λ (r : List ℕ). 0x000 ∷ 0x3FF ∷ 0x3FF ∷ r)
       (ap (λ (cs : ℕ). coveredIn s ++ (cs ∷ [])) (sym (whole .checksum))
       ∙ ap (λ (r : List ℕ). coveredIn s ++ r) (sym end)

@@ -7,14 +7,14 @@ use mathlib.Core.List.{List, [], _∷_, _++_, map, map-append, append-assoc}
 use lib.ListN.{length, drop, length-map, length-append}
 use Rattle.lists.specs.Bytes.{Bytes}
 use Rattle.anc.specs.Words.{wordOf, byteOf, checksumOf}
-use Rattle.anc.proofs.Words.{bytes-words}
+use Rattle.anc.proofs.Words.{words-bytes}
 use Rattle.sdp.specs.declared.Packet.{Packet}
 use Rattle.sdp.specs.Value.{Sdp, Typed, Legal, descriptor, held}
 use Rattle.sdp.specs.Layout.{descriptorsOf, count, structures, userLength, footer, body, sdpChecksum, userBytes}
 use Rattle.subtitling.specs.Layout.{covered, layout}
-use Rattle.subtitling.specs.Writing.{summed, sealed}
+use Rattle.subtitling.specs.Inside.{summed, sealed}
 use Rattle.sdp.proofs.Slots.{descriptors-below}
-use Rattle.sdp.proofs.Numbers.{length-user, descriptors-held}
+use Rattle.sdp.proofs.Numbers.{user-size, held-descriptors}
 use Rattle.sdp.proofs.LegalBytes.{body-bytes}
 use Rattle.subtitling.proofs.HeldStructures.{length-structures-held}
 
@@ -27,7 +27,7 @@ unsealed v = 0x000 ∷ 0x3FF ∷ 0x3FF ∷ map wordOf (0x43 ∷ 0x02 ∷ length 
 sealed-layout : (v : Sdp) → Legal v → sealed (unsealed v) ≡ layout v
 sealed-layout v h =
     let laid : summed (unsealed v) ≡ 0x000 ∷ 0x3FF ∷ 0x3FF ∷ covered (userBytes v) =
-    ap (λ (bytes : List ℕ). unsealed v ++ (wordOf (sdpChecksum bytes) ∷ [])) (bytes-words (body v) (body-bytes v h))
+    ap (λ (bytes : List ℕ). unsealed v ++ (wordOf (sdpChecksum bytes) ∷ [])) (words-bytes (body v) (body-bytes v h))
     ∙ ap (λ (ws : List ℕ). 0x000 ∷ 0x3FF ∷ 0x3FF ∷ ws) (sym (map-append wordOf (0x43 ∷ 0x02 ∷ length (userBytes v) ∷ body v) (sdpChecksum (body v) ∷ []))) in
     ap (λ (ws : List ℕ). ws ++ (checksumOf (drop 3 ws) ∷ [])) laid
 
@@ -84,8 +84,8 @@ footed-unsealed : (p : Packet) (rows : List (List ℕ)) → Typed p rows → Leg
 footed-unsealed p rows t h =
     let v = held p rows in
     let ds = map descriptor (p .slots) in
-    let same : descriptorsOf (v .slots) ≡ ds = descriptors-held p rows t in
-    let long : length (userBytes v) ≡ userLength (count ds) = length-user v h ∙ ap (λ (xs : List ℕ). userLength (count xs)) same in
+    let same : descriptorsOf (v .slots) ≡ ds = held-descriptors p rows t in
+    let long : length (userBytes v) ≡ userLength (count ds) = user-size v h ∙ ap (λ (xs : List ℕ). userLength (count xs)) same in
     let rest = structures (v .slots) ++ footer (p .counter) in
     let bytes : Bytes ds = subst Bytes same (descriptors-below (v .slots) (h .each)) in
     ap (λ (xs : List ℕ). ((headed p ++ map wordOf xs) ++ map wordOf (structures (v .slots))) ++ map wordOf (footer (p .counter))) (bytes-same ds bytes)

@@ -7,7 +7,7 @@ use mathlib.Core.List.{List, [], _∷_, map}
 use lib.ListN.{length, getD, take, drop}
 use lib.Seq.{drop-drop}
 use Rattle.sdp.specs.declared.Slot.{Slot}
-use Rattle.sdp.specs.Value.{SlotRow, zeros}
+use Rattle.sdp.specs.Value.{SlotRow, zeroRow}
 use Rattle.sdp.specs.Layout.{count}
 use Rattle.sdp.specs.User.{descriptorsIn, slotOf, rowIn, behind, slotsIn}
 
@@ -29,7 +29,7 @@ rowIn-some zero v h = absurd (h refl)
 rowIn-some (suc d) v h = refl
 
 -- the structure of slot i stands behind those of the descriptors before it that are not 0
-row-place : (ds v : List ℕ) (i : ℕ) → i < length ds → getD (rowsIn ds v) i zeros ≡ rowIn (getD ds i 0) (drop (45 * count (take i ds)) v)
+row-place : (ds v : List ℕ) (i : ℕ) → i < length ds → getD (rowsIn ds v) i zeroRow ≡ rowIn (getD ds i 0) (drop (45 * count (take i ds)) v)
 row-place [] v i h = let f : ⊥ = omega arith in absurd f
 row-place (d ∷ ds) v zero h = refl
 row-place (zero ∷ ds) v (suc i) h = row-place ds v i (omega arith)
@@ -41,7 +41,7 @@ row-place (suc d ∷ ds) v (suc i) h =
 
 -- so in the user bytes, where the next structure begins at `at`
 pub row-some : (u : List ℕ) (i at : ℕ) → i < length (descriptorsIn u) → at ≡ 9 + 45 * count (take i (descriptorsIn u)) → (getD (descriptorsIn u) i 0 ≡ 0 → ⊥)
-    → take 42 (drop (at + 3) u) ≡ getD (rowsIn (descriptorsIn u) (drop 9 u)) i zeros
+    → take 42 (drop (at + 3) u) ≡ getD (rowsIn (descriptorsIn u) (drop 9 u)) i zeroRow
 row-some u i at h e some =
     let ds = descriptorsIn u in
     let before = 45 * count (take i ds) in
@@ -51,5 +51,5 @@ row-some u i at h e some =
     ∙ rowIn-some (getD ds i 0) (drop before (drop 9 u)) some
     ∙ ap (take 42) (drop-drop 3 before (drop 9 u) ∙ drop-drop (before + 3) 9 u ∙ ap (λ (n : ℕ). drop n u) place))
 
-pub row-none : (ds v : List ℕ) (i : ℕ) → i < length ds → getD ds i 0 ≡ 0 → getD (rowsIn ds v) i zeros ≡ zeros
+pub row-none : (ds v : List ℕ) (i : ℕ) → i < length ds → getD ds i 0 ≡ 0 → getD (rowsIn ds v) i zeroRow ≡ zeroRow
 row-none ds v i h e = row-place ds v i h ∙ ap (λ (d : ℕ). rowIn d (drop (45 * count (take i ds)) v)) e

@@ -1,9 +1,9 @@
--- The definitions of reading and writing check in 01's sequence.
+-- The definitions of reading and writing check in the order of RULES.
 -- Assumes nothing.
 use Prim.Native.Nat.{ℕ, _+_, _-_, _≤_}
 use native.Mathlib.Omega.{arith}
 use mathlib.Core.Path.{_≡_, _∙_, ap, sym, subst}
-use mathlib.Core.List.{List, _∷_, _++_}
+use mathlib.Core.List.{List, _∷_}
 use borrow.Author.Tests.{le-ltb}
 use lib.ListN.{length, getD, length-map}
 use Rattle.lists.specs.Each.{Each}
@@ -20,12 +20,12 @@ use Rattle.anc.proofs.Sequence.{words-order, sum-order}
 use Rattle.sdp.specs.declared.Packet.{Packet}
 use Rattle.sdp.specs.Value.{SlotRow, Sdp, LegalSlot, held, Row, Typed}
 use Rattle.sdp.specs.User.{headVerdict, tailVerdict, userVerdict}
-use Rattle.sdp.specs.Holdable.{slotVerdict, slotsVerdict}
-use Rattle.sdp.proofs.Numbers.{slot-accepted, RowSlot, each-beside}
+use Rattle.sdp.specs.SlotVerdict.{slotVerdict, slotsVerdict}
+use Rattle.sdp.proofs.Numbers.{slot-accepted, RowSlot, beside-each}
 use Rattle.sdp.proofs.Sequence.{descriptors-order, structures-order, slots-order}
 use Rattle.subtitling.specs.Reading.{userIn, formVerdict, headerVerdict, checksumVerdict, packetVerdict}
 use Rattle.subtitling.specs.Writing.{valueVerdict}
-use Rattle.subtitling.specs.Order.{outerChecks, innerChecks, readingChecks, writingChecks}
+use Rattle.subtitling.specs.Order.{outerChecks, innerChecks, readingChecks, writingChecks, Reached}
 use Rattle.subtitling.proofs.Accepted.{accepted-form, accepted-header}
 
 -- READING
@@ -36,8 +36,8 @@ unfolding formVerdict headerVerdict
 outer-order s = simp (words-order, sum-order, first-append, andThen-assoc, andThen-last)
 
 -- where it is accepted there are as many user words as DC says, at least 13
-pub length-user : (s : List ℕ) → 20 ≤ length s → length (userIn s) ≡ length s - 7
-length-user s long = length-map (part 6 (length s - 1) s) byteOf ∙ length-part s 6 (length s - 1) (omega arith) ∙ omega arith
+pub length-userIn : (s : List ℕ) → 20 ≤ length s → length (userIn s) ≡ length s - 7
+length-userIn s long = length-map (part 6 (length s - 1) s) byteOf ∙ length-part s 6 (length s - 1) (omega arith) ∙ omega arith
 
 inner-order : (s : List ℕ) → 20 ≤ length s → byteOf (getD s 5 0) ≡ length s - 7 → andThen (userVerdict 5 (userIn s)) (checksumVerdict s) ≡ first (innerChecks s)
 unfolding headVerdict tailVerdict checksumVerdict
@@ -47,7 +47,7 @@ inner-order s long dc =
     let footer : n - 4 ≡ length s - 11 = omega arith in
     let place : 5 + (n - 3) ≡ length s - 5 = omega arith in
     let last : 5 + n ≡ length s - 2 = omega arith in
-    simp (length-user s long, dc, le-ltb n 13 some, footer, place, last, descriptors-order, structures-order, first-append, andThen-assoc, andThen-last)
+    simp (length-userIn s long, dc, le-ltb n 13 some, footer, place, last, descriptors-order, structures-order, first-append, andThen-assoc, andThen-last)
 
 pub reading-order : (s : List ℕ) → packetVerdict s ≡ first (readingChecks s)
 unfolding packetVerdict
@@ -68,17 +68,15 @@ pub writing-order : (v : Sdp) (room : ℕ) → valueVerdict v room ≡ first (wr
 unfolding valueVerdict
 writing-order v room = simp (slots-order, first-append, andThen-last)
 
--- where the counter can be held, the first slot that does not pass decides
-pub slot-next : (v : Sdp) (room : ℕ) → v .counter ≤ 65535 → (before : List SlotRow) (x : SlotRow) (after : List SlotRow) → v .slots ≡ before ++ (x ∷ after)
-    → Each LegalSlot before → (slotVerdict x ≡ Accepted → ⊥) → valueVerdict v room ≡ slotVerdict x
+-- a slot that is reached and does not pass decides
+pub slot-next : (v : Sdp) (room : ℕ) (x : SlotRow) → Reached v x → (slotVerdict x ≡ Accepted → ⊥) → valueVerdict v room ≡ slotVerdict x
 unfolding valueVerdict
-slot-next v room few before x after e h refused =
-    let passed = each-map LegalSlot (λ (y : SlotRow). slotVerdict y ≡ Accepted) slot-accepted before h in
-    let here : slotsVerdict (v .slots) ≡ slotVerdict x = ap slotsVerdict e ∙ first-refused slotVerdict before x after passed refused in
-    simp (le-ltb 65535 (v .counter) few, here) (andThen-refused (slotVerdict x) _ refused)
+slot-next v room x at refused =
+    let passed = each-map LegalSlot (λ (y : SlotRow). slotVerdict y ≡ Accepted) slot-accepted (at .before) (at .passed) in
+    let here : slotsVerdict (v .slots) ≡ slotVerdict x = ap slotsVerdict (at .here) ∙ first-refused slotVerdict (at .before) x (at .after) passed refused in
+    simp (le-ltb 65535 (v .counter) (at .few), here) (andThen-refused (slotVerdict x) _ refused)
 
 -- its row is one
-pub slot-row : (p : Packet) (rows : List (List ℕ)) → Typed p rows → (before : List SlotRow) (x : SlotRow) (after : List SlotRow)
-    → held p rows .slots ≡ before ++ (x ∷ after) → Row (x .row)
-slot-row p rows t before x after e =
-    append-each RowSlot before (x ∷ after) (subst (λ (xs : List SlotRow). Each RowSlot xs) e (each-beside (p .slots) rows (t .each))) .1 .0
+pub slot-row : (p : Packet) (rows : List (List ℕ)) → Typed p rows → (x : SlotRow) → Reached (held p rows) x → Row (x .row)
+slot-row p rows t x at =
+    append-each RowSlot (at .before) (x ∷ at .after) (subst (λ (xs : List SlotRow). Each RowSlot xs) (at .here) (beside-each (p .slots) rows (t .each))) .1 .0

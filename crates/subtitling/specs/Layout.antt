@@ -1,5 +1,5 @@
--- The words of a subtitling packet, from its value alone. Document 01, "Subtitling packet"; document 002, clause 4. The user bytes that it carries are
--- laid out in `sdp`.
+-- The words of a subtitling packet, from its value alone. RULES, "Subtitling packet"; 002, clause 4. The user bytes
+-- that it carries are laid out in `sdp`.
 use Prim.Native.Nat.{ℕ}
 use mathlib.Core.List.{List, [], _∷_, _++_, map}
 use lib.ListN.{length}

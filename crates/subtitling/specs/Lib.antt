@@ -2,3 +2,4 @@ pub mod Layout
 pub mod Reading
 pub mod Writing
 pub mod Order
+pub mod Inside

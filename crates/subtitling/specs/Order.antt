@@ -1,9 +1,12 @@
--- Document 01, "Which refusal comes first", for the packet: all checks of reading and of writing, each of the input alone, in 01's sequence.
-use Prim.Native.Nat.{ℕ, _-_, _%_}
+-- RULES, "Order of checks", for the packet: all checks of reading and of writing, each of the input alone, in the order
+-- of RULES.
+use Prim.Native.Nat.{ℕ, _-_, _%_, _≤_}
+use mathlib.Core.Path.{_≡_}
 use mathlib.Core.Bool.{not}
 use mathlib.Core.List.{List, [], _∷_, _++_}
 use lib.Dec.{eqb, ltb}
 use lib.ListN.{length, getD, drop}
+use Rattle.lists.specs.Each.{Each}
 use Rattle.lists.specs.Sum.{sum}
 use Rattle.refusal.specs.declared.Verdict.{Verdict}
 use Rattle.refusal.specs.declared.Reason.the-variants.{TooLong, NoStart, Ends, Unfixed, SdpChecksum, Checksum, Unfit, NoRoom, Unholdable}
@@ -15,12 +18,12 @@ use Rattle.refusal.specs.Checks.{refuseIf}
 use Rattle.refusal.specs.Order.{eachOf}
 use Rattle.anc.specs.Words.{byteOf, checksumOf}
 use Rattle.anc.specs.Order.{wordsChecks, sumChecks}
-use Rattle.sdp.specs.Value.{Sdp}
+use Rattle.sdp.specs.Value.{SlotRow, Sdp, LegalSlot}
 use Rattle.sdp.specs.Layout.{userLength}
 use Rattle.sdp.specs.User.{descriptorsIn, structuresIn}
 use Rattle.sdp.specs.Order.{descriptorsChecks, structuresChecks, slotChecks}
 use Rattle.subtitling.specs.Layout.{layout}
-use Rattle.subtitling.specs.Reading.{coveredIn, userIn, lastOf}
+use Rattle.subtitling.specs.Reading.{coveredIn, userIn, lastWord}
 
 -- the packet around the user words. A packet of 20 words has 13 user words, so that 5 is not given again
 abbrev pub outerChecks : List ℕ → List Verdict
@@ -36,7 +39,7 @@ outerChecks s =
     -- 11: each word from DID to the last user word, range, then parity
     ∷ (wordsChecks 3 (coveredIn s)
     -- 11: CS
-    ++ (sumChecks (length s - 1) (lastOf s)
+    ++ (sumChecks (length s - 1) (lastWord s)
     -- 6: DID, SDID
     ++ (refuseIf (not (eqb (getD s 3 0) 0x143)) (Unfixed Identifier) (Word 3)
     ∷ refuseIf (not (eqb (getD s 4 0) 0x102)) (Unfixed Identifier) (Word 4)
@@ -65,7 +68,7 @@ innerChecks s =
     -- 12: the SDP checksum
     ∷ refuseIf (not (eqb (sum (userIn s) % 256) 0)) SdpChecksum (Word (length s - 2))
     -- 12: CS
-    ∷ refuseIf (not (eqb (lastOf s) (checksumOf (coveredIn s)))) Checksum (Word (length s - 1))
+    ∷ refuseIf (not (eqb (lastWord s) (checksumOf (coveredIn s)))) Checksum (Word (length s - 1))
     ∷ []))))
 
 abbrev pub readingChecks : List ℕ → List Verdict
@@ -82,3 +85,11 @@ writingChecks v room =
     -- 14: the output is shorter than the result
     ∷ refuseIf (ltb room (length (layout v))) NoRoom Whole
     ∷ []))
+
+-- the checks of writing come to slot x: the counter can be held, and the slots before x are legal
+pub record Reached (v : Sdp) (x : SlotRow) : Type 0 where
+  pub few : v .counter ≤ 65535
+  pub before : List SlotRow
+  pub after : List SlotRow
+  pub here : v .slots ≡ before ++ (x ∷ after)
+  pub passed : Each LegalSlot before

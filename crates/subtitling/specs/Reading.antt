@@ -1,5 +1,5 @@
--- What reading a subtitling packet answers, for every list of words. Document 01, "Which refusal comes first": 1; 5 under 20 words; 2; 11 from DID to
--- CS; DID, SDID 6; DC must be the length less 7, else 13; the rules over the user words; CS 12.
+-- What reading a subtitling packet answers, for every list of words. RULES, "Order of checks": 1; 5 under 20 words; 2;
+-- 11 from DID to CS; DID, SDID 6; DC 13; the rules over the user words; CS 12.
 use Prim.Native.Nat.{ℕ, _-_, _%_}
 use mathlib.Core.Path.{_≡_}
 use mathlib.Core.Bool.{not}
@@ -29,8 +29,8 @@ coveredIn s = part 3 (length s - 1) s
 abbrev pub userIn : List ℕ → List ℕ
 userIn s = map byteOf (part 6 (length s - 1) s)
 
-abbrev pub lastOf : List ℕ → ℕ
-lastOf s = getD s (length s - 1) 0
+abbrev pub lastWord : List ℕ → ℕ
+lastWord s = getD s (length s - 1) 0
 
 -- 1, 5, 2, 11
 unfoldable pub formVerdict : List ℕ → Verdict
@@ -42,7 +42,7 @@ formVerdict s =
     ∷ refuseIf (not (eqb (getD s 1 0) 0x3FF)) NoStart (Word 1)
     ∷ refuseIf (not (eqb (getD s 2 0) 0x3FF)) NoStart (Word 2)
     ∷ wordsVerdict 3 (coveredIn s)
-    ∷ sumVerdict (length s - 1) (lastOf s)
+    ∷ sumVerdict (length s - 1) (lastWord s)
     ∷ [])
 
 -- DID, SDID 6; DC 13
@@ -56,7 +56,7 @@ headerVerdict s =
 
 -- CS 12
 unfoldable pub checksumVerdict : List ℕ → Verdict
-checksumVerdict s = refuseIf (not (eqb (lastOf s) (checksumOf (coveredIn s)))) Checksum (Word (length s - 1))
+checksumVerdict s = refuseIf (not (eqb (lastWord s) (checksumOf (coveredIn s)))) Checksum (Word (length s - 1))
 
 unfoldable pub packetVerdict : List ℕ → Verdict
 packetVerdict s =

@@ -1,6 +1,6 @@
 // The RDD 8 (OP-47) subtitling packet: the ancillary data words that carry a subtitling distribution packet, and the order of checks over them.
 //
-// Normative references: document 01, "Subtitling packet" and "Which refusal comes first"; document 002 (RDD 8), clause 4; SMPTE 291M.
+// Normative references: docs/RULES.md, "Subtitling packet" and "Order of checks"; document 002 (RDD 8), clause 4; SMPTE 291M.
 ghost use mathlib.Core.Path.{_≡_};
 ghost use Prim.Native.Nat.{_≤_};
 ghost use lib.ListN.{length};
@@ -27,7 +27,7 @@ pub struct Answer {
     pub packet: Packet,
 }
 
-// 01, "Which refusal comes first": the whole order of reading a packet.
+// RULES, "Order of checks": the whole order of reading a packet.
 pub fn judge(words: &[u16]) -> Verdict
     ensures { λ r. ⌜ r ≡ packetVerdict (now (words .entry)) ⌝ }
 {

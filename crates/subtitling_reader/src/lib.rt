@@ -1,6 +1,6 @@
 // Reading an RDD 8 (OP-47) subtitling packet: its numbers, or its rows.
 //
-// Normative references: document 01, "Subtitling packet"; document 002 (RDD 8), clauses 4 and 5.
+// Normative references: docs/RULES.md, "Subtitling packet"; document 002 (RDD 8), clauses 4 and 5.
 ghost use mathlib.Core.Path.{_≡_};
 ghost use Prim.Native.Nat.{_+_, _≤_};
 ghost use mathlib.Core.List.{map};

@@ -1,6 +1,6 @@
 // Writing an RDD 8 (OP-47) subtitling packet.
 //
-// Normative references: document 01, "Subtitling packet" and "Which refusal comes first"; document 002 (RDD 8), clause 4; SMPTE 291M.
+// Normative references: docs/RULES.md, "Subtitling packet" and "Order of checks"; document 002 (RDD 8), clause 4; SMPTE 291M.
 ghost use mathlib.Core.Path.{_≡_};
 ghost use Prim.Native.Nat.{_+_, _*_, _≤_, _<_};
 ghost use mathlib.Core.List.{[], _∷_, map};
@@ -11,7 +11,8 @@ ghost use Rattle.refusal.specs.declared.Verdict.the-variants.{Accepted};
 ghost use Rattle.sdp.specs.Value.{descriptor as Value·descriptor, Typed, held, beside};
 ghost use Rattle.sdp.specs.Layout.{count as Layout·count, structures, footer};
 ghost use Rattle.subtitling.specs.Layout.{layout};
-ghost use Rattle.subtitling.specs.Writing.{valueVerdict, sealed, Writes};
+ghost use Rattle.subtitling.specs.Writing.{valueVerdict, Writes};
+ghost use Rattle.subtitling.specs.Inside.{sealed};
 use refusal::Excess;
 use refusal::Item;
 use refusal::Reason;
@@ -51,7 +52,7 @@ fn by_types(p: Packet, rows: [[u8; ROW_BYTES]; SLOTS])
     ensures { λ _. ⌜ Typed p rows ⌝ }
 {}
 
-// 01, "Which refusal comes first": 15 of the counter; 15 and 7 of each slot in order; then 1, which five structures cannot meet, then 14.
+// RULES, "Order of checks": 15 of the counter; 15 and 7 slot by slot; then 1, which five structures cannot meet, then 14.
 fn judge_value(p: Packet, rows: &[[u8; ROW_BYTES]; SLOTS], room: usize) -> Verdict
     requires { ⌜ Typed p (now rows) ⌝ }
     ensures { λ r. ⌜ r ≡ valueVerdict (held p (now (rows .entry))) room ⌝ }

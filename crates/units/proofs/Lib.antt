@@ -8,4 +8,5 @@ pub mod Steps
 pub mod Walk
 pub mod Refusals
 pub mod Started
+pub mod Accepting
 pub mod Theorems

@@ -1,4 +1,4 @@
--- Which bytes are no list of units, and the number that they get: 1, 2, then 3 wherever it arises. Document 01, "Which refusal comes first".
+-- Which bytes are no list of units, and the number that they get: 1, 2, then 3 wherever it arises. RULES, "Order of checks".
 -- Assumes nothing.
 use Prim.Native.Nat.{ℕ, _≤_, _<_}
 use native.Mathlib.Omega.{arith}
@@ -15,14 +15,10 @@ use Rattle.refusal.specs.declared.Reason.the-variants.{TooLong, NoStart, StartC
 use Rattle.refusal.specs.declared.Item.{Item}
 use Rattle.refusal.specs.declared.Item.the-variants.{Whole}
 use Rattle.refusal.specs.Checks.{refuseIf, andThen, first}
-use Rattle.units.specs.Layout.{prefixed}
+use Rattle.units.specs.Layout.{prefixed, startCode}
 use Rattle.units.specs.Split.{Cut, cutAt, cutOf, opened, allOpened, frontVerdict, splitVerdict}
 use Rattle.units.proofs.Cuts.{prefixed-front, cut-start}
 use Rattle.units.proofs.Opened.{front-long, front-opened, front-unopened}
-
--- user_data_start_code
-abbrev pub start : List ℕ
-start = 0 ∷ 0 ∷ 1 ∷ 0xB2 ∷ []
 
 -- what the front is refused with
 split-front : (s : List ℕ) (reason : Reason) (item : Item) → frontVerdict s ≡ Refused reason item → splitVerdict s ≡ Refused reason item
@@ -33,7 +29,7 @@ pub split-1 : (s : List ℕ) → 16384 < length s → splitVerdict s ≡ Refused
 split-1 s h = split-front s TooLong Whole (front-long s h)
 
 -- the start code is at the front exactly where the first four bytes are it
-opened-start : (s : List ℕ) → opened s ≡ true → take 4 s ≡ start
+opened-start : (s : List ℕ) → opened s ≡ true → take 4 s ≡ startCode
 opened-start [] e = absurd (false≢true e)
 opened-start (a ∷ []) e = absurd (false≢true e)
 opened-start (a ∷ b ∷ []) e = absurd (false≢true e)
@@ -43,7 +39,7 @@ opened-start (a ∷ b ∷ c ∷ d ∷ s) e =
     let code = eqb-true d 0xB2 (both .1) in
     ap (take 4) (prefixed-front (a ∷ b ∷ c ∷ d ∷ s) (both .0)) ∙ ap (λ (x : ℕ). 0 ∷ 0 ∷ 1 ∷ x ∷ []) code
 
-start-opened : (s : List ℕ) → take 4 s ≡ start → opened s ≡ true
+start-opened : (s : List ℕ) → take 4 s ≡ startCode → opened s ≡ true
 start-opened [] e = let f : _≡_ {A = ℕ} 0 1 = cc in let g : ⊥ = omega arith in absurd g
 start-opened (a ∷ []) e = let f : _≡_ {A = ℕ} 0 1 = cc in let g : ⊥ = omega arith in absurd g
 start-opened (a ∷ b ∷ []) e = let f : _≡_ {A = ℕ} 0 1 = cc in let g : ⊥ = omega arith in absurd g
@@ -55,14 +51,14 @@ start-opened (a ∷ b ∷ c ∷ d ∷ s) e =
     let fourth : d ≡ 0xB2 = cc in
     λ i. opened (first i ∷ second i ∷ third i ∷ fourth i ∷ s)
 
-other-unopened : (s : List ℕ) → (take 4 s ≡ start → ⊥) → opened s ≡ false
+other-unopened : (s : List ℕ) → (take 4 s ≡ startCode → ⊥) → opened s ≡ false
 other-unopened s h = by (opened s) refl
   where
     by : (t : Bool) → opened s ≡ t → opened s ≡ false
     by true e = absurd (h (opened-start s e))
     by false e = e
 
-pub split-2 : (s : List ℕ) → length s ≤ 16384 → 0 < length s → (take 4 s ≡ start → ⊥) → splitVerdict s ≡ Refused NoStart Whole
+pub split-2 : (s : List ℕ) → length s ≤ 16384 → 0 < length s → (take 4 s ≡ startCode → ⊥) → splitVerdict s ≡ Refused NoStart Whole
 split-2 s short some other = split-front s NoStart Whole (front-unopened s short (λ e. omega arith) (other-unopened s other))
 
 -- a piece that begins 00 00 01 and goes on with another byte, or with none
@@ -88,7 +84,7 @@ unopened-behind (b ∷ front) s e = by (prefixed (b ∷ (front ++ s))) (cutOf (f
     by false cut h = h
 
 -- 00 00 01 anywhere, the very end too, that is not followed by B2
-pub split-3 : (s front rest : List ℕ) → length s ≤ 16384 → take 4 s ≡ start → s ≡ front ++ (0 ∷ 0 ∷ 1 ∷ rest) → (take 1 rest ≡ 0xB2 ∷ [] → ⊥)
+pub split-3 : (s front rest : List ℕ) → length s ≤ 16384 → take 4 s ≡ startCode → s ≡ front ++ (0 ∷ 0 ∷ 1 ∷ rest) → (take 1 rest ≡ 0xB2 ∷ [] → ⊥)
     → splitVerdict s ≡ Refused StartCode Whole
 unfolding splitVerdict
 split-3 s front rest short first e other =

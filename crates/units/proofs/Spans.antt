@@ -1,5 +1,5 @@
 -- What the search for the units of one kind answers, from the bodies alone: that there is none, which one it is and where it stands, or how many
--- there are. The kind is any test of a body. Document 01, "Picture area".
+-- there are. The kind is any test of a body. RULES, "Picture area".
 -- Assumes nothing.
 use Prim.Native.Nat.{ℕ, suc, _+_, _-_, _≤_}
 use native.Mathlib.Omega.{arith}
@@ -18,7 +18,7 @@ use Rattle.refusal.specs.declared.Reason.{Reason}
 use Rattle.refusal.specs.declared.Item.{Item}
 use Rattle.units.specs.declared.Found.the-variants as found
 use Rattle.units.specs.Layout.{Clean, layoutUnit, layout}
-use Rattle.units.specs.Split.{Cut, cutOf, splitVerdict, bodiesOf, Span, putIf, spansOf, foundOf, scanOf}
+use Rattle.units.specs.Split.{Cut, cutOf, splitVerdict, bodiesOf, Span, putIf, ofKind, spansOf, foundOf, scanOf}
 use Rattle.units.proofs.Splits.{split-layout, split-clean, split-short, layout-pieces, layout-accepted, layout-append}
 
 never : {P : Type 0} → _≡_ {A = ℕ} 0 1 → P
@@ -64,15 +64,6 @@ foundOf-refused Accepted (span ∷ next ∷ spans) reason item e = never (cc)
 
 -- THE SPANS OF UNITS
 
--- how many bodies are of the kind
-abbrev pub tally : Bool → ℕ → ℕ
-tally true n = suc n
-tally false n = n
-
-abbrev pub count : (List ℕ → Bool) → List (List ℕ) → ℕ
-count ours [] = 0
-count ours (body ∷ bodies) = tally (ours body) (count ours bodies)
-
 -- the first unit begins at `at`; one body of the kind, with the bodies around it, and where it stands
 record Only (ours : List ℕ → Bool) (at : ℕ) (bodies : List (List ℕ)) (span : Span) : Type 0 where
   before : List (List ℕ)
@@ -85,21 +76,23 @@ record Only (ours : List ℕ → Bool) (at : ℕ) (bodies : List (List ℕ)) (sp
   starts : span .unit ≡ at + length (layout before)
   ends : span .end ≡ span .unit + 4 + length body
 
-length-putIf : (t : Bool) (span : Span) (spans : List Span) → length (putIf t span spans) ≡ tally t (length spans)
-length-putIf true span spans = refl
-length-putIf false span spans = refl
+-- two lists grow alike
+pub length-putIf : {A B : Type 0} → (t : Bool) (x : A) (xs : List A) (y : B) (ys : List B) → length xs ≡ length ys
+    → length (putIf t x xs) ≡ length (putIf t y ys)
+length-putIf true x xs y ys e = ap suc e
+length-putIf false x xs y ys e = e
 
 none-put : (t : Bool) (span : Span) (spans : List Span) → putIf t span spans ≡ [] → (t ≡ false) × (spans ≡ [])
 none-put true span spans e = absurd (nil≢cons (sym e))
 none-put false span spans e = (refl, e)
 
 module _ (ours : List ℕ → Bool) where
-  length-spans : (at : ℕ) (bodies : List (List ℕ)) → length (spansOf ours at (map layoutUnit bodies)) ≡ count ours bodies
+  length-spans : (at : ℕ) (bodies : List (List ℕ)) → length (spansOf ours at (map layoutUnit bodies)) ≡ length (ofKind ours bodies)
   length-spans at [] = refl
   length-spans at (body ∷ bodies) =
       let next = at + length (layoutUnit body) in
-      length-putIf (ours body) (record { unit = at; end = next }) (spansOf ours next (map layoutUnit bodies))
-      ∙ ap (λ (n : ℕ). tally (ours body) n) (length-spans next bodies)
+      let here : Span = record { unit = at; end = next } in
+      length-putIf (ours body) here (spansOf ours next (map layoutUnit bodies)) body (ofKind ours bodies) (length-spans next bodies)
 
   -- none where every body is foreign, and only there
   spans-none : (at : ℕ) (bodies : List (List ℕ)) → Each (λ (b : List ℕ). ours b ≡ false) bodies → spansOf ours at (map layoutUnit bodies) ≡ []
@@ -266,21 +259,21 @@ at-found ours before body after cb c ca fb fa mine short =
     ∙ ap (λ (n : ℕ). found.At n (n + 4 + length body)) none
 
 -- the spans of an accepted area are as many as its bodies of the kind
-length-scan : (ours : List ℕ → Bool) (s : List ℕ) → splitVerdict s ≡ Accepted → length (spansOf ours 0 (cutOf s .pieces)) ≡ count ours (bodiesOf s)
+length-scan : (ours : List ℕ → Bool) (s : List ℕ) → splitVerdict s ≡ Accepted → length (spansOf ours 0 (cutOf s .pieces)) ≡ length (ofKind ours (bodiesOf s))
 length-scan ours s e = ap length (scan-split ours s e) ∙ length-spans ours 0 (bodiesOf s)
 
 -- Several units of the kind are counted,
 pub many-second : (ours : List ℕ → Bool) (s : List ℕ) (k : ℕ) → scanOf ours s ≡ found.Many k
-    → (2 ≤ k) × (k ≡ count ours (bodiesOf s)) × (splitVerdict s ≡ Accepted)
+    → (2 ≤ k) × (k ≡ length (ofKind ours (bodiesOf s))) × (splitVerdict s ≡ Accepted)
 many-second ours s k e =
     let verdict-told = foundOf-many (splitVerdict s) (spansOf ours 0 (cutOf s .pieces)) k e in
     (verdict-told .1, verdict-told .2 ∙ length-scan ours s (verdict-told .0), verdict-told .0)
 
 -- and where there are several the answer says so.
-pub second-many : (ours : List ℕ → Bool) (s : List ℕ) → splitVerdict s ≡ Accepted → 2 ≤ count ours (bodiesOf s) → scanOf ours s ≡ found.Many (count ours (bodiesOf s))
+pub second-many : (ours : List ℕ → Bool) (s : List ℕ) → splitVerdict s ≡ Accepted → 2 ≤ length (ofKind ours (bodiesOf s)) → scanOf ours s ≡ found.Many (length (ofKind ours (bodiesOf s)))
 second-many ours s e h =
     let spans = spansOf ours 0 (cutOf s .pieces) in
-    let counted : length spans ≡ count ours (bodiesOf s) = length-scan ours s e in
+    let counted : length spans ≡ length (ofKind ours (bodiesOf s)) = length-scan ours s e in
     ap (λ (verdict : Verdict). foundOf verdict spans) e ∙ many-found spans (omega arith) ∙ ap (λ (k : ℕ). found.Many k) counted
 
 -- What is no list of units is refused as the split refuses it.

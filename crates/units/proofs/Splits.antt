@@ -1,5 +1,5 @@
 -- Layout and split undo each other: what is accepted is the layout of its bodies, which are clean, and the layout of clean bodies is accepted where
--- it is short enough, and split into them. Document 01, "Picture area".
+-- it is short enough, and split into them. RULES, "Picture area".
 -- Assumes nothing.
 use Prim.Native.Nat.{ℕ, _+_, _≤_, _<_}
 use native.Mathlib.Omega.{arith}

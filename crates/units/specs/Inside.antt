@@ -22,7 +22,8 @@ Notes seen span r = (spans : List Span) → seen ≡ seenOf spans → r ≡ seen
 abbrev pub Tells : Seen → Found → Type 0
 Tells seen r = (spans : List Span) → seen ≡ seenOf spans → r ≡ foundOf Accepted spans
 
--- the promise of `pace` and `passable`: none is passed where a 00 00 01 begins at i, else so many that the next one is still ahead
+-- the promise of `pace` and `passable`: none is passed where a 00 00 01 begins at i, else so many that the next one is
+-- still ahead
 pub record Passes (s : List ℕ) (i r : ℕ) : Type 0 where
   pub here : r ≡ 0 → prefixed (drop i s) ≡ true
   pub ahead : (r ≡ 0 → ⊥) → nextOf s i ≡ nextOf s (i + r)

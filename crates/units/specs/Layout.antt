@@ -1,4 +1,4 @@
--- The bytes of a list of units, from their bodies alone. Document 01, "Picture area"; ISO/IEC 13818-2, user_data_start_code.
+-- The bytes of a list of units, from their bodies alone. RULES, "Picture area"; ISO/IEC 13818-2, user_data_start_code.
 use Prim.Native.Nat.{ℕ}
 use mathlib.Core.Path.{_≡_}
 use mathlib.Core.Bool.{Bool, false, _&&_}
@@ -16,6 +16,10 @@ prefixed (a ∷ b ∷ c ∷ s) = eqb a 0 && (eqb b 0 && eqb c 1)
 abbrev pub Clean : List ℕ → Type 0
 Clean [] = Unit {0}
 Clean (b ∷ s) = (prefixed (b ∷ s) ≡ false) × Clean s
+
+-- user_data_start_code
+abbrev pub startCode : List ℕ
+startCode = 0 ∷ 0 ∷ 1 ∷ 0xB2 ∷ []
 
 -- the four start bytes, then the body
 abbrev pub layoutUnit : List ℕ → List ℕ

@@ -1,4 +1,4 @@
--- How an area is cut into units, for every list of bytes. Document 01, "Picture area" and "Which refusal comes first": 1, 2, 3.
+-- How an area is cut into units, for every list of bytes. RULES, "Picture area" and "Order of checks": 1, 2, 3.
 use Prim.Native.Nat.{ℕ, _+_}
 use mathlib.Core.Bool.{Bool, true, false, not, _&&_}
 use mathlib.Core.List.{List, [], _∷_, map}
@@ -13,7 +13,8 @@ use Rattle.units.specs.declared.Found.{Found}
 use Rattle.units.specs.declared.Found.the-variants as found
 use Rattle.units.specs.Layout.{prefixed}
 
--- an area's bytes, cut before each appearance of 00 00 01: what stands before the first, and a piece from each up to the next
+-- an area's bytes, cut before each appearance of 00 00 01: what stands before the first, and a piece from each up to
+-- the next
 pub record Cut : Type 0 where
   pub before : List ℕ
   pub pieces : List (List ℕ)
@@ -64,15 +65,22 @@ pub record Span : Type 0 where
   pub unit : ℕ
   pub end : ℕ
 
-abbrev pub putIf : Bool → Span → List Span → List Span
-putIf true span spans = span ∷ spans
-putIf false span spans = spans
+-- put in front where a test holds
+abbrev pub putIf : {A : Type 0} → Bool → A → List A → List A
+putIf true x xs = x ∷ xs
+putIf false x xs = xs
 
--- where the units with a body of one kind stand, for pieces the first of which begins at `at`
+-- those of the bodies that are of one kind
+abbrev pub ofKind : (List ℕ → Bool) → List (List ℕ) → List (List ℕ)
+ofKind ours [] = []
+ofKind ours (body ∷ bodies) = putIf (ours body) body (ofKind ours bodies)
+
+-- where the units with such a body stand, for pieces the first of which begins at `at`
 abbrev pub spansOf : (List ℕ → Bool) → ℕ → List (List ℕ) → List Span
 spansOf ours at [] = []
 spansOf ours at (piece ∷ pieces) =
-    putIf (ours (drop 4 piece)) (record { unit = at; end = at + length piece }) (spansOf ours (at + length piece) pieces)
+    putIf (ours (drop 4 piece)) (record { unit = at; end = at + length piece })
+    (spansOf ours (at + length piece) pieces)
 
 abbrev pub foundOf : Verdict → List Span → Found
 foundOf (Refused reason item) spans = found.NotUnits reason item

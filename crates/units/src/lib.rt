@@ -1,6 +1,6 @@
 // The units of an area: start codes, and the search for the units of one kind. It knows no kind of caption.
 //
-// Normative references: document 01, "Picture area"; ISO/IEC 13818-2, start codes.
+// Normative references: docs/RULES.md, "Picture area"; ISO/IEC 13818-2, start codes.
 ghost use mathlib.Core.Path.{_≡_};
 ghost use Prim.Native.Nat.{_+_, _≤_, _<_};
 ghost use lib.ListN.{length};

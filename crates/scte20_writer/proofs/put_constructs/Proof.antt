@@ -11,8 +11,8 @@ use lib.ListN.{length, getD, take, set, replicate, length-set}
 use lib.Seq.{length-take-le, getD-take}
 use Rattle.lists.specs.Room.{overAt}
 use Rattle.lists.proofs.Each.{each-at}
-use Rattle.bits.specs.Bits.{bits, bytesOf, AreBits}
-use Rattle.bits.proofs.Numbers.{bits-are, are-append}
+use Rattle.bits.specs.Bits.{bits, bytesOf}
+use Rattle.bits.proofs.Numbers.{AreBits, bits-are, are-append}
 use Rattle.scte20.specs.declared.Record.{Record}
 use Rattle.scte20.specs.declared.CaptionUnit.{CaptionUnit}
 use Rattle.scte20_writer.specs.declared.Pen.{Pen}

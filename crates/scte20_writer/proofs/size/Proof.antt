@@ -3,7 +3,7 @@
 use Prim.Native.Nat.{ℕ, zero, suc, _+_, _*_, _/_}
 use native.Mathlib.Omega.{arith}
 use mathlib.Core.Path.{_≡_, ap, sym, refl}
-use Rattle.scte20.specs.Reading.{sizeIn}
+use Rattle.scte20.specs.Layout.{sizeIn}
 use Rattle.scte20_writer.proofs.size.Statement.{statement}
 use Rattle.scte20_writer.proofs.size.Tie as tie
 

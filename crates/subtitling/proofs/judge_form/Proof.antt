@@ -10,7 +10,7 @@ use Rattle.refusal.specs.declared.Verdict.the-variants.{Accepted}
 use Rattle.refusal.specs.Checks.{andThen}
 use Rattle.refusal.proofs.Checks.{andThen-last, refused-first, accepted-first}
 use Rattle.anc.specs.Words.{wordsVerdict, sumVerdict}
-use Rattle.subtitling.specs.Reading.{coveredIn, lastOf, formVerdict}
+use Rattle.subtitling.specs.Reading.{coveredIn, lastWord, formVerdict}
 use Rattle.subtitling.proofs.judge_form.Statement.{statement}
 use Rattle.subtitling.proofs.judge_form.Tie as tie
 
@@ -53,7 +53,7 @@ flag2 c =
 -- past the flag, the words decide, then CS
 passed : (c : tie.Else5)
     → let s = now (c .before .before .before .before .before .before .before .before .before .args .words) in
-    formVerdict s ≡ andThen (wordsVerdict 3 (coveredIn s)) (andThen (sumVerdict (length s - 1) (lastOf s)) Accepted)
+    formVerdict s ≡ andThen (wordsVerdict 3 (coveredIn s)) (andThen (sumVerdict (length s - 1) (lastWord s)) Accepted)
 unfolding formVerdict
 passed c =
     let four = c .before .before in

@@ -10,7 +10,7 @@ use denote.Ref.{now}
 use lib.ListN.{length, getD, take, drop}
 use Rattle.lists.specs.Room.{filled}
 use Rattle.anc.specs.Words.{byteOf}
-use Rattle.sdp.specs.Value.{zeros}
+use Rattle.sdp.specs.Value.{zeroRow}
 use Rattle.sdp.specs.Layout.{count}
 use Rattle.sdp.specs.User.{descriptorsIn, markOf}
 use Rattle.sdp.proofs.Slots.{mark-some}
@@ -28,7 +28,7 @@ abbrev allRows : List ℕ → List (List ℕ)
 allRows user = rowsIn (descriptors user) (drop 9 (map byteOf user))
 
 abbrev Inv-loop : tie.InvT-loop
-Inv-loop user rows₀ at₀ i₀ rows at i = (i ≤ 5) × (at ≡ 9 + 45 * count (take i (descriptors user))) × (rows ≡ filled (take i (allRows user)) 5 zeros)
+Inv-loop user rows₀ at₀ i₀ rows at i = (i ≤ 5) × (at ≡ 9 + 45 * count (take i (descriptors user))) × (rows ≡ filled (take i (allRows user)) 5 zeroRow)
 
 abbrev μ-loop : tie.MeasureT-loop
 μ-loop user rows₀ at₀ i₀ rows at i = 5 - i
@@ -80,13 +80,13 @@ loop-again c =
     let row = w .1 .ensures ∙ row-some u i (at .at) (inside turn) (at .inv .1) some in (
       omega arith,
       omega (arith, w .3, at .inv .1, next turn, mark-some (getD ds i 0) some),
-      w .2 ∙ filled-next (allRows user) 5 zeros i below placed (at .rows) (w .1 .result) (at .inv .2) row,
+      w .2 ∙ filled-next (allRows user) 5 zeroRow i below placed (at .rows) (w .1 .result) (at .inv .2) row,
     ))
     (λ w.
     let none : getD ds i 0 ≡ 0 = here turn ∙ w .0 .left in (
       omega arith,
       omega (arith, w .2, at .inv .1, next turn, ap markOf none),
-      w .1 ∙ at .inv .2 ∙ filled-same (allRows user) 5 zeros i below placed (row-none ds (drop 9 u) i (inside turn) none),
+      w .1 ∙ at .inv .2 ∙ filled-same (allRows user) 5 zeroRow i below placed (row-none ds (drop 9 u) i (inside turn) none),
     ))
     (c .if1 .came)
 
@@ -96,7 +96,7 @@ returns c =
     let user = now (start .args .user) in
     let long : 9 ≤ length user = omega arith in
     let five : length (allRows user) ≡ 5 = length-rowsIn (descriptors user) (drop 9 (map byteOf user)) ∙ length-descriptors user long in
-    c .before .loop .inv .2 ∙ filled-all (allRows user) 5 zeros five (c .before .loop .i) (c .loop-test .left)
+    c .before .loop .inv .2 ∙ filled-all (allRows user) 5 zeroRow five (c .before .loop .i) (c .loop-test .left)
 
 pub rows-in-spec : {M : Type 1} → statement M
 rows-in-spec =

@@ -15,7 +15,7 @@ use Rattle.refusal.specs.declared.Item.the-variants.{Whole}
 use Rattle.refusal.specs.Checks.{refuseIf, andThen}
 use Rattle.sdp.specs.Value.{SlotRow, Typed, descriptor, held}
 use Rattle.sdp.specs.Layout.{count}
-use Rattle.sdp.specs.Holdable.{slotsVerdict}
+use Rattle.sdp.specs.SlotVerdict.{slotsVerdict}
 use Rattle.subtitling.specs.Writing.{valueVerdict}
 use Rattle.sdp.proofs.Numbers.{length-held}
 use Rattle.subtitling.proofs.Held.{held-from, verdict-few, few-structures}

@@ -14,8 +14,8 @@ use Rattle.lists.proofs.Lay.{length-over, take-over, over-again, laid-more, len
 use Rattle.anc.specs.Words.{wordOf, byteOf}
 use Rattle.sdp.specs.Value.{Typed, Legal, descriptor, held}
 use Rattle.sdp.specs.Layout.{structures, footer}
-use Rattle.subtitling.specs.Writing.{sealed}
-use Rattle.sdp.proofs.Numbers.{legal-held}
+use Rattle.subtitling.specs.Inside.{sealed}
+use Rattle.sdp.proofs.Numbers.{checked-legal}
 use Rattle.subtitling.proofs.Numbers.{Writable, accepted-value}
 use Rattle.subtitling.proofs.Held.{few-structures, length-layout-held}
 use Rattle.subtitling.proofs.Pieces.{header, structuresOf, headed, described, structured, footed, length-described, length-structured, length-footed, sealed-longer, pieces-layout}
@@ -35,7 +35,7 @@ module _ (c : tie.Start) where
   writable = accepted-value _ _ (c .pre .1)
 
   legal : Legal (held (c .args .p) (now (c .args .rows)))
-  legal = legal-held (c .args .p) (now (c .args .rows)) types (writable .few) (writable .each)
+  legal = checked-legal (c .args .p) (now (c .args .rows)) types (writable .few) (writable .each)
 
   room : 20 + 45 * structuresOf (c .args .p) ≤ length (outOf c)
   room = omega (arith, writable .fits, length-layout-held (c .args .p) (now (c .args .rows)) types)

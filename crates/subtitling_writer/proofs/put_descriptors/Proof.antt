@@ -13,7 +13,7 @@ use Rattle.lists.specs.Room.{over}
 use Rattle.lists.proofs.Lay.{length-over, store-next}
 use Rattle.anc.specs.Words.{wordOf, byteOf}
 use Rattle.sdp.specs.declared.Slot.{Slot}
-use Rattle.sdp.specs.Value.{descriptor, empty}
+use Rattle.sdp.specs.Value.{descriptor, emptySlot}
 use Rattle.sdp.proofs.Types.{five}
 use Rattle.subtitling_writer.proofs.put_descriptors.Statement.{statement}
 use Rattle.subtitling_writer.proofs.put_descriptors.Tie as tie
@@ -24,8 +24,8 @@ words ss = map wordOf (map byteOf (map descriptor ss))
 length-words : (ss : List Slot) (i : ℕ) → i ≤ length ss → length (words (take i ss)) ≡ i
 length-words ss i h = simp length-map (length-take-le i ss h)
 
-words-more : (ss : List Slot) (i : ℕ) → i < length ss → words (take (i + 1) ss) ≡ words (take i ss) ++ (wordOf (byteOf (descriptor (getD ss i empty))) ∷ [])
-words-more ss i h = rw (add-one, take-suc ss i empty, map-append, map-append, map-append)
+words-more : (ss : List Slot) (i : ℕ) → i < length ss → words (take (i + 1) ss) ≡ words (take i ss) ++ (wordOf (byteOf (descriptor (getD ss i emptySlot))) ∷ [])
+words-more ss i h = rw (add-one, take-suc ss i emptySlot, map-append, map-append, map-append)
 
 abbrev Inv-loop : tie.InvT-loop
 Inv-loop out₀ p i₀ out i = (i ≤ 5) × (out ≡ over (words (take i (p .slots))) out₀)
@@ -61,7 +61,7 @@ loop-again c =
     let word = c .word .ensures ∙ ap (λ (d : ℕ). wordOf (byteOf d)) (c .before .descriptor .ensures) in (
       omega arith,
       ap₂ (λ (xs : List ℕ) (w : ℕ). set xs i w) (at .loop .inv .1) word
-          ∙ store-next (words (take i ss)) out (wordOf (byteOf (descriptor (getD ss i empty)))) i (sized at) room
+          ∙ store-next (words (take i ss)) out (wordOf (byteOf (descriptor (getD ss i emptySlot)))) i (sized at) room
           ∙ ap (λ (front : List ℕ). over front out) (sym (words-more ss i inside)),
     )
 

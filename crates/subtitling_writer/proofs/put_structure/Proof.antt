@@ -20,9 +20,9 @@ use Rattle.subtitling_writer.proofs.put_structure.Tie as tie
 abbrev words : List ℕ → List ℕ
 words bytes = 0x255 ∷ 0x255 ∷ 0x227 ∷ map wordOf bytes
 
-words-bytes : (bytes : List ℕ) → words bytes ≡ map wordOf (0x55 ∷ 0x55 ∷ 0x27 ∷ bytes)
+words-wordOf : (bytes : List ℕ) → words bytes ≡ map wordOf (0x55 ∷ 0x55 ∷ 0x27 ∷ bytes)
 unfolding wordOf parityOf
-words-bytes bytes = refl
+words-wordOf bytes = refl
 
 length-words : (r : List ℕ) (j : ℕ) → j ≤ length r → length (words (take j r)) ≡ 3 + j
 length-words r j h = omega (arith, length-map (take j r) wordOf, length-take-le j r h)
@@ -93,7 +93,7 @@ returns c =
     c .before .loop .inv .1
     ∙ ap (λ (bytes : List ℕ). over (words bytes) (begun out)) (take-all (c .before .loop .j) r all)
     ∙ over-begun r out
-    ∙ ap (λ (front : List ℕ). over front out) (words-bytes r)
+    ∙ ap (λ (front : List ℕ). over front out) (words-wordOf r)
 
 pub put-structure-spec : {M : Type 1} → statement M
 put-structure-spec =

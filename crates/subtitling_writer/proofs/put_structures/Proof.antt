@@ -15,7 +15,7 @@ use Rattle.lists.proofs.Each.{each-at}
 use Rattle.lists.proofs.Lay.{length-over, laid-more, length-rest}
 use Rattle.anc.specs.Words.{wordOf}
 use Rattle.sdp.specs.declared.Packet.{Packet}
-use Rattle.sdp.specs.Value.{SlotRow, Row, Typed, descriptor, empty, held}
+use Rattle.sdp.specs.Value.{SlotRow, Row, Typed, descriptor, emptySlot, held}
 use Rattle.sdp.specs.Layout.{count, structure, structures}
 use Rattle.sdp.proofs.Numbers.{length-held}
 use Rattle.subtitling.proofs.Held.{few-structures}
@@ -32,16 +32,16 @@ abbrev piece : List ℕ → List ℕ
 piece row = map wordOf (0x55 ∷ 0x55 ∷ 0x27 ∷ row)
 
 module _ (p : Packet) (rows : List (List ℕ)) (t : Typed p rows) (i : ℕ) (h : i < 5) where
-  words-more : (new : List ℕ) → structure (descriptor (getD (p .slots) i empty)) (getD rows i []) ≡ new
+  words-more : (new : List ℕ) → structure (descriptor (getD (p .slots) i emptySlot)) (getD rows i []) ≡ new
       → words (held p rows .slots) (i + 1) ≡ words (held p rows .slots) i ++ map wordOf new
   words-more new e =
       let front = structures (take i (held p rows .slots)) in
       ap (λ (bytes : List ℕ). map wordOf bytes) (structures-more p rows t i h ∙ ap (λ (bytes : List ℕ). front ++ bytes) e) ∙ map-append wordOf front new
 
-  words-none : descriptor (getD (p .slots) i empty) ≡ 0 → words (held p rows .slots) (i + 1) ≡ words (held p rows .slots) i
+  words-none : descriptor (getD (p .slots) i emptySlot) ≡ 0 → words (held p rows .slots) (i + 1) ≡ words (held p rows .slots) i
   words-none e = words-more [] (structure-none _ (getD rows i []) e) ∙ append-nil (words (held p rows .slots) i)
 
-  words-some : (descriptor (getD (p .slots) i empty) ≡ 0 → ⊥) → words (held p rows .slots) (i + 1) ≡ words (held p rows .slots) i ++ piece (getD rows i [])
+  words-some : (descriptor (getD (p .slots) i emptySlot) ≡ 0 → ⊥) → words (held p rows .slots) (i + 1) ≡ words (held p rows .slots) i ++ piece (getD rows i [])
   words-some some = words-more (0x55 ∷ 0x55 ∷ 0x27 ∷ getD rows i []) (structure-some _ (getD rows i []) some)
 
   length-piece : length (piece (getD rows i [])) ≡ 45

@@ -10,7 +10,7 @@ use borrow.Author.Tests.{eqb-true, eqb-false}
 use denote.Ref.{now}
 use lib.Dec.{eqb}
 use lib.ListN.{length, getD}
-use Rattle.notation.specs.Inside.{Ends}
+use Rattle.notation.specs.Inside.{EndsWord}
 use Rattle.notation.specs.Words.{isSpace}
 use Rattle.notation.proofs.Cutting.{words-passed}
 use Rattle.notation.proofs.words.ended.Statement.{statement}
@@ -30,7 +30,7 @@ abbrev μ-loop : tie.MeasureT-loop
 loop-holds : tie.Need-loop-holds Inv-loop μ-loop
 loop-holds c = record { from = search needs; inside = search needs; word = λ k from below. let f : ⊥ = omega arith in absurd f }
 
-ends : (text : List ℕ) (at i : ℕ) → Passed text at i → (i < length text → isSpace (getD text i 0) ≡ true) → Ends text at i
+ends : (text : List ℕ) (at i : ℕ) → Passed text at i → (i < length text → isSpace (getD text i 0) ≡ true) → EndsWord text at i
 ends text at i h stops =
     record { from = h .from; inside = h .inside; passed = words-passed text at i (h .from) (h .inside) (h .word) stops; stops = stops }
 

@@ -2,7 +2,7 @@
 -- Assumes nothing.
 use Prim.Native.Nat.{ℕ, _+_, _≤_, _<_}
 use native.Mathlib.Omega.{arith}
-use mathlib.Core.Path.{_≡_, _∙_, ap, ap₂, sym, refl}
+use mathlib.Core.Path.{_≡_, _∙_, ap, ap₂, sym}
 use mathlib.Core.Bool.{true}
 use mathlib.Core.List.{List, []}
 use borrow.Author.Needs.{needs}
@@ -20,8 +20,8 @@ use Rattle.scte20.specs.declared.Head as scte20
 use Rattle.scte20.specs.declared.Numbers.{Numbers}
 use Rattle.scte20.specs.Value.{stored}
 use Rattle.scte20.specs.Reading.{contentVerdict, valueOf}
-use Rattle.scte20.specs.Reading as content
 use Rattle.scte20.specs.Lent.{numbersOf}
+use Rattle.scte20.specs.Lent as content
 use Rattle.scte20.proofs.Theorems.{refused-in-order}
 use Rattle.picture.specs.declared.Head.{Head}
 use Rattle.picture.specs.Reading.{answerOf}
@@ -58,9 +58,7 @@ bodyOf c =
 
 judged : (c : tie.After-read-into) → c .read-into .result .verdict ≡ contentVerdict (bodyOf c)
 unfolding bodyOf
-judged c =
-    let told = c .read-into .ensures in
-    ap (λ (r : scte20.Head). r .verdict) (told .answer) ∙ refused-in-order (bodyOf c) (content.readOf (bodyOf c)) (record { bytes = told .bytes; answer = refl })
+judged c = refused-in-order (bodyOf c) _ _ _ (c .read-into .ensures)
 
 -- the content is refused
 module _ (c : tie.After-known-told) where
@@ -107,7 +105,7 @@ returns-2 c =
     let told = c .before .before .enum-told .given .1 in
     let ok : contentVerdict (bodyOf read) ≡ Accepted = sym (judged read) ∙ told in
     let numbers : read .read-into .result .numbers ≡ numbersOf (stored (valueOf (bodyOf read))) =
-    ap (λ (r : scte20.Head). r .numbers) (read .read-into .ensures .answer) ∙ ap (λ (v : Verdict). numbersOf (content.answerOf v (valueOf (bodyOf read)) .unit)) ok in
+    ap (λ (r : scte20.Head). r .numbers) (read .read-into .ensures .answer) ∙ ap (λ (v : Verdict). content.headOf v (valueOf (bodyOf read)) .numbers) ok in
     body-into (now (start .args .s)) (now (start .args .records)) (bytes known) (start .args .unit) (start .args .end) (start .pre)
     (read .read-into .result) _ (read .read-into .ensures) Accepted ok _ (ap₂ made (c .told .ensures ∙ ap refusalOf told) numbers)
 

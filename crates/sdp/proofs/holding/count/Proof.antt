@@ -8,7 +8,7 @@ use mathlib.Core.List.{map}
 use borrow.Author.Needs.{needs}
 use lib.ListN.{length, take, length-map, List·getD-map}
 use lib.Seq.{take-all}
-use Rattle.sdp.specs.Value.{descriptor, empty}
+use Rattle.sdp.specs.Value.{descriptor, emptySlot}
 use Rattle.sdp.specs.Layout.{count}
 use Rattle.sdp.specs.User.{markOf}
 use Rattle.sdp.proofs.Types.{five}
@@ -33,7 +33,7 @@ loop-again c =
     let ss = at .before .args .t1 .slots in
     let i = at .loop .i in
     let inside : i < length (map descriptor ss) = omega (arith, sized (at .before)) in
-    let told = List·getD-map descriptor ss i empty ∙ sym (c .before .descriptor .ensures) in
+    let told = List·getD-map descriptor ss i emptySlot ∙ sym (c .before .descriptor .ensures) in
     let more = count-more (map descriptor ss) i inside ∙ ap (λ (d : ℕ). count (take i (map descriptor ss)) + markOf d) told in
     ⊎-elim
     (λ w. let one = mark-some (c .before .descriptor .result) (w .0 .taken) in (omega arith, (omega arith, omega arith)))

@@ -6,7 +6,7 @@ use mathlib.Core.Path.{_≡_, _∙_, ap, refl}
 use lib.Dec.{eqb}
 use lib.ListN.{length, take}
 use lib.Seq.{take-all}
-use Rattle.sdp.specs.Holdable.{allZero}
+use Rattle.sdp.specs.SlotVerdict.{allZero}
 use Rattle.sdp.proofs.Types.{row}
 use Rattle.sdp.proofs.Blank.{blank-more}
 use Rattle.sdp.proofs.holding.is_blank.Statement.{statement}

@@ -6,7 +6,7 @@ use mathlib.Core.Bool.{Bool, not, _&&_}
 use borrow.Author.Needs.{needs}
 use borrow.Author.Tests.{eq-eqb, ne-eqb}
 use lib.Dec.{eqb}
-use Rattle.sdp.specs.Holdable.{allZero, unwritable}
+use Rattle.sdp.specs.SlotVerdict.{allZero, unwritable}
 use Rattle.sdp.proofs.holding.is_unwritable.Statement.{statement}
 use Rattle.sdp.proofs.holding.is_unwritable.Tie as tie
 

@@ -12,7 +12,7 @@ use Rattle.refusal.specs.Checks.{refuseIf, andThen}
 use Rattle.refusal.proofs.Checks.{andThen-last}
 use Rattle.sdp.specs.Value.{descriptor, together}
 use Rattle.sdp.specs.User.{lineVerdict}
-use Rattle.sdp.specs.Holdable.{allZero, unwritable, slotVerdict}
+use Rattle.sdp.specs.SlotVerdict.{allZero, unwritable, slotVerdict}
 use Rattle.sdp.proofs.holding.judge_slot.Statement.{statement}
 use Rattle.sdp.proofs.holding.judge_slot.Tie as tie
 

@@ -1,4 +1,4 @@
--- Which slots can be written. Document 01, "Which refusal comes first": in each slot 15, an unwritable one 15, then 7.
+-- Which slots can be written. RULES, "Order of checks": in each slot 15, an unwritable one 15, then 7.
 use Prim.Native.Nat.{ℕ, zero, suc}
 use mathlib.Core.Bool.{Bool, true, false, not, _&&_}
 use mathlib.Core.List.{List, [], _∷_, map}
@@ -16,8 +16,8 @@ allZero [] = true
 allZero (zero ∷ xs) = allZero xs
 allZero (suc x ∷ xs) = false
 
--- from its mark and descriptor, and whether its row is all zero: a full slot with line 0, reserved 0, even field, or an empty one that holds
--- anything else, cannot be written
+-- whether a slot has no layout, from its mark, its descriptor and whether its row is all zero: full with descriptor 0,
+-- or empty with anything in it
 abbrev pub unwritable : ℕ → ℕ → Bool → Bool
 unwritable zero d blank = not (eqb d 0 && blank)
 unwritable (suc mark) d blank = eqb d 0

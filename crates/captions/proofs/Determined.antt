@@ -1,0 +1,48 @@
+-- Each call's promise fixes its answer and what lent memory holds.
+-- Assumes nothing.
+use Prim.Native.Nat.{ℕ, _<_}
+use mathlib.Core.Path.{_≡_, ap}
+use mathlib.Core.Logic.{⊎-elim}
+use mathlib.Core.List.{List}
+use Rattle.refusal.specs.declared.Written.{Written}
+use Rattle.refusal.proofs.Outputs.{wrote-determined}
+use Rattle.scte20.specs.declared.Numbers.{Numbers}
+use Rattle.scte20.specs.Lent.{unitIn}
+use Rattle.picture.specs.Writing.{Writes, Replaces}
+use Rattle.picture.proofs.Theorems as picture
+use Rattle.subtitling.specs.Writing as packets
+use Rattle.subtitling.proofs.Theorems as subtitling
+use Rattle.line21.specs.Lent.{payloadIn}
+use Rattle.line21.proofs.Theorems as payloads
+use Rattle.captions.specs.declared.UnitHead.{UnitHead}
+use Rattle.captions.specs.Calls.{headIn, AreaReads, packetIn, PayloadWrites}
+use Rattle.captions.proofs.Numbers.{apart, byte-or-wide}
+
+pub area-read-determined : (s lent : List ℕ) (a : UnitHead) (exit : List ℕ) (b : UnitHead) (end : List ℕ)
+    → AreaReads s lent a exit → AreaReads s lent b end → (a ≡ b) × (exit ≡ end)
+area-read-determined s lent a exit b end p q =
+    let same = picture.read-into-determined s lent (headIn a) exit (headIn b) end p q in
+    (ap apart (same .0), same .1)
+
+pub unit-write-determined : (v : Numbers) (lent out : List ℕ) (a : Written) (exit : List ℕ) (b : Written) (end : List ℕ)
+    → Writes (unitIn v lent) out a exit → Writes (unitIn v lent) out b end → (a ≡ b) × (exit ≡ end)
+unit-write-determined v lent = picture.write-determined (unitIn v lent)
+
+pub area-replace-determined : (s : List ℕ) (v : Numbers) (lent out : List ℕ) (a : Written) (exit : List ℕ) (b : Written) (end : List ℕ)
+    → Replaces s (unitIn v lent) out a exit → Replaces s (unitIn v lent) out b end → (a ≡ b) × (exit ≡ end)
+area-replace-determined s v lent = picture.replace-determined s (unitIn v lent)
+
+pub packet-write-determined : (counter : ℕ) (lent : List ℕ) (rows : List (List ℕ)) (out : List ℕ) (a : Written) (exit : List ℕ) (b : Written) (end : List ℕ)
+    → packets.Writes (packetIn counter lent) rows out a exit → packets.Writes (packetIn counter lent) rows out b end
+    → (a ≡ b) × (exit ≡ end)
+packet-write-determined counter lent = subtitling.write-determined (packetIn counter lent)
+
+pub payload-write-determined : (flags m : ℕ) (lent out : List ℕ) (a : Written) (exit : List ℕ) (b : Written) (end : List ℕ)
+    → PayloadWrites flags m lent out a exit → PayloadWrites flags m lent out b end → (a ≡ b) × (exit ≡ end)
+payload-write-determined flags m lent out a exit b end p q = ⊎-elim small large (byte-or-wide flags)
+  where
+    small : flags < 256 → (a ≡ b) × (exit ≡ end)
+    small h = payloads.write-determined (payloadIn flags m lent) out a exit b end (p .within h) (q .within h)
+
+    large : 255 < flags → (a ≡ b) × (exit ≡ end)
+    large h = wrote-determined _ _ _ _ _ (p .beyond h) b end (q .beyond h)
