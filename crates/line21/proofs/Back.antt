@@ -12,7 +12,7 @@ use Rattle.line21.specs.declared.AccessUnit.{AccessUnit}
 use Rattle.line21.specs.declared.Payload.{Payload}
 use Rattle.line21.specs.declared.Answer.{Answer}
 use Rattle.line21.specs.Value.{Line21, LegalAccessUnit, Legal, LegalPayload, stored, held}
-use Rattle.line21.specs.Layout.{layoutUnit, layoutUnits, layout}
+use Rattle.line21.specs.Layout.{layoutAccessUnit, layoutAccessUnits, layout}
 use Rattle.line21.specs.Reading.{readUnit, readUnits, unitCount, valueOf, answerOf, readOf, Reads}
 use Rattle.line21.proofs.Layouts.{length-layoutUnits}
 use Rattle.line21.proofs.Length.{WholeUnits, whole-unitCount, whole-accepted}
@@ -20,7 +20,7 @@ use Rattle.line21.proofs.Answers.{accepted-answer, accepted-length, sto
 use Rattle.line21.proofs.Units.{length-readUnits}
 
 -- what a unit's bytes read as is the unit
-layout-readUnit : (u : AccessUnit) → LegalAccessUnit u → (rest : List ℕ) → readUnit (layoutUnit u ++ rest) ≡ u
+layout-readUnit : (u : AccessUnit) → LegalAccessUnit u → (rest : List ℕ) → readUnit (layoutAccessUnit u ++ rest) ≡ u
 unfolding readUnit
 layout-readUnit u h rest =
     let numbers = h .numbers in
@@ -38,13 +38,13 @@ layout-readUnit u h rest =
       «field2_data2» = u .«field2_data2»;
     }
 
-pub layout-readUnits : (us : List AccessUnit) → Each LegalAccessUnit us → readUnits (length us) (layoutUnits us) ≡ us
+pub layout-readUnits : (us : List AccessUnit) → Each LegalAccessUnit us → readUnits (length us) (layoutAccessUnits us) ≡ us
 layout-readUnits [] h = refl
-layout-readUnits (u ∷ us) h = ap₂ (λ (x : AccessUnit) (xs : List AccessUnit). x ∷ xs) (layout-readUnit u (h .0) (layoutUnits us)) (layout-readUnits us (h .1))
+layout-readUnits (u ∷ us) h = ap₂ (λ (x : AccessUnit) (xs : List AccessUnit). x ∷ xs) (layout-readUnit u (h .0) (layoutAccessUnits us)) (layout-readUnits us (h .1))
 
 -- five bytes are the layout of what they read as, which is legal
 module _ (a b c d e : ℕ) (rest : List ℕ) where
-  readUnit-layout : a < 256 → layoutUnit (readUnit (a ∷ b ∷ c ∷ d ∷ e ∷ rest)) ≡ a ∷ b ∷ c ∷ d ∷ e ∷ []
+  readUnit-layout : a < 256 → layoutAccessUnit (readUnit (a ∷ b ∷ c ∷ d ∷ e ∷ rest)) ≡ a ∷ b ∷ c ∷ d ∷ e ∷ []
   unfolding readUnit
   readUnit-layout ha =
       let first : a / 128 * 128 + a / 64 % 2 * 64 + a % 64 ≡ a = omega arith in
@@ -57,7 +57,7 @@ module _ (a b c d e : ℕ) (rest : List ℕ) where
 
 -- so are whole units
 record Units (k : ℕ) (s : List ℕ) : Type 0 where
-  same : layoutUnits (readUnits k s) ≡ s
+  same : layoutAccessUnits (readUnits k s) ≡ s
   legal : Each LegalAccessUnit (readUnits k s)
 
 units-back : (k : ℕ) (s : List ℕ) → Bytes s → length s ≡ 5 * k → Units k s
@@ -99,7 +99,7 @@ length-layout v = omega (arith, length-layoutUnits (v .units))
 pub layout-value : (v : Line21) → Legal v → valueOf (layout v) ≡ v
 layout-value v h =
     let count : unitCount (length (layout v)) ≡ length (v .units) = whole-unitCount (length (layout v)) (length (v .units)) (length-layout v) in
-    let units : readUnits (unitCount (length (layout v))) (layoutUnits (v .units)) ≡ v .units = ap (λ (k : ℕ). readUnits k (layoutUnits (v .units))) count ∙ layout-readUnits (v .units) (h .each) in
+    let units : readUnits (unitCount (length (layout v))) (layoutAccessUnits (v .units)) ≡ v .units = ap (λ (k : ℕ). readUnits k (layoutAccessUnits (v .units))) count ∙ layout-readUnits (v .units) (h .each) in
     λ i. record { flags = v .flags; units = units i }
 
 -- reading a legal value's bytes answers that value

@@ -9,13 +9,13 @@ use lib.Seq.{take-suc}
 use Rattle.lists.proofs.Flat.{length-flat, flat-more}
 use Rattle.line21.specs.declared.AccessUnit.{AccessUnit}
 use Rattle.line21.specs.Value.{blank}
-use Rattle.line21.specs.Layout.{layoutUnit, layoutUnits}
+use Rattle.line21.specs.Layout.{layoutAccessUnit, layoutAccessUnits}
 
-pub length-layoutUnits : (us : List AccessUnit) → length (layoutUnits us) ≡ 5 * length us
-length-layoutUnits = length-flat layoutUnit 5 (λ u. refl)
+pub length-layoutUnits : (us : List AccessUnit) → length (layoutAccessUnits us) ≡ 5 * length us
+length-layoutUnits = length-flat layoutAccessUnit 5 (λ u. refl)
 
 -- one unit more is laid behind the others
-pub layoutUnits-more : (us : List AccessUnit) (i : ℕ) → i < length us → layoutUnits (take (i + 1) us) ≡ layoutUnits (take i us) ++ layoutUnit (getD us i blank)
+pub layoutUnits-more : (us : List AccessUnit) (i : ℕ) → i < length us → layoutAccessUnits (take (i + 1) us) ≡ layoutAccessUnits (take i us) ++ layoutAccessUnit (getD us i blank)
 layoutUnits-more us i h =
-    ap (λ (vs : List AccessUnit). layoutUnits vs) (ap (λ (k : ℕ). take k us) (add-one i) ∙ take-suc us i blank h)
-    ∙ flat-more layoutUnit (take i us) (getD us i blank)
+    ap (λ (vs : List AccessUnit). layoutAccessUnits vs) (ap (λ (k : ℕ). take k us) (add-one i) ∙ take-suc us i blank h)
+    ∙ flat-more layoutAccessUnit (take i us) (getD us i blank)

@@ -16,7 +16,7 @@ use Rattle.line21.specs.Value.{Line21, Legal}
 use Rattle.line21.specs.Layout.{layout}
 use Rattle.line21.specs.Reading.{lengthVerdict, valueOf, readOf, headOf, Reads}
 use Rattle.line21.specs.Writing.{Writes}
-use Rattle.line21.specs.Lent.{unitsBytes, payloadIn, ReadsInto}
+use Rattle.line21.specs.Lent.{accessUnitsBytes, payloadIn, ReadsInto}
 use Rattle.line21.proofs.Answers.{accepted-verdict}
 use Rattle.line21.proofs.LentUnits.{refused-lent}
 use Rattle.line21.proofs.LentBack.{lent-count, lent-front, into-told}
@@ -26,15 +26,15 @@ use Rattle.line21.proofs.BothWays.{written-read, read-written}
 
 pub read-into-as-read : (s lent : List ℕ) (r : Head) (exit : List ℕ) → ReadsInto s lent r exit → (a : Answer)
     → Reads s a
-    → (r ≡ headOf a) × (a .refusal .number ≡ 0 → exit ≡ unitsBytes (a .payload .units))
+    → (r ≡ headOf a) × (a .refusal .number ≡ 0 → exit ≡ accessUnitsBytes (a .payload .units))
     × ((a .refusal .number ≡ 0 → ⊥) → exit ≡ lent)
 read-into-as-read s lent r exit into a read =
     let same = read .answer in (
       into .answer ∙ ap headOf (sym same),
       λ e.
           into .left
-          ∙ ap (λ (v : Verdict). lentOf v (unitsBytes (readOf s .payload .units)) lent) (accepted-verdict s (sym (ap (λ (x : Answer). x .refusal .number) same) ∙ e))
-          ∙ ap (λ (x : Answer). unitsBytes (x .payload .units)) (sym same),
+          ∙ ap (λ (v : Verdict). lentOf v (accessUnitsBytes (readOf s .payload .units)) lent) (accepted-verdict s (sym (ap (λ (x : Answer). x .refusal .number) same) ∙ e))
+          ∙ ap (λ (x : Answer). accessUnitsBytes (x .payload .units)) (sym same),
       λ h. into .left ∙ refused-lent (lengthVerdict (length s)) (valueOf s) _ lent (λ e. h (ap (λ (x : Answer). x .refusal .number) same ∙ e)),
     )
 
@@ -54,7 +54,7 @@ written-read-into flags m units out w end wrote e long lent r exit into =
     let few = writes-exactly (payloadIn flags m units) out w end wrote .0 e .0 .few in
     let all = read-into-as-read s lent r exit into (readOf s) read in (
       all .0 ∙ ap headOf same ∙ ap (λ (k : ℕ). record { refusal = accepted; flags = flags; m = k }) (lent-count flags m units few),
-      all .1 (ap (λ (a : Answer). a .refusal .number) same) ∙ ap (λ (a : Answer). unitsBytes (a .payload .units)) same ∙ lent-front flags m units few long,
+      all .1 (ap (λ (a : Answer). a .refusal .number) same) ∙ ap (λ (a : Answer). accessUnitsBytes (a .payload .units)) same ∙ lent-front flags m units few long,
     )
 
 pub read-into-written : (s lent : List ℕ) (a : Head) (exit : List ℕ) → ReadsInto s lent a exit → a .refusal .number ≡ 0

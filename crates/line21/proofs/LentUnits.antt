@@ -21,34 +21,34 @@ use Rattle.line21.specs.declared.Payload.{Payload}
 use Rattle.line21.specs.Value.{Line21, ByteUnit, Typed, blank}
 use Rattle.line21.specs.Reading.{answerOf}
 use Rattle.line21.specs.Writing.{valueVerdict}
-use Rattle.line21.specs.Lent.{unitBytes, unitsBytes, unitIn, unitsIn, payloadIn}
+use Rattle.line21.specs.Lent.{accessUnitBytes, accessUnitsBytes, accessUnitIn, accessUnitsIn, payloadIn}
 
-seven : (u : AccessUnit) → length (unitBytes u) ≡ 7
+seven : (u : AccessUnit) → length (accessUnitBytes u) ≡ 7
 seven u = refl
 
-bytes-unitIn : (u : AccessUnit) (rest : List ℕ) → unitIn (unitBytes u ++ rest) ≡ u
-unfolding unitIn
+bytes-unitIn : (u : AccessUnit) (rest : List ℕ) → accessUnitIn (accessUnitBytes u ++ rest) ≡ u
+unfolding accessUnitIn
 bytes-unitIn u rest = refl
 
-length-unitsBytes : (us : List AccessUnit) → length (unitsBytes us) ≡ 7 * length us
-length-unitsBytes = length-flat unitBytes 7 seven
+length-unitsBytes : (us : List AccessUnit) → length (accessUnitsBytes us) ≡ 7 * length us
+length-unitsBytes = length-flat accessUnitBytes 7 seven
 
 -- a struct's units are told by their bytes
-pub payload-told : (p : Payload) → length (p .units) ≡ 291 → payloadIn (p .flags) (p .m) (unitsBytes (p .units)) ≡ p
-payload-told p places = ap made (ap₂ (taken unitIn 7) (sym places) (sym (append-nil (unitsBytes (p .units)))) ∙ flat-taken unitBytes 7 seven unitIn bytes-unitIn (p .units) [])
+pub payload-told : (p : Payload) → length (p .units) ≡ 291 → payloadIn (p .flags) (p .m) (accessUnitsBytes (p .units)) ≡ p
+payload-told p places = ap made (ap₂ (taken accessUnitIn 7) (sym places) (sym (append-nil (accessUnitsBytes (p .units)))) ∙ flat-taken accessUnitBytes 7 seven accessUnitIn bytes-unitIn (p .units) [])
   where
     made : List AccessUnit → Payload
     made us = record { flags = p .flags; m = p .m; units = us }
 
-pub lent-held : (p : Payload) → Typed p → payloadIn (p .flags) (p .m) (unitsBytes (p .units)) ≡ p
+pub lent-held : (p : Payload) → Typed p → payloadIn (p .flags) (p .m) (accessUnitsBytes (p .units)) ≡ p
 lent-held p t = payload-told p (t .places)
 
 -- the unit of an index is the one that stands there, and beyond the last place it is blank
-pub unit-there : (s : List ℕ) (i : ℕ) → i < 291 → getD (unitsIn s) i blank ≡ unitIn (drop (7 * i) s)
-unit-there s i h = getD-taken unitIn 7 blank 291 i s h
+pub unit-there : (s : List ℕ) (i : ℕ) → i < 291 → getD (accessUnitsIn s) i blank ≡ accessUnitIn (drop (7 * i) s)
+unit-there s i h = getD-taken accessUnitIn 7 blank 291 i s h
 
-pub unit-beyond : (s : List ℕ) (i : ℕ) → 291 ≤ i → getD (unitsIn s) i blank ≡ blank
-unit-beyond s i h = let past : length (unitsIn s) ≤ i = omega (arith, length-taken unitIn 7 291 s) in List·getD-eq-default (unitsIn s) blank past
+pub unit-beyond : (s : List ℕ) (i : ℕ) → 291 ≤ i → getD (accessUnitsIn s) i blank ≡ blank
+unit-beyond s i h = let past : length (accessUnitsIn s) ≤ i = omega (arith, length-taken accessUnitIn 7 291 s) in List·getD-eq-default (accessUnitsIn s) blank past
 
 -- what bytes tell is typed
 byte-at : (s : List ℕ) → Bytes s → (i : ℕ) → getD s i 0 < 256
@@ -56,8 +56,8 @@ byte-at [] h i = omega arith
 byte-at (b ∷ s) h zero = h .0
 byte-at (b ∷ s) h (suc i) = byte-at s (h .1) i
 
-byte-units : (k : ℕ) (s : List ℕ) → Bytes s → Each ByteUnit (taken unitIn 7 k s)
-unfolding unitIn
+byte-units : (k : ℕ) (s : List ℕ) → Bytes s → Each ByteUnit (taken accessUnitIn 7 k s)
+unfolding accessUnitIn
 byte-units zero s h = tt
 byte-units (suc k) s h = (
   record { field1-data1 = byte-at s h 3; field1-data2 = byte-at s h 4; field2-data1 = byte-at s h 5; field2-data2 = byte-at s h 6 },
@@ -65,7 +65,7 @@ byte-units (suc k) s h = (
 )
 
 pub typed-in : (flags m : ℕ) (s : List ℕ) → flags < 256 → Bytes s → Typed (payloadIn flags m s)
-typed-in flags m s byte h = record { byte = byte; places = length-taken unitIn 7 291 s; bytes = byte-units 291 s h }
+typed-in flags m s byte h = record { byte = byte; places = length-taken accessUnitIn 7 291 s; bytes = byte-units 291 s h }
 
 -- no flags byte is refused
 pub verdict-flags : (flags m room : ℕ) (us : List AccessUnit)
@@ -75,36 +75,36 @@ verdict-flags flags m room us = refl
 
 -- units laid one behind the other over an array of 2,037 bytes
 module _ (us : List AccessUnit) (out : List ℕ) where
-  pub length-laid : length us ≤ 291 → length out ≡ 2037 → length (over (unitsBytes us) out) ≡ 2037
+  pub length-laid : length us ≤ 291 → length out ≡ 2037 → length (over (accessUnitsBytes us) out) ≡ 2037
   length-laid few e =
-      let fits : length (unitsBytes us) ≤ length out = omega (arith, length-unitsBytes us) in
-      length-over (unitsBytes us) out fits ∙ e
+      let fits : length (accessUnitsBytes us) ≤ length out = omega (arith, length-unitsBytes us) in
+      length-over (accessUnitsBytes us) out fits ∙ e
 
   -- one unit more
-  pub laid-unit : (u : AccessUnit) (at : ℕ) → 7 * length us ≡ at → overAt at (unitBytes u) (over (unitsBytes us) out) ≡ over (unitsBytes (us ++ (u ∷ []))) out
+  pub laid-unit : (u : AccessUnit) (at : ℕ) → 7 * length us ≡ at → overAt at (accessUnitBytes u) (over (accessUnitsBytes us) out) ≡ over (accessUnitsBytes (us ++ (u ∷ []))) out
   laid-unit u at e =
       let some : 0 ≤ length out = omega arith in
-      let next : 0 + length (unitsBytes us) ≡ at = omega (arith, length-unitsBytes us) in
-      overAt-overAt 0 (unitsBytes us) (unitBytes u) out at some next
-      ∙ ap (λ (bytes : List ℕ). over bytes out) (sym (flat-more unitBytes us u))
+      let next : 0 + length (accessUnitsBytes us) ≡ at = omega (arith, length-unitsBytes us) in
+      overAt-overAt 0 (accessUnitsBytes us) (accessUnitBytes u) out at some next
+      ∙ ap (λ (bytes : List ℕ). over bytes out) (sym (flat-more accessUnitBytes us u))
 
   -- the same told by the array's front
-  pub front-unit : (u : AccessUnit) (at next : ℕ) → at ≤ length out → 7 * length us ≡ at → at + 7 ≡ next → take at out ≡ unitsBytes us
-      → take next (overAt at (unitBytes u) out) ≡ unitsBytes (us ++ (u ∷ []))
+  pub front-unit : (u : AccessUnit) (at next : ℕ) → at ≤ length out → 7 * length us ≡ at → at + 7 ≡ next → take at out ≡ accessUnitsBytes us
+      → take next (overAt at (accessUnitBytes u) out) ≡ accessUnitsBytes (us ++ (u ∷ []))
   front-unit u at next fits e more front =
       let behind = drop 7 (drop at out) in
-      let long : length (take at out ++ unitBytes u) ≡ next = simp length-append (omega (arith, length-take-le at out fits)) in
-      ap (take next) (sym (append-assoc (take at out) (unitBytes u) behind))
-      ∙ take-at (take at out ++ unitBytes u) behind next long
-      ∙ ap (λ (bytes : List ℕ). bytes ++ unitBytes u) front
-      ∙ sym (flat-more unitBytes us u)
+      let long : length (take at out ++ accessUnitBytes u) ≡ next = simp length-append (omega (arith, length-take-le at out fits)) in
+      ap (take next) (sym (append-assoc (take at out) (accessUnitBytes u) behind))
+      ∙ take-at (take at out ++ accessUnitBytes u) behind next long
+      ∙ ap (λ (bytes : List ℕ). bytes ++ accessUnitBytes u) front
+      ∙ sym (flat-more accessUnitBytes us u)
 
   -- the array behind them cleared holds blank units
-  pub cleared : (at : ℕ) → 7 * length us ≡ at → length us ≤ 291 → take at (over (unitsBytes us) out) ++ replicate (2037 - at) 0 ≡ unitsBytes (filled us 291 blank)
+  pub cleared : (at : ℕ) → 7 * length us ≡ at → length us ≤ 291 → take at (over (accessUnitsBytes us) out) ++ replicate (2037 - at) 0 ≡ accessUnitsBytes (filled us 291 blank)
   cleared at e few =
-      let long : length (unitsBytes us) ≡ at = length-unitsBytes us ∙ e in
-      ap₂ (λ (front : List ℕ) (k : ℕ). front ++ replicate {A = ℕ} (2037 - k) 0) (take-over (unitsBytes us) out at long) (sym long)
-      ∙ sym (flat-filled unitBytes 7 seven blank refl us 291 few)
+      let long : length (accessUnitsBytes us) ≡ at = length-unitsBytes us ∙ e in
+      ap₂ (λ (front : List ℕ) (k : ℕ). front ++ replicate {A = ℕ} (2037 - k) 0) (take-over (accessUnitsBytes us) out at long) (sym long)
+      ∙ sym (flat-filled accessUnitBytes 7 seven blank refl us 291 few)
 
 -- a refusal leaves the array
 pub refused-lent : (verdict : Verdict) (v : Line21) (new lent : List ℕ) → (answerOf verdict v .refusal .number ≡ 0 → ⊥) → lentOf verdict new lent ≡ lent

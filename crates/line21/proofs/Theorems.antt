@@ -28,7 +28,7 @@ use Rattle.line21.specs.Value.{Line21, Legal, LegalPayload, Typed, blank
 use Rattle.line21.specs.Layout.{layout}
 use Rattle.line21.specs.Reading.{lengthVerdict, headOf, Reads, ReadsHead, ReadsUnit}
 use Rattle.line21.specs.Writing.{valueVerdict, Writes}
-use Rattle.line21.specs.Lent.{unitsBytes, unitsIn, payloadIn, ReadsInto}
+use Rattle.line21.specs.Lent.{accessUnitsBytes, accessUnitsIn, payloadIn, ReadsInto}
 use Rattle.line21.specs.Order.{readingChecks, writingChecks}
 use Rattle.line21.proofs.Answers as answers
 use Rattle.line21.proofs.Accepting as accepting
@@ -92,14 +92,14 @@ refused-zero = refusing.refused-zero
 -- as it was.
 pub read-into-as-read : (s lent : List ℕ) (r : Head) (exit : List ℕ) → ReadsInto s lent r exit
     → (a : Answer) → Reads s a
-    → (r ≡ headOf a) × (a .refusal .number ≡ 0 → exit ≡ unitsBytes (a .payload .units))
+    → (r ≡ headOf a) × (a .refusal .number ≡ 0 → exit ≡ accessUnitsBytes (a .payload .units))
     × ((a .refusal .number ≡ 0 → ⊥) → exit ≡ lent)
 read-into-as-read = lent-theorems.read-into-as-read
 
 -- WRITING
 
 -- A struct whose units are lent as bytes is that struct.
-pub lent-held : (p : Payload) → Typed p → payloadIn (p .flags) (p .m) (unitsBytes (p .units)) ≡ p
+pub lent-held : (p : Payload) → Typed p → payloadIn (p .flags) (p .m) (accessUnitsBytes (p .units)) ≡ p
 lent-held = lent-units.lent-held
 
 -- Writing succeeds exactly when the value is legal and the result fits limit and buffer.
@@ -196,10 +196,11 @@ pub read-into-determined : (s lent : List ℕ) (a : Head) (exit : List ℕ) (b :
 read-into-determined = determined.read-into-determined
 
 pub unit-in-determined : (units : List ℕ) (i : ℕ) (a b : AccessUnit)
-    → a ≡ getD (unitsIn units) i blank → b ≡ getD (unitsIn units) i blank → a ≡ b
+    → a ≡ getD (accessUnitsIn units) i blank → b ≡ getD (accessUnitsIn units) i blank → a ≡ b
 unit-in-determined = determined.unit-in-determined
 
-pub bytes-of-determined : (p : Payload) (a b : List ℕ) → a ≡ unitsBytes (p .units) → b ≡ unitsBytes (p .units) → a ≡ b
+pub bytes-of-determined : (p : Payload) (a b : List ℕ)
+    → a ≡ accessUnitsBytes (p .units) → b ≡ accessUnitsBytes (p .units) → a ≡ b
 bytes-of-determined = determined.bytes-of-determined
 
 pub write-determined : (p : Payload) (out : List ℕ) (a : Written) (exit : List ℕ) (b : Written) (end : List ℕ)

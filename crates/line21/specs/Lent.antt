@@ -12,17 +12,17 @@ use Rattle.line21.specs.declared.Payload.{Payload}
 use Rattle.line21.specs.declared.Head.{Head}
 use Rattle.line21.specs.Reading.{lengthVerdict, readOf, headOf}
 
-abbrev pub unitBytes : AccessUnit → List ℕ
-unitBytes u =
+abbrev pub accessUnitBytes : AccessUnit → List ℕ
+accessUnitBytes u =
     u .«cc_valid_1» ∷ u .«cc_valid_2» ∷ u .padding
     ∷ u .«field1_data1» ∷ u .«field1_data2» ∷ u .«field2_data1» ∷ u .«field2_data2» ∷ []
 
-abbrev pub unitsBytes : List AccessUnit → List ℕ
-unitsBytes us = flat unitBytes us
+abbrev pub accessUnitsBytes : List AccessUnit → List ℕ
+accessUnitsBytes us = flat accessUnitBytes us
 
 -- the unit that the first seven bytes tell
-unfoldable pub unitIn : List ℕ → AccessUnit
-unitIn s =
+unfoldable pub accessUnitIn : List ℕ → AccessUnit
+accessUnitIn s =
     record {
       «cc_valid_1» = getD s 0 0;
       «cc_valid_2» = getD s 1 0;
@@ -33,15 +33,15 @@ unitIn s =
       «field2_data2» = getD s 6 0;
     }
 
-abbrev pub unitsIn : List ℕ → List AccessUnit
-unitsIn s = taken unitIn 7 291 s
+abbrev pub accessUnitsIn : List ℕ → List AccessUnit
+accessUnitsIn s = taken accessUnitIn 7 291 s
 
 -- the struct that a flags byte, a count and a lent array tell
 abbrev pub payloadIn : ℕ → ℕ → List ℕ → Payload
-payloadIn flags m s = record { flags = flags; m = m; units = unitsIn s }
+payloadIn flags m s = record { flags = flags; m = m; units = accessUnitsIn s }
 
 -- the promise of `read_into`: the head, and all units of `read`'s answer in the lent array, zeros beyond m
 pub record ReadsInto (s lent : List ℕ) (r : Head) (exit : List ℕ) : Type 0 where
   pub bytes : Bytes s
   pub answer : r ≡ headOf (readOf s)
-  pub left : exit ≡ lentOf (lengthVerdict (length s)) (unitsBytes (readOf s .payload .units)) lent
+  pub left : exit ≡ lentOf (lengthVerdict (length s)) (accessUnitsBytes (readOf s .payload .units)) lent

@@ -6,7 +6,7 @@ ghost use mathlib.Core.List.{_++_};
 ghost use lib.ListN.{length, getD, take, drop, replicate};
 ghost use Rattle.lists.specs.Room.{overAt};
 ghost use Rattle.line21.specs.Value.{blank as Value·blank};
-ghost use Rattle.line21.specs.Lent.{unitBytes, unitsBytes, unitIn, unitsIn};
+ghost use Rattle.line21.specs.Lent.{accessUnitBytes, accessUnitsBytes, accessUnitIn, accessUnitsIn};
 use crate::AccessUnit;
 use crate::LENT_UNIT;
 use crate::LENT_UNITS;
@@ -16,7 +16,7 @@ use crate::reading::blank;
 
 // The unit of index i, counted from 0. Beyond the last place it is all zero.
 pub fn unit_in(units: &[u8; LENT_UNITS], i: usize) -> AccessUnit
-    ensures { λ r. ⌜ r ≡ getD (unitsIn (now (units .entry))) i Value·blank ⌝ }
+    ensures { λ r. ⌜ r ≡ getD (accessUnitsIn (now (units .entry))) i Value·blank ⌝ }
 {
     if MAX_UNITS <= i {
         return blank();
@@ -27,7 +27,7 @@ pub fn unit_in(units: &[u8; LENT_UNITS], i: usize) -> AccessUnit
 // The unit of index i, where the array has it.
 pub(crate) fn unit_from(units: &[u8], i: usize) -> AccessUnit
     requires { ⌜ 7 * i + 7 ≤ length (now units) ⌝ }
-    ensures { λ r. ⌜ r ≡ unitIn (drop (7 * i) (now (units .entry))) ⌝ }
+    ensures { λ r. ⌜ r ≡ accessUnitIn (drop (7 * i) (now (units .entry))) ⌝ }
 {
     let at = LENT_UNIT * i;
     AccessUnit {
@@ -44,7 +44,7 @@ pub(crate) fn unit_from(units: &[u8], i: usize) -> AccessUnit
 // Stores one unit's seven bytes from index `at` on.
 pub(crate) fn put_flat(u: AccessUnit, at: usize, units: &mut [u8])
     requires { ⌜ at + 7 ≤ length (now units) ⌝ }
-    ensures { λ _. ⌜ now (units .exit) ≡ overAt at (unitBytes u) (now (units .entry)) ⌝ }
+    ensures { λ _. ⌜ now (units .exit) ≡ overAt at (accessUnitBytes u) (now (units .entry)) ⌝ }
 {
     units[at] = u.cc_valid_1;
     units[at + 1] = u.cc_valid_2;
@@ -70,7 +70,7 @@ pub(crate) fn clear_from(at: usize, units: &mut [u8])
 
 // A struct's units as bytes.
 pub fn bytes_of(p: Payload) -> [u8; LENT_UNITS]
-    ensures { λ r. ⌜ r ≡ unitsBytes (p .units) ⌝ }
+    ensures { λ r. ⌜ r ≡ accessUnitsBytes (p .units) ⌝ }
 {
     let mut bytes = [0; LENT_UNITS];
     let mut i = 0;

@@ -6,7 +6,7 @@ ghost use Rattle.lists.specs.Room.{over};
 ghost use Rattle.refusal.specs.declared.Verdict.the-variants.{Accepted};
 ghost use Rattle.line21.specs.Value.{blank as Value·blank, none, stored};
 ghost use Rattle.line21.specs.Reading.{lengthVerdict, readUnit, valueOf, Reads, ReadsHead, ReadsUnit};
-ghost use Rattle.line21.specs.Lent.{unitsBytes, ReadsInto};
+ghost use Rattle.line21.specs.Lent.{accessUnitsBytes, ReadsInto};
 use crate::AccessUnit;
 use crate::Answer;
 use crate::Head;
@@ -126,7 +126,7 @@ fn collect(s: &[u8]) -> Payload
 fn collect_into(s: &[u8], units: &mut [u8])
     requires { ⌜ lengthVerdict (length (now s)) ≡ Accepted ⌝ }
     requires { ⌜ length (now units) ≡ 2037 ⌝ }
-    ensures { λ _. ⌜ now (units .exit) ≡ over (unitsBytes (valueOf (now (s .entry)) .units)) (now (units .entry)) ⌝ }
+    ensures { λ _. ⌜ now (units .exit) ≡ over (accessUnitsBytes (valueOf (now (s .entry)) .units)) (now (units .entry)) ⌝ }
 {
     let count = (s.len() - 1) / UNIT_BYTES;
     let mut i = 0;

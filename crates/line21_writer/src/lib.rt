@@ -7,7 +7,7 @@ ghost use lib.ListN.{length};
 ghost use Rattle.lists.specs.Room.{over};
 ghost use Rattle.refusal.specs.declared.Verdict.the-variants.{Accepted};
 ghost use Rattle.line21.specs.Value.{held};
-ghost use Rattle.line21.specs.Layout.{layout, layoutUnit};
+ghost use Rattle.line21.specs.Layout.{layout, layoutAccessUnit};
 ghost use Rattle.line21.specs.Writing.{unitVerdict, valueVerdict, Writes};
 ghost use Rattle.line21.specs.Lent.{payloadIn};
 use line21::AccessUnit;
@@ -99,7 +99,7 @@ fn put(flags: u8, m: usize, units: &[u8; LENT_UNITS], out: &mut [u8])
 fn put_unit(u: AccessUnit, out: &mut [u8])
     requires { ⌜ unitVerdict u ≡ Accepted ⌝ }
     requires { ⌜ 5 ≤ length (now out) ⌝ }
-    ensures { λ _. ⌜ now (out .exit) ≡ over (layoutUnit u) (now (out .entry)) ⌝ }
+    ensures { λ _. ⌜ now (out .exit) ≡ over (layoutAccessUnit u) (now (out .entry)) ⌝ }
 {
     out[0] = u.cc_valid_1 * 128 + u.cc_valid_2 * 64 + u.padding;
     out[1] = u.field1_data1;

@@ -4,8 +4,8 @@ use mathlib.Core.Path.{_≡_}
 use mathlib.Core.List.{List}
 use lib.ListN.{length, getD, set}
 
-abbrev pub numberOf : List ℕ → ℕ
-numberOf s = (getD s 0 0 * 256 + getD s 1 0) * 65536 + (getD s 2 0 * 256 + getD s 3 0)
+abbrev pub numberIn : List ℕ → ℕ
+numberIn s = (getD s 0 0 * 256 + getD s 1 0) * 65536 + (getD s 2 0 * 256 + getD s 3 0)
 
 -- a list with the four bytes of n at an index; those that lie beyond the end are left out
 abbrev pub numberPut : List ℕ → ℕ → ℕ → List ℕ
@@ -13,8 +13,8 @@ numberPut s at n =
     set (set (set (set s at (n / 16777216 % 256)) (at + 1) (n / 65536 % 256)) (at + 2) (n / 256 % 256)) (at + 3) (n % 256)
 
 -- the word at an index
-abbrev pub wordOf : List ℕ → ℕ → ℕ
-wordOf s at = getD s at 0 * 256 + getD s (at + 1) 0
+abbrev pub wordIn : List ℕ → ℕ → ℕ
+wordIn s at = getD s at 0 * 256 + getD s (at + 1) 0
 
 -- a list with the two bytes of a word at an index; those that lie beyond the end are left out
 abbrev pub wordPut : List ℕ → ℕ → ℕ → List ℕ

@@ -2,7 +2,7 @@
 ghost use mathlib.Core.Path.{_≡_};
 ghost use Prim.Native.Nat.{_<_, _%_};
 ghost use lib.ListN.{length, getD, set};
-ghost use Rattle.vectors.specs.Numbers.{numberOf, numberPut, patternAt, Patterned};
+ghost use Rattle.vectors.specs.Numbers.{numberIn, numberPut, patternAt, Patterned};
 use refusal::Refusal;
 
 // The byte at an index; 0 beyond the end.
@@ -14,7 +14,7 @@ pub fn byte(s: &[u8], at: usize) -> u8
 
 // The number that the first four bytes write, the most significant first. Missing ones count as 0.
 pub fn number(s: &[u8]) -> usize
-    ensures { λ r. ⌜ r ≡ numberOf (now (s .entry)) ⌝ }
+    ensures { λ r. ⌜ r ≡ numberIn (now (s .entry)) ⌝ }
 {
     let high = wide(byte(s, 0)) * 256 + wide(byte(s, 1));
     let low = wide(byte(s, 2)) * 256 + wide(byte(s, 3));

@@ -3,7 +3,7 @@ ghost use mathlib.Core.Path.{_≡_};
 ghost use Prim.Native.Nat.{_≤_};
 ghost use lib.ListN.{length};
 ghost use Rattle.io.specs.Counts.{Counts};
-ghost use Rattle.vectors.specs.Digits.{valueOf};
+ghost use Rattle.vectors.specs.Digits.{digitValue};
 
 // How many bytes were decoded, or 0 where the field is unreadable.
 pub struct Decoded {
@@ -142,7 +142,7 @@ fn pair(a: u8, b: u8) -> usize
 
 // The value of an upper-case hex digit; 16 for any other byte.
 pub fn digit(b: u8) -> usize
-    ensures { λ r. ⌜ r ≡ valueOf b ⌝ }
+    ensures { λ r. ⌜ r ≡ digitValue b ⌝ }
     ensures { λ r. ⌜ r ≤ 16 ⌝ }
 {
     let n = b as usize;

@@ -2,13 +2,13 @@
 ghost use mathlib.Core.Path.{_≡_};
 ghost use Prim.Native.Nat.{_<_, _/_, _%_};
 ghost use lib.ListN.{length};
-ghost use Rattle.vectors.specs.Numbers.{wordOf, wordPut, patternAt, Patterned};
+ghost use Rattle.vectors.specs.Numbers.{wordIn, wordPut, patternAt, Patterned};
 use crate::bytes::byte;
 use crate::bytes::put;
 
 // The word that the two bytes at an index write. Missing ones count as 0.
 pub fn word(s: &[u8], at: usize) -> u16
-    ensures { λ r. ⌜ r ≡ wordOf (now (s .entry)) at ⌝ }
+    ensures { λ r. ⌜ r ≡ wordIn (now (s .entry)) at ⌝ }
 {
     if s.len() <= at {
         return 0;

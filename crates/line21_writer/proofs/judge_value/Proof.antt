@@ -19,7 +19,7 @@ use Rattle.refusal.specs.Checks.{refuseIf, andThen}
 use Rattle.line21.specs.declared.AccessUnit.{AccessUnit}
 use Rattle.line21.specs.Value.{blank, held}
 use Rattle.line21.specs.Writing.{unitVerdict, unitsVerdict, valueVerdict}
-use Rattle.line21.specs.Lent.{unitIn, unitsIn, payloadIn}
+use Rattle.line21.specs.Lent.{accessUnitIn, accessUnitsIn, payloadIn}
 use Rattle.line21.proofs.Numbers.{length-held, units-from, verdict-few}
 use Rattle.line21_writer.proofs.judge_value.Statement.{statement}
 use Rattle.line21_writer.proofs.judge_value.Tie as tie
@@ -37,21 +37,21 @@ abbrev μ-loop : tie.MeasureT-loop
 -- the code's first test was passed
 module _ (m : ℕ) (units : List ℕ) (few : m ≤ 291) where
   places : length (judged m units) ≡ m
-  places = length-held (payloadIn 0 m units) (length-taken unitIn 7 291 units) few
+  places = length-held (payloadIn 0 m units) (length-taken accessUnitIn 7 291 units) few
 
   -- in a turn, the unit at i decides first
-  split : (i : ℕ) → i < m → unitsVerdict (drop i (judged m units)) ≡ andThen (unitVerdict (getD (unitsIn units) i blank)) (unitsVerdict (drop (i + 1) (judged m units)))
+  split : (i : ℕ) → i < m → unitsVerdict (drop i (judged m units)) ≡ andThen (unitVerdict (getD (accessUnitsIn units) i blank)) (unitsVerdict (drop (i + 1) (judged m units)))
   split i below =
       let inside : i < length (judged m units) = omega (arith, places) in
       units-from (judged m units) i inside
       ∙ ap (λ (u : AccessUnit). andThen (unitVerdict u) (unitsVerdict (drop (i + 1) (judged m units))))
-      (getD-take m (unitsIn units) i blank below)
+      (getD-take m (accessUnitsIn units) i blank below)
 
   -- what the checks say of the value, as long as no unit was refused
   told : (room i : ℕ) → unitsVerdict (judged m units) ≡ unitsVerdict (drop i (judged m units))
       → valueVerdict (payloadIn 0 m units) room ≡ andThen (unitsVerdict (drop i (judged m units))) (refuseIf (ltb room (1 + 5 * m)) NoRoom Whole)
   told room i e =
-      verdict-few (payloadIn 0 m units) (length-taken unitIn 7 291 units) few room
+      verdict-few (payloadIn 0 m units) (length-taken accessUnitIn 7 291 units) few room
       ∙ ap (λ (v : Verdict). andThen v (refuseIf (ltb room (1 + 5 * m)) NoRoom Whole)) e
 
   -- after the loop no unit is left

@@ -16,9 +16,9 @@ use Rattle.refusal.specs.declared.Verdict.the-variants.{Accepted}
 use Rattle.line21.specs.declared.AccessUnit.{AccessUnit}
 use Rattle.line21.specs.declared.Payload.{Payload}
 use Rattle.line21.specs.Value.{blank, held}
-use Rattle.line21.specs.Layout.{layout, layoutUnit, layoutUnits}
+use Rattle.line21.specs.Layout.{layout, layoutAccessUnit, layoutAccessUnits}
 use Rattle.line21.specs.Writing.{unitVerdict}
-use Rattle.line21.specs.Lent.{unitIn, unitsIn, payloadIn}
+use Rattle.line21.specs.Lent.{accessUnitIn, accessUnitsIn, payloadIn}
 use Rattle.line21.proofs.Layouts.{length-layoutUnits, layoutUnits-more}
 use Rattle.line21.proofs.Numbers.{Writable, accepted-value, length-held, length-layout-held, accepted-unit-at}
 use Rattle.line21_writer.proofs.put.Statement.{statement}
@@ -26,7 +26,7 @@ use Rattle.line21_writer.proofs.put.Tie as tie
 
 -- what the first i units have laid so far
 abbrev front : ℕ → List ℕ → ℕ → List ℕ
-front flags units i = flags ∷ layoutUnits (take i (unitsIn units))
+front flags units i = flags ∷ layoutAccessUnits (take i (accessUnitsIn units))
 
 abbrev Inv-loop : tie.InvT-loop
 Inv-loop flags m units out₀ i₀ out i = (i ≤ m) × (out ≡ over (front flags units i) out₀)
@@ -34,13 +34,13 @@ Inv-loop flags m units out₀ i₀ out i = (i ≤ m) × (out ≡ over (front fla
 abbrev μ-loop : tie.MeasureT-loop
 μ-loop flags m units out₀ i₀ out i = m - i
 
-places : (units : List ℕ) → length (unitsIn units) ≡ 291
-places units = length-taken unitIn 7 291 units
+places : (units : List ℕ) → length (accessUnitsIn units) ≡ 291
+places units = length-taken accessUnitIn 7 291 units
 
 length-front : (flags : ℕ) (units : List ℕ) (i : ℕ) → i ≤ 291 → length (front flags units i) ≡ 1 + 5 * i
 length-front flags units i h =
-    let inside : i ≤ length (unitsIn units) = omega (arith, places units) in
-    omega (arith, length-layoutUnits (take i (unitsIn units)), length-take-le i (unitsIn units) inside)
+    let inside : i ≤ length (accessUnitsIn units) = omega (arith, places units) in
+    omega (arith, length-layoutUnits (take i (accessUnitsIn units)), length-take-le i (accessUnitsIn units) inside)
 
 module _ (c : tie.Start Inv-loop μ-loop) where
   abbrev p : Payload
@@ -54,10 +54,10 @@ module _ (c : tie.Start Inv-loop μ-loop) where
   long = omega (arith, writable .fits, length-layout-held p (places (now (c .args .units))) (writable .few))
 
   -- each unit that is written was judged
-  passed : (i : ℕ) → i < c .args .m → unitVerdict (getD (unitsIn (now (c .args .units))) i blank) ≡ Accepted
+  passed : (i : ℕ) → i < c .args .m → unitVerdict (getD (accessUnitsIn (now (c .args .units))) i blank) ≡ Accepted
   passed i below =
       let inside : i < length (held p .units) = omega (arith, length-held p (places (now (c .args .units))) (writable .few)) in
-      ap unitVerdict (sym (getD-take (c .args .m) (unitsIn (now (c .args .units))) i blank below))
+      ap unitVerdict (sym (getD-take (c .args .m) (accessUnitsIn (now (c .args .units))) i blank below))
       ∙ accepted-unit-at (held p .units) (writable .each) i inside
 
 -- what the loop knows of its output at its head
@@ -127,18 +127,18 @@ loop-again c =
     let i = at .loop .k in
     let begun = set (now (start at .args .out)) 0 flags in
     let part = c .before .before .put-unit .last .1 .0 in
-    let piece = layoutUnit (getD (unitsIn units) i blank) in
-    let inside : i < length (unitsIn units) = omega (arith, places units, writable (start at) .few) in
+    let piece = layoutAccessUnit (getD (accessUnitsIn units) i blank) in
+    let inside : i < length (accessUnitsIn units) = omega (arith, places units, writable (start at) .few) in
     let laid =
     c .before .before .put-unit .ensures
-    ∙ ap₂ (λ (u : AccessUnit) (xs : List ℕ). over (layoutUnit u) (take (length xs - (1 + 5 * i)) (drop (1 + 5 * i) xs)))
+    ∙ ap₂ (λ (u : AccessUnit) (xs : List ℕ). over (layoutAccessUnit u) (take (length xs - (1 + 5 * i)) (drop (1 + 5 * i) xs)))
     (c .before .before .before .before .unit-in .ensures)
     (at .loop .inv .1)
     in (
       omega arith,
       ap (λ (xs : List ℕ). putMid (1 + 5 * i) (length xs - (1 + 5 * i)) xs part) (at .loop .inv .1)
           ∙ over-more (front flags units i) piece begun part (1 + 5 * i) (sized at) laid
-          ∙ ap (λ (bytes : List ℕ). over (flags ∷ bytes) begun) (sym (layoutUnits-more (unitsIn units) i inside)),
+          ∙ ap (λ (bytes : List ℕ). over (flags ∷ bytes) begun) (sym (layoutUnits-more (accessUnitsIn units) i inside)),
     )
 
 same-length : tie.Need-same-length Inv-loop μ-loop

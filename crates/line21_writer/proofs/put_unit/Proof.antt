@@ -4,7 +4,7 @@ use native.Mathlib.Omega.{arith}
 use denote.Ref.{now}
 use lib.ListN.{length-set}
 use lib.Seq.{sets-eq}
-use Rattle.line21.specs.Layout.{layoutUnit}
+use Rattle.line21.specs.Layout.{layoutAccessUnit}
 use Rattle.line21.proofs.Numbers.{accepted-unit}
 use Rattle.line21_writer.proofs.put_unit.Statement.{statement}
 use Rattle.line21_writer.proofs.put_unit.Tie as tie
@@ -28,7 +28,7 @@ add-out-2 c =
 returns : tie.Need-returns
 returns c =
     let start = c .before .before .before in
-    sets-eq (layoutUnit (start .args .u)) (now (start .args .out)) 0 (start .pre .1)
+    sets-eq (layoutAccessUnit (start .args .u)) (now (start .args .out)) 0 (start .pre .1)
 
 pub put-unit-spec : {M : Type 1} → statement M
 put-unit-spec =

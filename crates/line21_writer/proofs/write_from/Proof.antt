@@ -17,7 +17,7 @@ use Rattle.line21.specs.declared.Payload.{Payload}
 use Rattle.line21.specs.Value.{Typed, held}
 use Rattle.line21.specs.Layout.{layout}
 use Rattle.line21.specs.Writing.{valueVerdict}
-use Rattle.line21.specs.Lent.{unitsIn, payloadIn}
+use Rattle.line21.specs.Lent.{accessUnitsIn, payloadIn}
 use Rattle.line21.proofs.Numbers.{Writable, accepted-value, length-layout-held}
 use Rattle.line21.proofs.LentUnits.{typed-in, verdict-flags}
 use Rattle.line21_writer.proofs.write_from.Statement.{statement}
@@ -37,7 +37,7 @@ module _ (c : tie.After-told) where
   verdict = valueVerdict p (length out)
 
   told : c .told .result ≡ refusalOf verdict
-  told = c .told .ensures ∙ ap refusalOf (c .before .judge-value .ensures ∙ sym (verdict-flags (start .args .flags) (start .args .m) (length out) (unitsIn (now (start .args .units)))))
+  told = c .told .ensures ∙ ap refusalOf (c .before .judge-value .ensures ∙ sym (verdict-flags (start .args .flags) (start .args .m) (length out) (accessUnitsIn (now (start .args .units)))))
 
   types : Typed p
   types = typed-in (start .args .flags) (start .args .m) (now (start .args .units)) (start .good .0 .1) (c .before .before .known .ensures)

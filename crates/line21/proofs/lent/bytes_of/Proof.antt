@@ -10,14 +10,14 @@ use lib.Seq.{length-take-le, take-all, take-suc}
 use Rattle.lists.proofs.Lay.{length-overAt}
 use Rattle.line21.specs.declared.AccessUnit.{AccessUnit}
 use Rattle.line21.specs.Value.{blank}
-use Rattle.line21.specs.Lent.{unitBytes, unitsBytes}
+use Rattle.line21.specs.Lent.{accessUnitBytes, accessUnitsBytes}
 use Rattle.line21.proofs.Types.{typed}
 use Rattle.line21.proofs.LentUnits.{front-unit}
 use Rattle.line21.proofs.lent.bytes_of.Statement.{statement}
 use Rattle.line21.proofs.lent.bytes_of.Tie as tie
 
 abbrev Inv-loop : tie.InvT-loop
-Inv-loop p bytes₀ i₀ bytes i = (i ≤ 291) × (length bytes ≡ 2037) × (take (7 * i) bytes ≡ unitsBytes (take i (p .units)))
+Inv-loop p bytes₀ i₀ bytes i = (i ≤ 291) × (length bytes ≡ 2037) × (take (7 * i) bytes ≡ accessUnitsBytes (take i (p .units)))
 
 abbrev μ-loop : tie.MeasureT-loop
 μ-loop p bytes₀ i₀ bytes i = 291 - i
@@ -49,10 +49,10 @@ loop-again c =
     let more : 7 * i + 7 ≡ 7 * (i + 1) = omega arith in
     let next : take i us ++ (u ∷ []) ≡ take (i + 1) us = sym (ap (λ (k : ℕ). take k us) (add-one i) ∙ take-suc us i blank inside) in (
       omega arith,
-      ap length (c .before .put-flat .ensures) ∙ length-overAt (7 * i) (unitBytes u) bytes fits ∙ at .loop .inv .1,
+      ap length (c .before .put-flat .ensures) ∙ length-overAt (7 * i) (accessUnitBytes u) bytes fits ∙ at .loop .inv .1,
       ap (take (7 * (i + 1))) (c .before .put-flat .ensures)
           ∙ front-unit (take i us) bytes u (7 * i) (7 * (i + 1)) within some more (at .loop .inv .2)
-          ∙ ap (λ (all : List AccessUnit). unitsBytes all) next,
+          ∙ ap (λ (all : List AccessUnit). accessUnitsBytes all) next,
     )
 
 returns : tie.Need-returns Inv-loop μ-loop
@@ -62,7 +62,7 @@ returns c =
     let i = at .loop .i in
     let whole : length (at .loop .bytes) ≤ 7 * i = omega (arith, at .loop .inv .1) in
     let all : length us ≤ i = omega (arith, room (at .before)) in
-    sym (take-all (7 * i) (at .loop .bytes) whole) ∙ at .loop .inv .2 ∙ ap (λ (units : List AccessUnit). unitsBytes units) (take-all i us all)
+    sym (take-all (7 * i) (at .loop .bytes) whole) ∙ at .loop .inv .2 ∙ ap (λ (units : List AccessUnit). accessUnitsBytes units) (take-all i us all)
 
 pub bytes-of-spec : {M : Type 1} → statement M
 bytes-of-spec =

@@ -3,12 +3,12 @@
 use borrow.Author.Needs.{needs}
 use native.Mathlib.Nat.{add-zero}
 use lib.Seq.{getD-drop}
-use Rattle.line21.specs.Lent.{unitIn}
+use Rattle.line21.specs.Lent.{accessUnitIn}
 use Rattle.line21.proofs.lent.unit_from.Statement.{statement}
 use Rattle.line21.proofs.lent.unit_from.Tie as tie
 
 returns : tie.Need-returns
-unfolding unitIn
+unfolding accessUnitIn
 returns c = simp (getD-drop, add-zero)
 
 pub unit-from-spec : {M : Type 1} → statement M

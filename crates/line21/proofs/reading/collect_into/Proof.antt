@@ -9,7 +9,7 @@ use lib.ListN.{length, drop}
 use Rattle.lists.specs.Room.{over, overAt}
 use Rattle.line21.specs.declared.AccessUnit.{AccessUnit}
 use Rattle.line21.specs.Reading.{readUnit, readUnits, unitCount}
-use Rattle.line21.specs.Lent.{unitBytes, unitsBytes}
+use Rattle.line21.specs.Lent.{accessUnitBytes, accessUnitsBytes}
 use Rattle.line21.proofs.Length.{WholeUnits, accepted-whole}
 use Rattle.line21.proofs.Units.{length-readUnits, readUnits-more}
 use Rattle.line21.proofs.LentUnits.{length-laid, laid-unit}
@@ -17,7 +17,7 @@ use Rattle.line21.proofs.reading.collect_into.Statement.{statement}
 use Rattle.line21.proofs.reading.collect_into.Tie as tie
 
 abbrev Inv-loop : tie.InvT-loop
-Inv-loop s units₀ m i₀ units i = (i ≤ m) × (units ≡ over (unitsBytes (readUnits i (drop 1 s))) units₀)
+Inv-loop s units₀ m i₀ units i = (i ≤ m) × (units ≡ over (accessUnitsBytes (readUnits i (drop 1 s))) units₀)
 
 abbrev μ-loop : tie.MeasureT-loop
 μ-loop s units₀ m i₀ units i = m - i
@@ -77,9 +77,9 @@ loop-again c =
     let some : 7 * length before ≡ 7 * i = ap (λ (k : ℕ). 7 * k) (length-readUnits i (drop 1 s)) in (
       omega arith,
       c .before .before .put-flat .ensures
-          ∙ ap₂ (λ (x : AccessUnit) (xs : List ℕ). overAt (7 * i) (unitBytes x) xs) (c .before .before .before .before .unit-at .ensures) (at .loop .inv .1)
+          ∙ ap₂ (λ (x : AccessUnit) (xs : List ℕ). overAt (7 * i) (accessUnitBytes x) xs) (c .before .before .before .before .unit-at .ensures) (at .loop .inv .1)
           ∙ laid-unit before lent (readUnit (drop (1 + 5 * i) s)) (7 * i) some
-          ∙ ap (λ (us : List AccessUnit). over (unitsBytes us) lent) (sym (readUnits-more i s)),
+          ∙ ap (λ (us : List AccessUnit). over (accessUnitsBytes us) lent) (sym (readUnits-more i s)),
     )
 
 same-length : tie.Need-same-length Inv-loop μ-loop
@@ -90,7 +90,7 @@ returns c =
     let start = c .before .before .before .before in
     let s = now (start .args .s) in
     let all : c .before .loop .i ≡ unitCount (length s) = omega arith in
-    c .before .loop .inv .1 ∙ ap (λ (k : ℕ). over (unitsBytes (readUnits k (drop 1 s))) (now (start .args .units))) all
+    c .before .loop .inv .1 ∙ ap (λ (k : ℕ). over (accessUnitsBytes (readUnits k (drop 1 s))) (now (start .args .units))) all
 
 pub collect-into-spec : {M : Type 1} → statement M
 collect-into-spec =

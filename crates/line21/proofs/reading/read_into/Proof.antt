@@ -14,7 +14,7 @@ use Rattle.refusal.specs.declared.Verdict.the-variants.{Accepted}
 use Rattle.refusal.specs.Answers.{lentOf}
 use Rattle.line21.specs.declared.Head.{Head}
 use Rattle.line21.specs.Reading.{lengthVerdict, unitCount, valueOf, answerOf, readOf, headOf}
-use Rattle.line21.specs.Lent.{unitsBytes}
+use Rattle.line21.specs.Lent.{accessUnitsBytes}
 use Rattle.line21.proofs.Length.{accepted-whole}
 use Rattle.line21.proofs.Units.{length-readUnits}
 use Rattle.line21.proofs.Answers.{accepted-verdict}
@@ -36,8 +36,8 @@ module _ (s : List ℕ) (head : Head) (e : head ≡ headOf (readOf s)) (zero : h
   counted : head .m ≡ length (valueOf s .units)
   counted = ap (λ (h : Head). h .m) e ∙ ap (λ (v : Verdict). answerOf v (valueOf s) .payload .m) accepted
 
-  lent-anew : (lent : List ℕ) → unitsBytes (answerOf Accepted (valueOf s) .payload .units) ≡ lentOf (lengthVerdict (length s)) (unitsBytes (readOf s .payload .units)) lent
-  lent-anew lent = ap (λ (v : Verdict). lentOf v (unitsBytes (answerOf v (valueOf s) .payload .units)) lent) (sym accepted)
+  lent-anew : (lent : List ℕ) → accessUnitsBytes (answerOf Accepted (valueOf s) .payload .units) ≡ lentOf (lengthVerdict (length s)) (accessUnitsBytes (readOf s .payload .units)) lent
+  lent-anew lent = ap (λ (v : Verdict). lentOf v (accessUnitsBytes (answerOf v (valueOf s) .payload .units)) lent) (sym accepted)
 
 refused : tie.Need-returns
 refused c =
