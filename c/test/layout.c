@@ -3,7 +3,7 @@
 
 #include <string.h>
 
-/* ---- Caption unit (01, "Picture area", the table of the content) ---- */
+/* ---- Caption unit (RULES, "Picture area", the table of the content) ---- */
 
 /* Bits put one behind the other, most significant first, into bytes that are zero. */
 typedef struct bit_row {
@@ -68,7 +68,7 @@ size_t layout_unit(const unit_value *value, uint8_t *out)
     return len;
 }
 
-/* ---- Subtitling packet (01, "Subtitling packet") ---- */
+/* ---- Subtitling packet (RULES, "Subtitling packet") ---- */
 
 uint16_t layout_word(uint8_t byte)
 {
@@ -138,7 +138,7 @@ size_t layout_packet(const packet_value *value, uint16_t *out)
     return len;
 }
 
-/* ---- Line 21 payload (01, "Line 21 payload") ---- */
+/* ---- Line 21 payload (RULES, "Line 21 payload") ---- */
 
 size_t layout_payload(const payload_value *value, uint8_t *out)
 {

@@ -5,7 +5,7 @@
 
 #include "layout.h"
 
-/* ---- The units of an area (01, "Picture area", first paragraph) ---- */
+/* ---- The units of an area (RULES, "Picture area", first paragraph) ---- */
 
 static bool prefix_at(const uint8_t *area, size_t len, size_t i)
 {
@@ -64,7 +64,7 @@ static uint8_t find_caption_unit(const uint8_t *area, size_t len, caption_span *
     return 0;
 }
 
-/* ---- The content of a caption unit (01, the table; most significant bit first) ---- */
+/* ---- The content of a caption unit (RULES, the table; most significant bit first) ---- */
 
 typedef struct bit_source {
     const uint8_t *bytes;

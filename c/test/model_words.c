@@ -10,7 +10,7 @@ static captions_written refused(uint8_t number)
     return (captions_written){.refusal = {number, 0}};
 }
 
-/* ---- Reading a packet (01, "Subtitling packet"; SMPTE 291M for parity and CS) ---- */
+/* ---- Reading a packet (RULES, "Subtitling packet"; SMPTE 291M for parity and CS) ---- */
 
 static unsigned bit_of(uint16_t word, unsigned bit)
 {
@@ -194,7 +194,7 @@ captions_written model_packet_write(uint32_t counter, const captions_slot *slots
     return (captions_written){.len = len};
 }
 
-/* ---- Line 21 payload (01, "Line 21 payload") ---- */
+/* ---- Line 21 payload (RULES, "Line 21 payload") ---- */
 
 captions_payload model_payload_read(const uint8_t *payload, size_t len, captions_access_unit *units)
 {
