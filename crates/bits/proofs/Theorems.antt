@@ -2,12 +2,17 @@
 -- specs/Bits and specs/Peek.
 -- How to read it: docs/NOTATION.md.
 -- Assumes nothing.
-use Prim.Native.Nat.{ℕ, min}
+use Prim.Native.Nat.{ℕ, _<_, min}
 use mathlib.Core.Path.{_≡_}
 use mathlib.Core.List.{List}
 use Rattle.bits.specs.Bits.{reversed}
 use Rattle.bits.specs.Peek.{peekOf, firstSet, leadingOf}
+use Rattle.bits.proofs.Turn as turn
 use Rattle.bits.proofs.Determined as determined
+
+-- A byte that is turned round twice is what it was.
+pub reversed-reversed : (b : ℕ) → b < 256 → reversed (reversed b) ≡ b
+reversed-reversed = turn.reversed-reversed
 
 -- For each function, two answers that keep its promise are equal.
 pub peek-determined : (s : List ℕ) (at w a b : ℕ) → a ≡ peekOf s at (min w 32) → b ≡ peekOf s at (min w 32) → a ≡ b

@@ -1,2 +1,3 @@
 pub mod Starred
 pub mod TwoFaults
+pub mod Theorems

@@ -1,6 +1,8 @@
 -- Every starred case of the table holds: the definitions compute to its answer.
 -- Assumes nothing.
-use mathlib.Core.Path.{refl}
+use mathlib.Core.Path.{_≡_, refl}
+use lib.ListN.{length}
+use Rattle.lists.specs.Each.{Each}
 use Rattle.bits.specs.Bits.{reversed}
 use Rattle.kind.specs.Ours.{ours}
 use Rattle.units.specs.Split.{frontVerdict, splitVerdict}
@@ -12,8 +14,11 @@ use Rattle.anc.specs.Words.{parityOf, wordOf, wordVerdict, nineBitSum, checksum
 use Rattle.line21.specs.Reading.{lengthVerdict, readUnit}
 use Rattle.sdp.specs.User.{lineVerdict, structureVerdict, headVerdict, tailVerdict, slotOf, counterIn}
 use Rattle.subtitling.specs.Reading.{formVerdict, headerVerdict, checksumVerdict, packetVerdict}
-use Rattle.cases.specs.Table.{All, table}
+use Rattle.cases.specs.Table.{Comes, table}
 
-pub starred-cases : All table
+pub starred-cases : Each Comes table
 unfolding reversed ours frontVerdict splitVerdict padding recordVerdict scte20.missing scte20.constructAt scte20.markerVerdict scte20.sampledVerdict scte20.restVerdict scte20.headVerdict scte20.contentVerdict scte20.valueOf decimal textOf parityOf wordOf wordVerdict nineBitSum checksumOf sumVerdict lineVerdict structureVerdict headVerdict tailVerdict slotOf counterIn formVerdict headerVerdict checksumVerdict packetVerdict lengthVerdict readUnit
 starred-cases = (refl, (refl, (refl, (refl, (refl, (refl, (refl, (refl, (refl, (refl, (refl, (refl, (refl, (refl, (refl, ((refl, refl), ((refl, refl), (refl, (refl, tt)))))))))))))))))))
+
+pub starred-count : length table ≡ 19
+starred-count = refl

@@ -1,6 +1,8 @@
 -- Every row of the table of two faults holds: the definitions compute to its refusal.
 -- Assumes nothing.
-use mathlib.Core.Path.{refl}
+use mathlib.Core.Path.{_≡_, refl}
+use lib.ListN.{length}
+use Rattle.lists.specs.Each.{Each}
 use Rattle.bits.specs.Bits.{reversed}
 use Rattle.kind.specs.Ours.{ours}
 use Rattle.units.specs.Split.{frontVerdict, splitVerdict}
@@ -15,8 +17,11 @@ use Rattle.sdp.specs.User.{lineVerdict, structureVerdict, headVerdict, tailVerd
 use Rattle.sdp.specs.SlotVerdict.{slotVerdict}
 use Rattle.subtitling.specs.Reading.{formVerdict, headerVerdict, checksumVerdict, packetVerdict}
 use Rattle.subtitling.specs.Writing as packets
-use Rattle.cases.specs.TwoFaults.{All, two-faults}
+use Rattle.cases.specs.TwoFaults.{Decided, two-faults}
 
-pub two-fault-cases : All two-faults
+pub two-fault-cases : Each Decided two-faults
 unfolding reversed ours frontVerdict splitVerdict padding recordVerdict scte20.missing scte20.constructAt scte20.markerVerdict scte20.sampledVerdict scte20.restVerdict scte20.headVerdict scte20.contentVerdict captions.wholeVerdict captions.rangeVerdict captions.valueVerdict parityOf wordOf wordVerdict nineBitSum checksumOf sumVerdict lengthVerdict payloads.unitVerdict payloads.valueVerdict lineVerdict structureVerdict headVerdict tailVerdict slotVerdict formVerdict headerVerdict checksumVerdict packetVerdict packets.valueVerdict
 two-fault-cases = ((refl, refl), ((refl, refl), ((refl, refl), ((refl, refl), ((refl, refl), ((refl, refl), ((refl, refl), ((refl, refl), ((refl, refl), ((refl, refl), ((refl, refl), ((refl, refl), ((refl, refl), ((refl, refl), ((refl, refl), ((refl, refl), ((refl, refl), ((refl, refl), ((refl, refl), ((refl, refl), ((refl, refl), ((refl, refl), ((refl, refl), ((refl, refl), ((refl, refl), ((refl, refl), ((refl, refl), ((refl, refl), ((refl, refl), ((refl, refl), ((refl, refl), ((refl, refl), ((refl, refl), ((refl, refl), ((refl, refl), ((refl, refl), ((refl, refl), ((refl, refl), ((refl, refl), ((refl, refl), ((refl, refl), ((refl, refl), ((refl, refl), ((refl, refl), ((refl, refl), tt)))))))))))))))))))))))))))))))))))))))))))))
+
+pub two-fault-count : length two-faults ≡ 45
+two-fault-count = refl

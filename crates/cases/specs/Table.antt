@@ -35,6 +35,7 @@ abbrev captionValue : List scte20.Content → scte20.Content
 captionValue [] = scte20.none
 captionValue (c ∷ cs) = c
 
+-- the definitions give that answer
 abbrev pub Comes : Case → Type 0
 Comes (area input refusal found) =
     areas.readOf input
@@ -45,10 +46,6 @@ Comes (payload input refusal value) =
 Comes (packet input refusal value) =
     (packets.readOf input ≡ record { refusal = refusal; packet = sdp.numbersOf value })
     × (packets.readRowsOf input ≡ sdp.rowsOf value)
-
-abbrev pub All : List Case → Type 0
-All [] = Unit {0}
-All (c ∷ cs) = Comes c × All cs
 
 -- A's bytes, with the byte in which the marker stands
 abbrev pub marked : ℕ → List ℕ

@@ -32,14 +32,14 @@ use Rattle.cases.specs.Table.{marked, unit}
 
 -- a call with its input, which for writing and replacing has the room of the output last; the reason; the number; the
 -- place
-pub data Case : Type 0 where
-  area : List ℕ → Reason → ℕ → ℕ → Case
-  packet : List ℕ → Reason → ℕ → Case
-  payload : List ℕ → Reason → ℕ → Case
-  writeUnit : CaptionUnit → ℕ → Reason → ℕ → Case
-  writePacket : sdp.Sdp → ℕ → Reason → ℕ → Case
-  writePayload : Payload → ℕ → Reason → ℕ → Case
-  replace : List ℕ → CaptionUnit → ℕ → Reason → ℕ → ℕ → Case
+pub data FaultCase : Type 0 where
+  area : List ℕ → Reason → ℕ → ℕ → FaultCase
+  packet : List ℕ → Reason → ℕ → FaultCase
+  payload : List ℕ → Reason → ℕ → FaultCase
+  writeUnit : CaptionUnit → ℕ → Reason → ℕ → FaultCase
+  writePacket : sdp.Sdp → ℕ → Reason → ℕ → FaultCase
+  writePayload : Payload → ℕ → Reason → ℕ → FaultCase
+  replace : List ℕ → CaptionUnit → ℕ → Reason → ℕ → ℕ → FaultCase
 
 abbrev why : Verdict → List Reason
 why Accepted = []
@@ -49,7 +49,7 @@ why (Refused reason item) = reason ∷ []
 abbrev pub Decides : Verdict → Reason → ℕ → ℕ → Type 0
 Decides verdict reason number place = (why verdict ≡ reason ∷ []) × (refusalOf verdict ≡ refused number place)
 
-abbrev pub Decided : Case → Type 0
+abbrev pub Decided : FaultCase → Type 0
 Decided (area s reason number place) = Decides (areaVerdict s) reason number place
 Decided (packet s reason number) = Decides (packetVerdict s) reason number 0
 Decided (payload s reason number) = Decides (lengthVerdict (length s)) reason number 0
@@ -58,10 +58,6 @@ Decided (writeUnit u room reason number) =
 Decided (writePacket v room reason number) = Decides (packets.valueVerdict v room) reason number 0
 Decided (writePayload p room reason number) = Decides (payloads.valueVerdict p room) reason number 0
 Decided (replace s u room reason number place) = Decides (replaceVerdict s u room) reason number place
-
-abbrev pub All : List Case → Type 0
-All [] = Unit {0}
-All (c ∷ cs) = Decided c × All cs
 
 -- A: one legal record
 abbrev a : List ℕ
@@ -120,7 +116,7 @@ two counter x y = record { counter = counter; slots = x ∷ y ∷ replicate 3 sd
 abbrev payloadOf : ℕ → List AccessUnit → Payload
 payloadOf m us = record { flags = 0; m = m; units = us }
 
-abbrev pub two-faults : List Case
+abbrev pub two-faults : List FaultCase
 two-faults =
     -- READING AN AREA
     -- 1 and 2: too long, and no start code
