@@ -1,5 +1,5 @@
--- The theorems of the tables (docs/RULES.md, "Cases" and "Order of checks"). A row is an input and what comes of it; the
--- tables stand in specs/Table and specs/TwoFaults. That a row holds is computed from the definitions of the carriages.
+-- The theorems of the tables (docs/RULES.md, "Cases" and "Order of checks"). A row is an input and what comes of it.
+-- The tables stand in specs/Table and specs/TwoFaults. That a row holds is computed by the carriages' definitions.
 -- How to read it: docs/NOTATION.md. Assumes nothing.
 use mathlib.Core.Path.{_≡_}
 use lib.ListN.{length}
