@@ -24,7 +24,8 @@ use Rattle.line21.specs.declared.Payload.{Payload}
 use Rattle.line21.specs.declared.Answer.{Answer}
 use Rattle.line21.specs.declared.Head.{Head}
 use Rattle.line21.specs.declared.One.{One}
-use Rattle.line21.specs.Value.{Line21, Legal, LegalPayload, Typed, blank, none, stored, held}
+use Rattle.line21.specs.Value.{Line21, withData, LegalAccessUnit}
+use Rattle.line21.specs.Value.{Legal, LegalPayload, Typed, blank, none, stored, held}
 use Rattle.line21.specs.Layout.{layout}
 use Rattle.line21.specs.Reading.{lengthVerdict, headOf, Reads, ReadsHead, ReadsUnit}
 use Rattle.line21.specs.Writing.{valueVerdict, Writes}
@@ -59,6 +60,11 @@ only-one = accepting.only-one
 -- and the struct that holds it gives it back.
 pub stored-held : (v : Line21) → held (stored v) ≡ v
 stored-held = answers.stored-held
+
+-- Any data bytes do, under any flags: with others a legal access unit is as legal.
+pub any-data : (u : AccessUnit) (a b c d : ℕ) → a < 256 → b < 256 → c < 256 → d < 256
+    → LegalAccessUnit u → LegalAccessUnit (withData u a b c d)
+any-data = accepting.any-data
 
 -- Bad input gets 2, 1 or 13, in this order,
 pub refused-2 : (s : List ℕ) (r : Answer) → Reads s r → length s ≡ 0 → r .refusal ≡ refused 2 0

@@ -20,6 +20,19 @@ pub record ByteUnit (u : AccessUnit) : Type 0 where
   pub field2-data1 : u .«field2_data1» < 256
   pub field2-data2 : u .«field2_data2» < 256
 
+-- a unit with other data bytes
+abbrev pub withData : AccessUnit → ℕ → ℕ → ℕ → ℕ → AccessUnit
+withData u a b c d =
+    record {
+      «cc_valid_1» = u .«cc_valid_1»;
+      «cc_valid_2» = u .«cc_valid_2»;
+      padding = u .padding;
+      «field1_data1» = a;
+      «field1_data2» = b;
+      «field2_data1» = c;
+      «field2_data2» = d;
+    }
+
 -- the flags are one bit each, and the padding is 0 to 63
 pub record HoldableUnit (u : AccessUnit) : Type 0 where
   pub valid-1 : u .«cc_valid_1» < 2

@@ -1,6 +1,6 @@
 -- Reading a body into a lent array: a legal value's bytes are accepted and no others, what the answer and the array then hold, and what a refusal tells.
 -- Assumes nothing.
-use Prim.Native.Nat.{ℕ, _*_, _≤_}
+use Prim.Native.Nat.{ℕ, _*_, _≤_, _<_}
 use mathlib.Core.Path.{_≡_, _∙_, ap, ap₂, sym, subst, refl}
 use mathlib.Core.Logic.{_↔_}
 use mathlib.Core.List.{List}
@@ -15,7 +15,7 @@ use Rattle.refusal.specs.Answers.{lentOf}
 use Rattle.scte20.specs.declared.Record.{Record}
 use Rattle.scte20.specs.declared.CaptionUnit.{CaptionUnit}
 use Rattle.scte20.specs.declared.Head.{Head}
-use Rattle.scte20.specs.Value.{Content, Legal, LegalCaptionUnit, Typed, none, stored, held}
+use Rattle.scte20.specs.Value.{Content, withData, LegalRecord, Legal, LegalCaptionUnit, Typed, none, stored, held}
 use Rattle.scte20.specs.Layout.{layout}
 use Rattle.scte20.specs.Reading.{contentVerdict, valueOf, AtBit}
 use Rattle.scte20.specs.Order.{readingChecks}
@@ -27,6 +27,21 @@ use Rattle.scte20.proofs.Numbered.{content-placed}
 use Rattle.scte20.proofs.Sequence.{reading-order}
 
 -- THE VALUE
+
+-- legality asks of the data bytes that they are bytes, and no more
+pub any-data : (r : Record) (a b : ℕ) → a < 256 → b < 256 → LegalRecord r → LegalRecord (withData r a b)
+any-data r a b ha hb h =
+    let ranged = h .ranged in
+    record {
+      ranged =
+          record {
+            priority = ranged .priority;
+            field = ranged .field;
+            line = ranged .line;
+            bytes = record { data-1 = ha; data-2 = hb };
+          };
+      allowed = h .allowed;
+    }
 
 pub only-one : (c d : Content) → Legal c → Legal d → layout c ≡ layout d → c ≡ d
 only-one c d hc hd e = sym (layout-value c hc) ∙ ap valueOf e ∙ layout-value d hd

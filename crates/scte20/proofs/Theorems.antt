@@ -10,7 +10,7 @@
 -- answers r, and in a lent array that held `lent` it leaves `exit`. `Writes u before after out r exit` is that of
 -- `write_from` (crate scte20_writer): writing the body of u, with so many bytes before and after it, to an output that
 -- held `out` answers r and leaves `exit`. So each theorem speaks of every call. Assumes nothing.
-use Prim.Native.Nat.{ℕ, _+_, _*_, _≤_, min}
+use Prim.Native.Nat.{ℕ, _+_, _*_, _≤_, _<_, min}
 use mathlib.Core.Path.{_≡_}
 use mathlib.Core.Logic.{_↔_}
 use mathlib.Core.List.{List, []}
@@ -27,7 +27,8 @@ use Rattle.scte20.specs.declared.Numbers.{Numbers}
 use Rattle.scte20.specs.declared.CaptionUnit.{CaptionUnit}
 use Rattle.scte20.specs.declared.Head.{Head}
 use Rattle.scte20.specs.declared.Laid.{Laid}
-use Rattle.scte20.specs.Value.{Content, Legal, LegalCaptionUnit, Typed, blank, none, stored, held}
+use Rattle.scte20.specs.Value.{Content, withData, LegalRecord}
+use Rattle.scte20.specs.Value.{Legal, LegalCaptionUnit, Typed, blank, none, stored, held}
 use Rattle.scte20.specs.Layout.{contentBits, contentBytes, layout, sizeIn, longest}
 use Rattle.scte20.specs.Rules.{recordVerdict}
 use Rattle.scte20.specs.Reading.{contentVerdict, AtBit}
@@ -71,6 +72,10 @@ stored-legal = accepting.stored-legal
 -- and its numbers and its records' bytes tell it again.
 pub lent-held : (u : CaptionUnit) → Typed u → unitIn (numbersOf u) (recordsBytes (u .records)) ≡ u
 lent-held = accepting.lent-held
+
+-- Any data bytes do: with others a legal record is as legal.
+pub any-data : (r : Record) (a b : ℕ) → a < 256 → b < 256 → LegalRecord r → LegalRecord (withData r a b)
+any-data = accepting.any-data
 
 -- A refusal tells the verdict of all checks.
 pub refused-in-order : (body lent : List ℕ) (r : Head) (exit : List ℕ) → ReadsInto body lent r exit

@@ -28,6 +28,17 @@ pub record ByteRecord (r : Record) : Type 0 where
   pub data-1 : r .«cc_data_1» < 256
   pub data-2 : r .«cc_data_2» < 256
 
+-- a record with other data bytes
+abbrev pub withData : Record → ℕ → ℕ → Record
+withData r a b =
+    record {
+      «cc_priority» = r .«cc_priority»;
+      «field_number» = r .«field_number»;
+      «line_offset» = r .«line_offset»;
+      «cc_data_1» = a;
+      «cc_data_2» = b;
+    }
+
 -- what the layout holds: priority 0 to 3, field_number up to 3, line_offset 0 to 31, two bytes
 pub record Ranged (r : Record) : Type 0 where
   pub priority : r .«cc_priority» < 4

@@ -8,7 +8,7 @@ use mathlib.Core.List.{List}
 use Rattle.lists.specs.Bytes.{Bytes}
 use Rattle.refusal.specs.declared.Verdict.the-variants.{Accepted}
 use Rattle.refusal.proofs.Checks.{accepted-andThen}
-use Rattle.sdp.specs.Value.{SlotRow, Sdp, LegalSlot, Legal, Row, descriptor}
+use Rattle.sdp.specs.Value.{SlotRow, Sdp, FullSlot, LegalSlot, Legal, Row, descriptor, together}
 use Rattle.sdp.specs.Layout.{userBytes}
 use Rattle.sdp.specs.User.{headVerdict, tailVerdict, userVerdict, userValue}
 use Rattle.sdp.specs.SlotVerdict.{slotVerdict}
@@ -27,6 +27,19 @@ accepted-exactly dc u bytes = (
   λ e. let back = users dc u bytes e in (userValue u, back .legal, back .same),
   λ w. subst (λ (t : List ℕ). userVerdict dc t ≡ Accepted) (w .2) (user-accepted (w .0) (w .1) dc),
 )
+
+-- legality asks of a full slot's row that it is 42 bytes, and no more
+pub any-row : (x : SlotRow) (row : List ℕ) → Row row → FullSlot x → FullSlot (together (x .slot) row)
+any-row x row r h =
+    record {
+      mark = h .mark;
+      line = h .line;
+      reserved = h .reserved;
+      field = h .field;
+      some = h .some;
+      places = r .0;
+      bytes = r .1;
+    }
 
 pub only-one : (v w : Sdp) → Legal v → Legal w → userBytes v ≡ userBytes w → v ≡ w
 only-one v w hv hw e = sym (user-value v hv) ∙ ap userValue e ∙ user-value w hw

@@ -21,7 +21,7 @@ use Rattle.refusal.specs.Checks.{first}
 use Rattle.anc.specs.Words.{byteOf}
 use Rattle.sdp.specs.declared.Slot.{Slot}
 use Rattle.sdp.specs.declared.Packet.{Packet}
-use Rattle.sdp.specs.Value.{SlotRow, Sdp, LegalSlot, Legal, Row, descriptor, together}
+use Rattle.sdp.specs.Value.{SlotRow, Sdp, FullSlot, LegalSlot, Legal, Row, descriptor, together}
 use Rattle.sdp.specs.Layout.{descriptorsOf, count, userLength, userBytes}
 use Rattle.sdp.specs.User.{lineVerdict, userVerdict, slotOf, userValue}
 use Rattle.sdp.specs.SlotVerdict.{slotVerdict}
@@ -59,6 +59,10 @@ user-sum = rules.user-sum
 -- A slot is empty exactly when its descriptor is 0; 80 (line 0, odd field) is a full one.
 pub empty-exactly : (x : SlotRow) → LegalSlot x → (x .slot .full ≡ 0) ↔ (descriptor (x .slot) ≡ 0)
 empty-exactly = accepting.empty-exactly
+
+-- Any 42 bytes do: with another row a full slot is as legal.
+pub any-row : (x : SlotRow) (row : List ℕ) → Row row → FullSlot x → FullSlot (together (x .slot) row)
+any-row = accepting.any-row
 
 -- WRITING
 
