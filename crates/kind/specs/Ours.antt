@@ -1,13 +1,31 @@
--- Which units of an area are ours: those of an SCTE 20 caption (RULES, "Picture area"), told by the first byte of the
--- body. A unit without one is foreign. Nothing else in the project says which units are ours.
+-- Which units of an area are ours, of one kind or the other (RULES, "Picture area"), told by the first bytes of the
+-- body. Nothing else in the project says which units are ours.
 use Prim.Native.Nat.{ℕ}
-use mathlib.Core.Bool.{Bool, false}
+use mathlib.Core.Bool.{Bool, true, false, _&&_}
 use mathlib.Core.List.{List, [], _∷_}
 use lib.Dec.{eqb}
 use Rattle.kind.specs.declared.Kind.{Kind}
-use Rattle.kind.specs.declared.Kind.the-variants.{Scte20}
+use Rattle.kind.specs.declared.Kind.the-variants.{Scte20, Ga94}
+
+-- user_data_type_code 03 (001, 5.4)
+abbrev pub typed : List ℕ → Bool
+typed [] = false
+typed (b ∷ body) = eqb b 3
+
+-- behind ATSC_identifier: user_data_type_code 03, or nothing more
+abbrev pub typedOrEnds : List ℕ → Bool
+typedOrEnds [] = true
+typedOrEnds (b ∷ body) = eqb b 3
+
+-- ATSC_identifier 47 41 39 34 (003, Table 3), and what stands behind it
+abbrev pub identified : List ℕ → Bool
+identified [] = false
+identified (a ∷ []) = false
+identified (a ∷ b ∷ []) = false
+identified (a ∷ b ∷ c ∷ []) = false
+identified (a ∷ b ∷ c ∷ d ∷ body) = eqb a 0x47 && (eqb b 0x41 && (eqb c 0x39 && (eqb d 0x34 && typedOrEnds body)))
 
 -- of the unit's body, what follows its four start bytes
 unfoldable pub ours : Kind → List ℕ → Bool
-ours Scte20 [] = false
-ours Scte20 (b ∷ body) = eqb b 3
+ours Scte20 body = typed body
+ours Ga94 body = identified body

@@ -6,6 +6,8 @@ ghost use Rattle.kind.specs.Ours.{ours as Ours·ours};
 pub enum Kind {
     // SCTE 20 picture user data (001, 5.4): user_data_type_code 03.
     Scte20,
+    // ATSC picture user data (003, Table 3): ATSC_identifier, then user_data_type_code 03.
+    Ga94,
 }
 
 // Whether a unit with this body is ours, of that kind.
@@ -18,6 +20,28 @@ pub fn ours(body: &[u8], kind: Kind) -> bool
                 return false;
             }
             body[0] == 3
+        }
+        Kind::Ga94 => {
+            if body.len() < 4 {
+                return false;
+            }
+            if body[0] != 0x47 {
+                return false;
+            }
+            if body[1] != 0x41 {
+                return false;
+            }
+            if body[2] != 0x39 {
+                return false;
+            }
+            if body[3] != 0x34 {
+                return false;
+            }
+            // Cut off behind the identifier it is ours, and refused.
+            if body.len() == 4 {
+                return true;
+            }
+            body[4] == 3
         }
     }
 }

@@ -5,3 +5,4 @@ pub mod Outputs
 pub mod Determined
 pub mod Theorems
 pub mod Gives
+pub mod Only

@@ -1,8 +1,8 @@
--- The theorems of refusals (docs/RULES.md, "Refusals"). What they speak of is defined in specs/Numbers. What an answer
+-- The theorems of refusals (docs/RULES.md, "Refusals"). What they speak of is defined in specs/Numbers and Checks. What an answer
 -- tells of a writer's output is shown in proofs/Outputs, for the pages of the carriages.
 -- How to read it: docs/NOTATION.md.
 -- Assumes nothing.
-use Prim.Native.Nat.{ℕ}
+use Prim.Native.Nat.{ℕ, _+_}
 use mathlib.Core.Path.{_≡_}
 use Rattle.refusal.specs.declared.Reason.{Reason}
 use Rattle.refusal.specs.declared.Item.{Item}
@@ -10,6 +10,7 @@ use Rattle.refusal.specs.declared.Verdict.{Verdict}
 use Rattle.refusal.specs.declared.Verdict.the-variants.{Accepted}
 use Rattle.refusal.specs.declared.Refusal.{Refusal}
 use Rattle.refusal.specs.Numbers.{numberOf, placeOf, refusalOf}
+use Rattle.refusal.specs.Checks.{fitVerdict}
 use Rattle.refusal.proofs.Acceptance as acceptance
 use Rattle.refusal.proofs.Determined as determined
 
@@ -27,3 +28,7 @@ place-determined = determined.place-determined
 pub told-determined : (verdict : Verdict) (a b : Refusal)
     → a ≡ refusalOf verdict → b ≡ refusalOf verdict → a ≡ b
 told-determined = determined.told-determined
+
+pub judge-fit-determined : (limit before body after room : ℕ) (a b : Verdict)
+    → a ≡ fitVerdict limit (before + body + after) room → b ≡ fitVerdict limit (before + body + after) room → a ≡ b
+judge-fit-determined = determined.judge-fit-determined

@@ -2,7 +2,7 @@
 -- project says a refusal number or a place. The words beside a number are a reminder; RULES says when it is given.
 use Prim.Native.Nat.{ℕ}
 use Rattle.refusal.specs.declared.Reason.{Reason}
-use Rattle.refusal.specs.declared.Reason.the-variants.{TooLong, NoStart, StartCode, SecondUnit, Ends, Unfixed, FieldNumberZero, DescriptorLine, FieldFalls, LineDoesNotRise, FifthPriority, SampledVideo, WordRange, WordParity, SdpChecksum, Checksum, Unfit, NoRoom, Unholdable}
+use Rattle.refusal.specs.declared.Reason.the-variants.{TooLong, NoStart, StartCode, SecondUnit, Ends, Unfixed, FieldNumberZero, DescriptorLine, FieldFalls, LineDoesNotRise, FifthPriority, SampledVideo, WordRange, WordParity, SdpChecksum, Checksum, Unfit, NoRoom, Unholdable, AdditionalData}
 use Rattle.refusal.specs.declared.Item.{Item}
 use Rattle.refusal.specs.declared.Item.the-variants.{Whole, Bit, Body, Word, Length}
 use Rattle.refusal.specs.declared.Verdict.{Verdict}
@@ -46,6 +46,8 @@ numberOf (Unfit which) = 13
 numberOf NoRoom = 14
 -- no layout has room for it
 numberOf (Unholdable which) = 15
+-- GA94 with its third flag set
+numberOf AdditionalData = 16
 
 -- the unit's first byte for what failed in its body, in an area; nothing else has a place
 abbrev pub placeOf : Item → ℕ

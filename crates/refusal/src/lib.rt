@@ -3,7 +3,9 @@
 // A reader or a writer says why it refuses by a reason, and where by the item that failed. Only this
 // crate knows which number and which place the rules have for them.
 ghost use mathlib.Core.Path.{_≡_};
+ghost use Prim.Native.Nat.{_+_};
 ghost use Rattle.refusal.specs.Numbers.{numberOf, placeOf, refusalOf};
+ghost use Rattle.refusal.specs.Checks.{fitVerdict};
 
 // Which fixed bit, byte or word is another.
 pub enum Fixed {
@@ -50,6 +52,8 @@ pub enum Excess {
     Padding,
     // A payload's flags byte.
     FlagsByte,
+    CcType,
+    EmData,
 }
 
 // Why a check refused: finer than the numbers of RULES, since two reasons may share one.
@@ -73,6 +77,8 @@ pub enum Reason {
     Unfit(Misfit),
     NoRoom,
     Unholdable(Excess),
+    // GA94's third flag.
+    AdditionalData,
 }
 
 // What failed: the item's place, in its carriage's own measure.
@@ -110,6 +116,12 @@ pub struct Written {
     pub len: usize,
 }
 
+// What a writer of a unit's body answers: the verdict, and how many bytes the body has, 0 where it refuses.
+pub struct Laid {
+    pub verdict: Verdict,
+    pub len: usize,
+}
+
 pub fn number(reason: Reason) -> u8
     ensures { λ r. ⌜ r ≡ numberOf reason ⌝ }
 {
@@ -133,6 +145,7 @@ pub fn number(reason: Reason) -> u8
         Reason::Unfit(_) => 13,
         Reason::NoRoom => 14,
         Reason::Unholdable(_) => 15,
+        Reason::AdditionalData => 16,
     }
 }
 
@@ -162,4 +175,24 @@ pub fn told(verdict: Verdict) -> Refusal
             place: place(item),
         },
     }
+}
+
+// 1 and 14 of a result that has a body's bytes, and those before and after it.
+pub fn judge_fit(limit: usize, before: usize, body: usize, after: usize, room: usize) -> Verdict
+    ensures { λ r. ⌜ r ≡ fitVerdict limit (before + body + after) room ⌝ }
+{
+    // Each is compared with what is left of the limit, so that no sum is too large to hold.
+    if limit < before {
+        return Verdict::Refused(Reason::TooLong, Item::Whole);
+    }
+    if limit - before < body {
+        return Verdict::Refused(Reason::TooLong, Item::Whole);
+    }
+    if limit - before - body < after {
+        return Verdict::Refused(Reason::TooLong, Item::Whole);
+    }
+    if room < before + body + after {
+        return Verdict::Refused(Reason::NoRoom, Item::Whole);
+    }
+    Verdict::Accepted
 }

@@ -1,0 +1,39 @@
+-- Where an order of checks can refuse: where P holds of the reason and the item of each check that is reached.
+-- Assumes nothing.
+use Prim.Native.Nat.{ℕ, _≤_}
+use mathlib.Core.Path.{_≡_, subst, refl}
+use mathlib.Core.Bool.{Bool, true, false}
+use Rattle.refusal.specs.declared.Reason.{Reason}
+use Rattle.refusal.specs.declared.Item.{Item}
+use Rattle.refusal.specs.declared.Item.the-variants.{Bit}
+use Rattle.refusal.specs.declared.Verdict.{Verdict}
+use Rattle.refusal.specs.declared.Verdict.the-variants.{Accepted, Refused}
+use Rattle.refusal.specs.Numbers.{numberOf}
+use Rattle.refusal.specs.Checks.{refuseIf, andThen}
+use Rattle.refusal.specs.Answers.{AtBit}
+
+module _ (P : Reason → Item → Type 0) where
+  -- a verdict that refuses only where P holds of the reason and the item
+  abbrev pub Only : Verdict → Type 0
+  Only verdict = (reason : Reason) (item : Item) → verdict ≡ Refused reason item → P reason item
+
+  abbrev Keeps : Verdict → Type 0
+  Keeps Accepted = Unit {0}
+  Keeps (Refused reason item) = P reason item
+
+  pub accepted-only : Only Accepted
+  accepted-only reason item e = subst Keeps e tt
+
+  pub refuseIf-only : (fault : Bool) (reason : Reason) (item : Item) → P reason item → Only (refuseIf fault reason item)
+  refuseIf-only true reason item p r i e = subst Keeps e p
+  refuseIf-only false reason item p r i e = accepted-only r i e
+
+  -- a check is reached only where those before it accept
+  pub andThen-only : (check next : Verdict) → Only check → (check ≡ Accepted → Only next) → Only (andThen check next)
+  andThen-only Accepted next p q = q refl
+  andThen-only (Refused reason item) next p q = p
+
+-- a check at a bit
+pub bit-only : (low high limit : ℕ) (fault : Bool) (reason : Reason) (b : ℕ) → b ≤ limit → low ≤ numberOf reason → numberOf reason ≤ high
+    → Only (AtBit low high limit) (refuseIf fault reason (Bit b))
+bit-only low high limit fault reason b h l m = refuseIf-only (AtBit low high limit) fault reason (Bit b) (record { bit = b; here = refl; within = h; least = l; most = m })
