@@ -1,6 +1,6 @@
 // Which units of an area are ours (docs/RULES.md, "Picture area"). Every other unit is foreign.
 ghost use mathlib.Core.Path.{_≡_};
-ghost use Rattle.kind.specs.Ours.{ours as Ours·ours};
+ghost use Rattle.kind.specs.Ours.{ours as Ours·ours, typed as Ours·typed, identified as Ours·identified};
 
 // The kinds of caption unit.
 pub enum Kind {
@@ -15,33 +15,41 @@ pub fn ours(body: &[u8], kind: Kind) -> bool
     ensures { λ r. ⌜ r ≡ Ours·ours kind (now (body .entry)) ⌝ }
 {
     match kind {
-        Kind::Scte20 => {
-            if body.len() == 0 {
-                return false;
-            }
-            body[0] == 3
-        }
-        Kind::Ga94 => {
-            if body.len() < 4 {
-                return false;
-            }
-            if body[0] != 0x47 {
-                return false;
-            }
-            if body[1] != 0x41 {
-                return false;
-            }
-            if body[2] != 0x39 {
-                return false;
-            }
-            if body[3] != 0x34 {
-                return false;
-            }
-            // Cut off behind the identifier it is ours, and refused.
-            if body.len() == 4 {
-                return true;
-            }
-            body[4] == 3
-        }
+        Kind::Scte20 => typed(body),
+        Kind::Ga94 => identified(body),
     }
+}
+
+fn typed(body: &[u8]) -> bool
+    ensures { λ r. ⌜ r ≡ Ours·typed (now (body .entry)) ⌝ }
+{
+    if body.len() == 0 {
+        return false;
+    }
+    body[0] == 3
+}
+
+fn identified(body: &[u8]) -> bool
+    ensures { λ r. ⌜ r ≡ Ours·identified (now (body .entry)) ⌝ }
+{
+    if body.len() < 4 {
+        return false;
+    }
+    if body[0] != 0x47 {
+        return false;
+    }
+    if body[1] != 0x41 {
+        return false;
+    }
+    if body[2] != 0x39 {
+        return false;
+    }
+    if body[3] != 0x34 {
+        return false;
+    }
+    // Cut off behind the identifier it is ours, and refused.
+    if body.len() == 4 {
+        return true;
+    }
+    body[4] == 3
 }

@@ -1,21 +1,24 @@
-use native.Mathlib.Omega.{arith}
-use mathlib.Core.Path.{sym}
-use Rattle.kind.proofs.First.{ours-nothing, ours-first}
+-- `kind::ours` meets its contract: each arm is a case of the definition.
+-- Assumes nothing.
+use mathlib.Core.Path.{_∙_, ap, sym}
 use borrow.Author.Needs.{needs}
+use denote.Ref.{now}
+use Rattle.kind.specs.declared.Kind.{Kind}
+use Rattle.kind.specs.Ours.{ours}
 use Rattle.kind.proofs.ours.Statement.{statement}
 use Rattle.kind.proofs.ours.Tie as tie
 
--- src/lib.rt:18:17
-returns : tie.Need-returns
-returns c = sym (ours-nothing _ _ (c .if1 .taken))
+one : tie.Need-returns
+unfolding ours
+one c =
+    let start = c .before .before .before .before in
+    c .typed .ensures ∙ ap (λ (k : Kind). ours k (now (start .args .body))) (sym (c .before .enum-told .given .1))
 
--- src/lib.rt:20:13
-shared-slice-read-result : tie.Need-shared-slice-read-result
-shared-slice-read-result c = search needs
-
--- src/lib.rt:12:1
-returns-2 : tie.Need-returns-2
-returns-2 c = sym (ours-first _ _ (omega (arith, c .before .if1 .left)))
+other : tie.Need-returns-2
+unfolding ours
+other c =
+    let start = c .before .before .before .before in
+    c .identified .ensures ∙ ap (λ (k : Kind). ours k (now (start .args .body))) (sym (c .before .enum-told2 .given .1))
 
 pub ours-spec : {M : Type 1} → statement M
-ours-spec = tie.close (tie.spec returns shared-slice-read-result returns-2)
+ours-spec = tie.close (tie.spec (λ c. search needs) (λ c κs. search needs) (λ c. search needs) (λ c κs. search needs) one other)
