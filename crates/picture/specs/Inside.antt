@@ -32,8 +32,8 @@ spotOf (Many n) len = record { start = len; end = len }
 
 -- the promise of reading an area in which a unit is to be replaced: that of reading into a lent array, and the place of
 -- the new unit
-pub record ReadsOld {k : Kind} (s lent : List ℕ) (r : Head k) (spot : Spot) (exit : List ℕ) : Type 0 where
-  pub head : ReadsInto s lent r exit
+pub record ReadsOld (k : Kind) (s lent : List ℕ) (r : Head k) (spot : Spot) (exit : List ℕ) : Type 0 where
+  pub head : ReadsInto k s lent r exit
   pub place : spot ≡ spotOf (captionsIn k s) (length s)
 
 -- what `surround` leaves, in an output that holds a body at its place: the unit's start code before it, and around the

@@ -38,9 +38,9 @@ none Scte20 = scte20.none
 none Ga94 = ga94.none
 
 -- its bytes, stuffing and all: the body of a unit
-abbrev pub body : (k : Kind) → Content k → List ℕ
-body Scte20 c = scte20-layout.layout c
-body Ga94 c = ga94-layout.layout c
+abbrev pub bodyOf : (k : Kind) → Content k → List ℕ
+bodyOf Scte20 c = scte20-layout.layout c
+bodyOf Ga94 c = ga94-layout.layout c
 
 -- READING
 
@@ -51,6 +51,11 @@ contentVerdict Ga94 s = ga94-reading.contentVerdict s
 abbrev pub valueOf : (k : Kind) → List ℕ → Content k
 valueOf Scte20 s = scte20-reading.valueOf s
 valueOf Ga94 s = ga94-reading.valueOf s
+
+-- the highest number that a check of a body gives; the lowest is 5
+abbrev pub highest : Kind → ℕ
+highest Scte20 = 10
+highest Ga94 = 16
 
 -- all checks of a body, in the order of RULES
 abbrev pub bodyChecks : Kind → List ℕ → List Verdict

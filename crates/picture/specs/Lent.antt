@@ -20,14 +20,14 @@ pub record Head (k : Kind) : Type 0 where
   pub present : Bool
   pub numbers : Numbers k
 
-abbrev pub headOf : {k : Kind} → Answer k → Head k
-headOf {k} a = record { refusal = a .refusal; present = a .present; numbers = numbersOf k (a .unit) }
+abbrev pub headOf : (k : Kind) → Answer k → Head k
+headOf k a = record { refusal = a .refusal; present = a .present; numbers = numbersOf k (a .unit) }
 
 -- the promise of reading into a lent array: the numbers, and all records of the answer in the array, zeros beyond n and
 -- where no caption unit stands
-pub record ReadsInto {k : Kind} (s lent : List ℕ) (r : Head k) (exit : List ℕ) : Type 0 where
+pub record ReadsInto (k : Kind) (s lent : List ℕ) (r : Head k) (exit : List ℕ) : Type 0 where
   pub bytes : Bytes s
-  pub answer : r ≡ headOf (readOf k s)
+  pub answer : r ≡ headOf k (readOf k s)
   pub left : exit ≡ lentOf (areaVerdict k s) (bytesOf k (readOf k s .unit)) lent
 
 -- the answers in the code's structs

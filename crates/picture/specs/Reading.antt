@@ -71,12 +71,12 @@ abbrev pub readOf : (k : Kind) → List ℕ → Answer k
 readOf k s = answerOf k (areaVerdict k s) (foundContent k (captionsIn k s) s)
 
 -- the answer that shows a value
-abbrev pub shown : {k : Kind} → Area k → Answer k
-shown {k} (uncaptioned foreign) = answerOf k Accepted []
-shown {k} (captioned before c after) = answerOf k Accepted (c ∷ [])
+abbrev pub shown : (k : Kind) → Area k → Answer k
+shown k (uncaptioned foreign) = answerOf k Accepted []
+shown k (captioned before c after) = answerOf k Accepted (c ∷ [])
 
 -- the promise of reading. By its type its input is a list of bytes; the code shows that too, so that the theorems assume
 -- nothing
-pub record Reads {k : Kind} (s : List ℕ) (r : Answer k) : Type 0 where
+pub record Reads (k : Kind) (s : List ℕ) (r : Answer k) : Type 0 where
   pub bytes : Bytes s
   pub answer : r ≡ readOf k s

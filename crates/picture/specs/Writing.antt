@@ -12,12 +12,12 @@ use Rattle.kind.specs.declared.Kind.{Kind}
 use Rattle.units.specs.declared.Found.{Found}
 use Rattle.units.specs.declared.Found.the-variants.{NotUnits, Nowhere, At, Many}
 use Rattle.units.specs.Layout.{layoutUnit}
-use Rattle.picture.specs.Kinds.{Content, body, CaptionUnit, held, Typed, writeVerdict}
+use Rattle.picture.specs.Kinds.{Content, bodyOf, CaptionUnit, held, Typed, writeVerdict}
 use Rattle.picture.specs.Reading.{captionsIn, areaVerdict}
 
 -- a unit: its four start bytes, its content, and z zero bytes
 abbrev pub unitBytes : (k : Kind) → Content k → List ℕ
-unitBytes k c = layoutUnit (body k c)
+unitBytes k c = layoutUnit (bodyOf k c)
 
 -- the promise of writing. By their types the data bytes are bytes and there are 31 places; the code shows that too
 pub record Writes (k : Kind) (u : CaptionUnit k) (out : List ℕ) (answer : Written) (exit : List ℕ) : Type 0 where

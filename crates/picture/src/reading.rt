@@ -21,7 +21,7 @@ use units::START_BYTES;
 
 // Reads the caption unit of an area. The foreign units are not looked into.
 pub fn read(s: &[u8]) -> Answer
-    ensures { λ r. ⌜ Reads (now (s .entry)) (answered r) ⌝ }
+    ensures { λ r. ⌜ Reads Scte20 (now (s .entry)) (answered r) ⌝ }
 {
     let mut records = [0; LENT_RECORDS];
     let head = read_into(s, &mut records);
@@ -37,14 +37,14 @@ pub fn read(s: &[u8]) -> Answer
 
 // The same with the records in a lent array, which a refusal leaves as it is. Without a caption unit it is cleared.
 pub fn read_into(s: &[u8], records: &mut [u8; LENT_RECORDS]) -> Head
-    ensures { λ r. ⌜ ReadsInto (now (s .entry)) (now (records .entry)) (headed r) (now (records .exit)) ⌝ }
+    ensures { λ r. ⌜ ReadsInto Scte20 (now (s .entry)) (now (records .entry)) (headed r) (now (records .exit)) ⌝ }
 {
     head_of(s, units::scan(s, Kind::Scte20), records)
 }
 
 // Reads an area for one who puts another caption unit into it: the old unit's numbers as `read_into` answers them, and which bytes give way.
 pub fn read_old(s: &[u8], records: &mut [u8; LENT_RECORDS]) -> Old
-    ensures { λ r. ⌜ ReadsOld (now (s .entry)) (now (records .entry)) (headed (r .head)) (r .spot) (now (records .exit)) ⌝ }
+    ensures { λ r. ⌜ ReadsOld Scte20 (now (s .entry)) (now (records .entry)) (headed (r .head)) (r .spot) (now (records .exit)) ⌝ }
 {
     let found = units::scan(s, Kind::Scte20);
     let head = head_of(s, found, records);
@@ -55,7 +55,7 @@ pub fn read_old(s: &[u8], records: &mut [u8; LENT_RECORDS]) -> Old
 // The answer, from what the search for caption units found.
 fn head_of(s: &[u8], found: Found, records: &mut [u8; LENT_RECORDS]) -> Head
     requires { ⌜ captionsIn Scte20 (now s) ≡ found ⌝ }
-    ensures { λ r. ⌜ ReadsInto (now (s .entry)) (now (records .entry)) (headed r) (now (records .exit)) ⌝ }
+    ensures { λ r. ⌜ ReadsInto Scte20 (now (s .entry)) (now (records .entry)) (headed r) (now (records .exit)) ⌝ }
 {
     match found {
         Found::NotUnits(reason, item) => nothing(Verdict::Refused(reason, item)),
@@ -71,7 +71,7 @@ fn head_of(s: &[u8], found: Found, records: &mut [u8; LENT_RECORDS]) -> Head
 // Reads the only caption unit, which stands from byte `unit` up to `end`.
 fn read_unit(s: &[u8], unit: usize, end: usize, records: &mut [u8; LENT_RECORDS]) -> Head
     requires { ⌜ captionsIn Scte20 (now s) ≡ At unit end ⌝ }
-    ensures { λ r. ⌜ ReadsInto (now (s .entry)) (now (records .entry)) (headed r) (now (records .exit)) ⌝ }
+    ensures { λ r. ⌜ ReadsInto Scte20 (now (s .entry)) (now (records .entry)) (headed r) (now (records .exit)) ⌝ }
 {
     let body = unit + START_BYTES;
     let content = scte20_reader::read_into(&s[body..end], records);
@@ -89,7 +89,7 @@ fn read_unit(s: &[u8], unit: usize, end: usize, records: &mut [u8; LENT_RECORDS]
 
 // An answer with no caption unit in it.
 fn nothing(verdict: Verdict) -> Head
-    ensures { λ r. ⌜ headed r ≡ headOf (answerOf Scte20 verdict []) ⌝ }
+    ensures { λ r. ⌜ headed r ≡ headOf Scte20 (answerOf Scte20 verdict []) ⌝ }
 {
     Head {
         refusal: refusal::told(verdict),

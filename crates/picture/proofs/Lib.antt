@@ -1,0 +1,17 @@
+pub mod Contents
+pub mod CleanBody
+pub mod Areas
+pub mod Unique
+pub mod Placing
+pub mod Lending
+pub mod Laying
+pub mod Wholes
+pub mod Sequence
+pub mod Replaced
+pub mod Spots
+pub mod Accepting
+pub mod Refusing
+pub mod Writing
+pub mod Replacing
+pub mod LentBack
+pub mod Determined
