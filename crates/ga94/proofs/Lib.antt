@@ -6,3 +6,13 @@ pub mod Table
 pub mod Zeros
 pub mod Quiet
 pub mod Numbered
+pub mod Lending
+pub mod Holding
+pub mod Writable
+pub mod Sequence
+pub mod Answers
+pub mod Judged
+pub mod Accepting
+pub mod Writing
+pub mod Determined
+pub mod Theorems
