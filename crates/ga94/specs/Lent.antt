@@ -1,9 +1,12 @@
 -- A unit's records as bytes in a lent array, four bytes each, in the order of the struct: what the C interface lends
 -- and is lent.
-use Prim.Native.Nat.{ℕ}
+use Prim.Native.Nat.{ℕ, _*_}
 use mathlib.Core.Path.{_≡_}
+use mathlib.Core.Bool.{Bool, true, false}
 use mathlib.Core.List.{List, [], _∷_}
+use lib.Dec.{ltb}
 use lib.ListN.{getD}
+use lib.Seq.{sets}
 use Rattle.lists.specs.Bytes.{Bytes}
 use Rattle.lists.specs.Flat.{flat, taken}
 use Rattle.refusal.specs.declared.Verdict.{Verdict}
@@ -33,6 +36,14 @@ recordIn s =
 
 abbrev pub lentRecords : List ℕ → List Record
 lentRecords s = taken recordIn 4 31 s
+
+-- a record stored as the one of index i. Beyond the last place nothing is stored
+abbrev pub storedIf : Bool → ℕ → Record → List ℕ → List ℕ
+storedIf true i r s = sets s (4 * i) (recordBytes r)
+storedIf false i r s = s
+
+unfoldable pub storedAt : ℕ → Record → List ℕ → List ℕ
+storedAt i r s = storedIf (ltb i 31) i r s
 
 -- the value that numbers and a lent array tell
 abbrev pub unitIn : Numbers → List ℕ → CaptionUnit

@@ -1,6 +1,10 @@
 // GA94 caption content: what a unit of ATSC picture user data holds behind its start code.
 //
 // Normative references: docs/RULES.md, "GA94"; document 003, Table 3; ATSC A/53.
+mod lent;
+
+pub use lent::put_record;
+pub use lent::record_in;
 use refusal::Verdict;
 
 pub const MAX_RECORDS: usize = 31;
