@@ -14,4 +14,6 @@ pub mod Refusing
 pub mod Writing
 pub mod Replacing
 pub mod LentBack
+pub mod Beside
 pub mod Determined
+pub mod Theorems

@@ -87,7 +87,7 @@ module _ (k : Kind) where
         )
 
     -- what was counted as written is the new area
-    new-bytes : r .refusal .number ≡ 0 → take (r .len) exit ≡ layout k (replaced k v (held k u))
+    pub new-bytes : r .refusal .number ≡ 0 → take (r .len) exit ≡ layout k (replaced k v (held k u))
     new-bytes e = let new = the-new-area e in written-bytes (layout k (replaced k v (held k u))) out r exit (new .0, new .1)
 
     pub new-units : r .refusal .number ≡ 0 → bodiesOf (take (r .len) exit) ≡ bodies k (replaced k v (held k u))

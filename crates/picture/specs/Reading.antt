@@ -80,3 +80,7 @@ shown k (captioned before c after) = answerOf k Accepted (c ∷ [])
 pub record Reads (k : Kind) (s : List ℕ) (r : Answer k) : Type 0 where
   pub bytes : Bytes s
   pub answer : r ≡ readOf k s
+
+-- two answers that tell the same, but for the place of a refusal
+abbrev pub Alike : (k : Kind) → Answer k → Answer k → Type 0
+Alike k a b = (a .refusal .number ≡ b .refusal .number) × (a .present ≡ b .present) × (a .unit ≡ b .unit)
