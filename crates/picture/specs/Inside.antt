@@ -4,16 +4,19 @@ use mathlib.Core.Path.{_≡_}
 use mathlib.Core.List.{List}
 use lib.ListN.{length}
 use Rattle.lists.specs.Room.{over, overAt}
+use Rattle.refusal.specs.declared.Written.{Written}
 use Rattle.refusal.specs.declared.Item.{Item}
 use Rattle.refusal.specs.declared.Item.the-variants.{Whole, Bit, Body, Word, Length}
+use Rattle.refusal.specs.Answers.{Wrote}
 use Rattle.kind.specs.declared.Kind.{Kind}
 use Rattle.units.specs.declared.Found.{Found}
 use Rattle.units.specs.declared.Found.the-variants.{NotUnits, Nowhere, At, Many}
 use Rattle.units.specs.Layout.{layoutUnit}
 use Rattle.picture.specs.declared.Spot.{Spot}
+use Rattle.picture.specs.Kinds.{CaptionUnit, held, Typed, writeVerdict}
 use Rattle.picture.specs.Reading.{captionsIn}
 use Rattle.picture.specs.Lent.{Head, ReadsInto}
-use Rattle.picture.specs.Writing.{exchanged}
+use Rattle.picture.specs.Writing.{unitBytes, exchanged}
 
 -- an item that begins not far behind the end of a body, so that its bit in an area is a number that the code holds
 abbrev pub Near : Item → Type 0
@@ -42,3 +45,11 @@ abbrev pub Surrounds : List ℕ → ℕ → ℕ → ℕ → List ℕ → List �
 Surrounds s start end len out exit =
     (body first : List ℕ) → length body ≡ len → out ≡ overAt (start + 4) body first
     → exit ≡ over (exchanged s start end (layoutUnit body)) first
+
+-- what `exchange` answers and leaves: the new area is judged as a whole
+pub record Exchanges (k : Kind) (s : List ℕ) (start end : ℕ) (u : CaptionUnit k) (out : List ℕ) (r : Written)
+    (exit : List ℕ) : Type 0 where
+  pub typed : Typed k u
+  pub wrote :
+      let new = exchanged s start end (unitBytes k (held k u)) in
+      Wrote (writeVerdict k u (length new) (length out)) new out r exit
