@@ -6,7 +6,7 @@ use native.Mathlib.Omega.{arith}
 use mathlib.Core.Path.{_≡_, _∙_, ap, ap₂, sym, refl}
 use mathlib.Core.Bool.{Bool, not}
 use mathlib.Core.List.{List, [], _∷_, _++_}
-use borrow.Author.Tests.{eq-eqb, lt-ltb, le-ltb}
+use borrow.Author.Tests.{eq-eqb, ne-eqb, lt-ltb, le-ltb}
 use lib.Dec.{eqb, ltb}
 use lib.ListN.{length, getD, drop, length-append, length-drop}
 use lib.Seq.{drop-cons, drop-drop, getD-drop}
@@ -64,6 +64,10 @@ accepted-marker i body e = accepted-equal (getD body i 0 / 8) 31 (Unfixed Marker
 pub marker-accepted : (i : ℕ) (body : List ℕ) → getD body i 0 / 8 ≡ 31 → markerVerdict i body ≡ Accepted
 unfolding markerVerdict
 marker-accepted i body e = refuseIf-accepted (not (eqb (getD body i 0 / 8) 31)) (Unfixed Marker) (Bit (8 * i)) (ap not (eq-eqb (getD body i 0 / 8) 31 e))
+
+pub marker-other : (i : ℕ) (body : List ℕ) → (getD body i 0 / 8 ≡ 31 → ⊥) → markerVerdict i body ≡ Refused (Unfixed Marker) (Bit (8 * i))
+unfolding markerVerdict
+marker-other i body h = simp (ne-eqb (getD body i 0 / 8) 31 h)
 
 construct-again : (i : ℕ) (body : List ℕ) → i + 3 ≤ length body → getD body i 0 / 8 ≡ 31 → drop i body ≡ constructBytes (constructAt i body) ++ drop (i + 3) body
 unfolding constructAt

@@ -1,4 +1,5 @@
 pub mod Constructs
+pub mod Heads
 pub mod Sizes
 pub mod Contents
 pub mod Layouts

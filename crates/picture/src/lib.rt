@@ -1,9 +1,12 @@
 // A picture's user data area: foreign units, and at most one caption unit of each kind.
 //
 // Normative references: docs/RULES.md, "Picture area" and "GA94"; document 001, 5.7; document 003, Table 3.
+mod atsc;
 mod places;
 mod reading;
 
+pub use atsc::ga94_read_into;
+pub use atsc::ga94_read_old;
 pub use reading::read;
 pub use reading::read_into;
 pub use reading::read_old;
