@@ -43,7 +43,7 @@ pub record ReadsOld (k : Kind) (s lent : List ℕ) (r : Head k) (spot : Spot) (e
 -- unit what the area has before `start` and from `end` on
 abbrev pub Surrounds : List ℕ → ℕ → ℕ → ℕ → List ℕ → List ℕ → Type 0
 Surrounds s start end len out exit =
-    (body first : List ℕ) → length body ≡ len → out ≡ overAt (start + 4) body first
+    (body first : List ℕ) → length body ≡ len → start + 4 + len ≤ length first → out ≡ overAt (start + 4) body first
     → exit ≡ over (exchanged s start end (layoutUnit body)) first
 
 -- what `exchange` answers and leaves: the new area is judged as a whole

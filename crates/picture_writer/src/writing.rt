@@ -53,8 +53,7 @@ pub fn replace_from(s: &[u8], v: Numbers, records: &[u8; LENT_RECORDS], out: &mu
 {
     let mut kept = [0; LENT_RECORDS];
     let old = picture::read_old(s, &mut kept);
-    let head = old.head;
-    let refusal = head.refusal;
+    let refusal = old.head.refusal;
     if refusal.number != 0 {
         lists::known(records);
         return Written { refusal, len: 0 };
