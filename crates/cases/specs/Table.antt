@@ -7,9 +7,15 @@ use mathlib.Core.List.{List, [], _∷_, _++_}
 use lib.ListN.{take, replicate}
 use Rattle.refusal.specs.declared.Refusal.{Refusal}
 use Rattle.refusal.specs.Answers.{accepted, refused}
+use Rattle.kind.specs.declared.Kind.{Kind}
+use Rattle.kind.specs.declared.Kind.the-variants.{Scte20, Ga94}
 use Rattle.units.specs.Layout.{layoutUnit}
 use Rattle.scte20.specs.declared.Record.{Record}
 use Rattle.scte20.specs.Value as scte20
+use Rattle.ga94.specs.declared.Record as ga94-record
+use Rattle.ga94.specs.Value as ga94
+use Rattle.picture.specs.declared.Answer as picture
+use Rattle.picture.specs.Kinds as kinds
 use Rattle.picture.specs.Reading as areas
 use Rattle.listing.specs.Texts as listing
 use Rattle.line21.specs.declared.AccessUnit.{AccessUnit}
@@ -18,29 +24,37 @@ use Rattle.line21.specs.Reading as payloads
 use Rattle.sdp.specs.Value as sdp
 use Rattle.subtitling.specs.Reading as packets
 
--- an input, and the answer to it: the refusal, of number 0 where the input is accepted, and the value. An area has at
--- most one caption unit's value. What `cclist` prints for an area is a case too
+-- an input, and the answer to it: the refusal, of number 0 where the input is accepted, and the value. An area is read
+-- for one kind of caption unit, and has at most one value of it. What `cclist` prints for an area is a case too
 pub data Case : Type 0 where
-  area : List ℕ → Refusal → List scte20.Content → Case
+  area : (kind : Kind) → List ℕ → Refusal → List (kinds.Content kind) → Case
   prints : List ℕ → List ℕ → Case
   payload : List ℕ → Refusal → line21.Line21 → Case
   packet : List ℕ → Refusal → sdp.Sdp → Case
 
 -- the answer with a caption unit's value, or with none
-abbrev hasCaption : List scte20.Content → Bool
+abbrev hasCaption : {A : Type 0} → List A → Bool
 hasCaption [] = false
 hasCaption (c ∷ cs) = true
 
-abbrev captionValue : List scte20.Content → scte20.Content
-captionValue [] = scte20.none
-captionValue (c ∷ cs) = c
+abbrev captionValue : {A : Type 0} → A → List A → A
+captionValue none [] = none
+captionValue none (c ∷ cs) = c
+
+-- the struct that `cclist` prints
+abbrev answered : areas.Answer Scte20 → picture.Answer
+answered a = record { refusal = a .refusal; present = a .present; unit = a .unit }
 
 -- the definitions give that answer
 abbrev pub Comes : Case → Type 0
-Comes (area input refusal found) =
-    areas.readOf input
-    ≡ record { refusal = refusal; present = hasCaption found; unit = scte20.stored (captionValue found) }
-Comes (prints input text) = listing.textOf (areas.readOf input) ≡ text
+Comes (area kind input refusal found) =
+    areas.readOf kind input
+    ≡ record {
+      refusal = refusal;
+      present = hasCaption found;
+      unit = kinds.stored kind (captionValue (kinds.none kind) found);
+    }
+Comes (prints input text) = listing.textOf (answered (areas.readOf Scte20 input)) ≡ text
 Comes (payload input refusal value) =
     payloads.readOf input ≡ record { refusal = refusal; payload = line21.stored value }
 Comes (packet input refusal value) =
@@ -57,6 +71,28 @@ withRecord z = record { reserved = 64; flag = 1; records = r ∷ []; z = z }
   where
     r : Record
     r = record { «cc_priority» = 0; «field_number» = record { 0 = 1 }; «line_offset» = 11; «cc_data_1» = 0x94; «cc_data_2» = 0x2C }
+
+-- Q's bytes, with the byte of the flags and cc_count
+abbrev pub flagged : ℕ → List ℕ
+flagged b = layoutUnit (0x47 ∷ 0x41 ∷ 0x39 ∷ 0x34 ∷ 0x03 ∷ b ∷ 0xFF ∷ 0xFC ∷ 0x94 ∷ 0x2C ∷ 0xFF ∷ [])
+
+abbrev pub q : List ℕ
+q = flagged 0xC1
+
+-- flags 1, 1, 0, em_data 255, Q's record: cc_valid 1, cc_type 0, bytes 94 2C
+abbrev withPair : ga94.Content
+withPair =
+    record {
+      «process_em_data_flag» = 1;
+      «process_cc_data_flag» = 1;
+      «additional_data_flag» = 0;
+      «em_data» = 255;
+      records = r ∷ [];
+      z = 0;
+    }
+  where
+    r : ga94-record.Record
+    r = record { «cc_valid» = 1; «cc_type» = 0; «cc_data_1» = 0x94; «cc_data_2» = 0x2C }
 
 -- reserved 64, a flag, no records
 abbrev withoutRecords : ℕ → scte20.Content
@@ -92,25 +128,35 @@ headLine =
 abbrev pub table : List Case
 table =
     -- case A: 00 00 01 B2 03 81 08 AC A4 D2 00: reserved 64, flag 1, one record, z = 0
-    area (marked 0xD2) accepted (withRecord 0 ∷ [])
+    area Scte20 (marked 0xD2) accepted (withRecord 0 ∷ [])
     -- case B: A with a further 00: the same, z = 1
-    ∷ area (marked 0xD2 ++ (0x00 ∷ [])) accepted (withRecord 1 ∷ [])
+    ∷ area Scte20 (marked 0xD2 ++ (0x00 ∷ [])) accepted (withRecord 1 ∷ [])
     -- case C: 00 00 01 B2 03 81 00 00: no records
-    ∷ area (layoutUnit (0x03 ∷ 0x81 ∷ 0x00 ∷ 0x00 ∷ [])) accepted (withoutRecords 1 ∷ [])
+    ∷ area Scte20 (layoutUnit (0x03 ∷ 0x81 ∷ 0x00 ∷ 0x00 ∷ [])) accepted (withoutRecords 1 ∷ [])
     -- case D: 00 00 01 B2 03 80: flag 0
-    ∷ area (layoutUnit (0x03 ∷ 0x80 ∷ [])) accepted (withoutRecords 0 ∷ [])
+    ∷ area Scte20 (layoutUnit (0x03 ∷ 0x80 ∷ [])) accepted (withoutRecords 0 ∷ [])
     -- case E: 00 00 01 B2 03: 5
-    ∷ area (layoutUnit (0x03 ∷ [])) (refused 5 0) []
+    ∷ area Scte20 (layoutUnit (0x03 ∷ [])) (refused 5 0) []
     -- case F: A without its last byte: 5
-    ∷ area (take 10 (marked 0xD2)) (refused 5 0) []
+    ∷ area Scte20 (take 10 (marked 0xD2)) (refused 5 0) []
     -- case G: empty area: none
-    ∷ area [] accepted []
+    ∷ area Scte20 [] accepted []
     -- case H: 00 00 01 B3: 2
-    ∷ area (0x00 ∷ 0x00 ∷ 0x01 ∷ 0xB3 ∷ []) (refused 2 0) []
+    ∷ area Scte20 (0x00 ∷ 0x00 ∷ 0x01 ∷ 0xB3 ∷ []) (refused 2 0) []
     -- case I: A twice: 4
-    ∷ area (marked 0xD2 ++ marked 0xD2) (refused 4 0) []
+    ∷ area Scte20 (marked 0xD2 ++ marked 0xD2) (refused 4 0) []
     -- case J: A with D2 made D0 (marker): 6
-    ∷ area (marked 0xD0) (refused 6 0) []
+    ∷ area Scte20 (marked 0xD0) (refused 6 0) []
+    -- case Q: 00 00 01 B2 47 41 39 34 03 C1 FF FC 94 2C FF: flags 1, 1, 0, em_data 255, one record, z = 0
+    ∷ area Ga94 q accepted (withPair ∷ [])
+    -- case R: 00 00 01 B2 47 41 39 34: 5
+    ∷ area Ga94 (take 8 q) (refused 5 0) []
+    -- case S: Q with C1 made E1 (third flag): 16
+    ∷ area Ga94 (flagged 0xE1) (refused 16 0) []
+    -- case T: A, then Q, for SCTE 20: as A
+    ∷ area Scte20 (marked 0xD2 ++ q) accepted (withRecord 0 ∷ [])
+    -- case U: A, then Q, for GA94: as Q
+    ∷ area Ga94 (marked 0xD2 ++ q) accepted (withPair ∷ [])
     -- cclist A: the first line, then 0 1 11 94 2C
     ∷ prints (marked 0xD2)
     (headLine ++ (0x30 ∷ 0x20 ∷ 0x31 ∷ 0x20 ∷ 0x31 ∷ 0x31 ∷ 0x20 ∷ 0x39 ∷ 0x34 ∷ 0x20 ∷ 0x32 ∷ 0x43 ∷ 0x0A ∷ []))

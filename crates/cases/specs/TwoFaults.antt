@@ -6,7 +6,7 @@ use mathlib.Core.Path.{_≡_}
 use mathlib.Core.List.{List, [], _∷_, _++_}
 use lib.ListN.{length, replicate, take}
 use Rattle.refusal.specs.declared.Reason.{Reason}
-use Rattle.refusal.specs.declared.Reason.the-variants.{TooLong, NoStart, StartCode, SecondUnit, Ends, Unfixed, FieldNumberZero, DescriptorLine, FieldFalls, LineDoesNotRise, FifthPriority, SampledVideo, WordRange, WordParity, SdpChecksum, Unfit, Unholdable}
+use Rattle.refusal.specs.declared.Reason.the-variants.{TooLong, NoStart, StartCode, SecondUnit, Ends, Unfixed, FieldNumberZero, DescriptorLine, FieldFalls, LineDoesNotRise, FifthPriority, SampledVideo, WordRange, WordParity, SdpChecksum, Unfit, Unholdable, AdditionalData}
 use Rattle.refusal.specs.declared.Fixed.the-variants as fixed
 use Rattle.refusal.specs.declared.Misfit.the-variants as misfit
 use Rattle.refusal.specs.declared.Excess.the-variants as excess
@@ -14,11 +14,15 @@ use Rattle.refusal.specs.declared.Verdict.{Verdict}
 use Rattle.refusal.specs.declared.Verdict.the-variants.{Accepted, Refused}
 use Rattle.refusal.specs.Numbers.{refusalOf}
 use Rattle.refusal.specs.Answers.{refused}
+use Rattle.kind.specs.declared.Kind.{Kind}
+use Rattle.kind.specs.declared.Kind.the-variants.{Scte20, Ga94}
 use Rattle.units.specs.Layout.{layoutUnit}
 use Rattle.scte20.specs.declared.Record.{Record}
 use Rattle.scte20.specs.declared.CaptionUnit.{CaptionUnit}
 use Rattle.scte20.specs.Value as scte20
-use Rattle.scte20.specs.Writing.{writeVerdict}
+use Rattle.ga94.specs.declared.Record as ga94-record
+use Rattle.ga94.specs.Value as atsc
+use Rattle.picture.specs.Kinds as kinds
 use Rattle.picture.specs.Reading.{areaVerdict}
 use Rattle.picture.specs.Writing.{unitBytes, replaceVerdict}
 use Rattle.line21.specs.declared.AccessUnit.{AccessUnit}
@@ -28,18 +32,18 @@ use Rattle.line21.specs.Writing as payloads
 use Rattle.sdp.specs.Value as sdp
 use Rattle.subtitling.specs.Reading.{packetVerdict}
 use Rattle.subtitling.specs.Writing as packets
-use Rattle.cases.specs.Table.{marked, unit}
+use Rattle.cases.specs.Table.{marked, q, unit}
 
 -- a call with its input, which for writing and replacing has the room of the output last; the reason; the number; the
 -- place
 pub data FaultCase : Type 0 where
-  area : List ℕ → Reason → ℕ → ℕ → FaultCase
+  area : Kind → List ℕ → Reason → ℕ → ℕ → FaultCase
   packet : List ℕ → Reason → ℕ → FaultCase
   payload : List ℕ → Reason → ℕ → FaultCase
-  writeUnit : CaptionUnit → ℕ → Reason → ℕ → FaultCase
+  writeUnit : (kind : Kind) → kinds.CaptionUnit kind → ℕ → Reason → ℕ → FaultCase
   writePacket : sdp.Sdp → ℕ → Reason → ℕ → FaultCase
   writePayload : Payload → ℕ → Reason → ℕ → FaultCase
-  replace : List ℕ → CaptionUnit → ℕ → Reason → ℕ → ℕ → FaultCase
+  replace : (kind : Kind) → List ℕ → kinds.CaptionUnit kind → ℕ → Reason → ℕ → ℕ → FaultCase
 
 abbrev why : Verdict → List Reason
 why Accepted = []
@@ -50,14 +54,14 @@ abbrev pub Decides : Verdict → Reason → ℕ → ℕ → Type 0
 Decides verdict reason number place = (why verdict ≡ reason ∷ []) × (refusalOf verdict ≡ refused number place)
 
 abbrev pub Decided : FaultCase → Type 0
-Decided (area s reason number place) = Decides (areaVerdict s) reason number place
+Decided (area kind s reason number place) = Decides (areaVerdict kind s) reason number place
 Decided (packet s reason number) = Decides (packetVerdict s) reason number 0
 Decided (payload s reason number) = Decides (lengthVerdict (length s)) reason number 0
-Decided (writeUnit u room reason number) =
-    Decides (writeVerdict u (length (unitBytes (scte20.held u))) room) reason number 0
+Decided (writeUnit kind u room reason number) =
+    Decides (kinds.writeVerdict kind u (length (unitBytes kind (kinds.held kind u))) room) reason number 0
 Decided (writePacket v room reason number) = Decides (packets.valueVerdict v room) reason number 0
 Decided (writePayload p room reason number) = Decides (payloads.valueVerdict p room) reason number 0
-Decided (replace s u room reason number place) = Decides (replaceVerdict s u room) reason number place
+Decided (replace kind s u room reason number place) = Decides (replaceVerdict kind s u room) reason number place
 
 -- A: one legal record
 abbrev a : List ℕ
@@ -77,6 +81,27 @@ abbrev fifth : List ℕ → List ℕ
 fifth last =
     layoutUnit
     (0x03 ∷ 0x81 ∷ 0x28 ∷ 0xA8 ∷ 0xA4 ∷ 0xD2 ∷ 0x2B ∷ 0x29 ∷ 0x34 ∷ 0x8B ∷ 0x0A ∷ 0x4D ∷ 0x22 ∷ 0xD2 ∷ 0x93 ∷ 0x48 ∷ last)
+
+-- a GA94 body: ATSC_identifier, and what follows it
+abbrev ga94 : List ℕ → List ℕ
+ga94 rest = 0x47 ∷ 0x41 ∷ 0x39 ∷ 0x34 ∷ rest
+
+-- a GA94 value as it is told: the third flag, em_data, records, z; the other flags 1
+abbrev ga94Value : ℕ → ℕ → List ga94-record.Record → ℕ → atsc.CaptionUnit
+ga94Value additional em rs z =
+    atsc.stored
+    (record {
+      «process_em_data_flag» = 1;
+      «process_cc_data_flag» = 1;
+      «additional_data_flag» = additional;
+      «em_data» = em;
+      records = rs;
+      z = z;
+    })
+
+-- a GA94 record: cc_valid, cc_type
+abbrev pair : ℕ → ℕ → ga94-record.Record
+pair v t = record { «cc_valid» = v; «cc_type» = t; «cc_data_1» = 0x94; «cc_data_2» = 0x2C }
 
 -- K with some of its words changed: DID, 51, LENGTH, format, the first descriptor, the footer, the SDP checksum, CS
 abbrev k : ℕ → ℕ → ℕ → ℕ → ℕ → ℕ → ℕ → ℕ → List ℕ
@@ -120,31 +145,49 @@ abbrev pub two-faults : List FaultCase
 two-faults =
     -- READING AN AREA
     -- 1 and 2: too long, and no start code
-    area (replicate 16385 1) TooLong 1 0
+    area Scte20 (replicate 16385 1) TooLong 1 0
     -- 2 and 3: begins 00 00 01 B3
-    ∷ area (0x00 ∷ 0x00 ∷ 0x01 ∷ 0xB3 ∷ []) NoStart 2 0
+    ∷ area Scte20 (0x00 ∷ 0x00 ∷ 0x01 ∷ 0xB3 ∷ []) NoStart 2 0
     -- 3 and 4: a second caption unit before a bad start code
-    ∷ area (a ++ (a ++ (0x00 ∷ 0x00 ∷ 0x01 ∷ 0xB3 ∷ []))) StartCode 3 0
+    ∷ area Scte20 (a ++ (a ++ (0x00 ∷ 0x00 ∷ 0x01 ∷ 0xB3 ∷ []))) StartCode 3 0
     -- 4 and content: two caption units, each with its marker 0
-    ∷ area (j ++ j) SecondUnit 4 0
+    ∷ area Scte20 (j ++ j) SecondUnit 4 0
     -- 6 and 5: cc_count 31, and one construct there, its marker 0
-    ∷ area (layoutUnit (0x03 ∷ 0x81 ∷ 0xF8 ∷ 0xAC ∷ 0xA4 ∷ 0xD0 ∷ 0x00 ∷ [])) (Unfixed fixed.Marker) 6 0
+    ∷ area Scte20 (layoutUnit (0x03 ∷ 0x81 ∷ 0xF8 ∷ 0xAC ∷ 0xA4 ∷ 0xD0 ∷ 0x00 ∷ [])) (Unfixed fixed.Marker) 6 0
     -- 5 and 7: a second construct of field 0, with only 25 bits left; the unit behind a foreign one
-    ∷ area (foreign ++ layoutUnit (0x03 ∷ 0x81 ∷ 0x10 ∷ 0xAC ∷ 0xA4 ∷ 0xD2 ∷ 0x0B ∷ 0x29 ∷ 0x34 ∷ [])) Ends 5 5
+    ∷ area Scte20 (foreign ++ layoutUnit (0x03 ∷ 0x81 ∷ 0x10 ∷ 0xAC ∷ 0xA4 ∷ 0xD2 ∷ 0x0B ∷ 0x29 ∷ 0x34 ∷ [])) Ends 5 5
     -- 7 and 8, and what would be a fifth priority 0: field 0 behind four of field 1
-    ∷ area (fifth (0x38 ∷ 0xA4 ∷ 0xD2 ∷ 0x00 ∷ [])) FieldNumberZero 7 0
+    ∷ area Scte20 (fifth (0x38 ∷ 0xA4 ∷ 0xD2 ∷ 0x00 ∷ [])) FieldNumberZero 7 0
     -- 7 and 6: field 0, and the marker 0
-    ∷ area (layoutUnit (0x03 ∷ 0x81 ∷ 0x08 ∷ 0x2C ∷ 0xA4 ∷ 0xD0 ∷ 0x00 ∷ [])) FieldNumberZero 7 0
+    ∷ area Scte20 (layoutUnit (0x03 ∷ 0x81 ∷ 0x08 ∷ 0x2C ∷ 0xA4 ∷ 0xD0 ∷ 0x00 ∷ [])) FieldNumberZero 7 0
     -- 8 and 9: a fifth priority 0, whose line does not rise
-    ∷ area (fifth (0xB4 ∷ 0xA4 ∷ 0xD2 ∷ 0x00 ∷ [])) LineDoesNotRise 8 0
+    ∷ area Scte20 (fifth (0xB4 ∷ 0xA4 ∷ 0xD2 ∷ 0x00 ∷ [])) LineDoesNotRise 8 0
     -- 9 and 6: a fifth priority 0, its marker 0
-    ∷ area (fifth (0xB8 ∷ 0xA4 ∷ 0xD0 ∷ 0x00 ∷ [])) FifthPriority 9 0
+    ∷ area Scte20 (fifth (0xB8 ∷ 0xA4 ∷ 0xD0 ∷ 0x00 ∷ [])) FifthPriority 9 0
     -- 6 and 10: a marker 0, and a sampled video count of 1
-    ∷ area (layoutUnit (0x03 ∷ 0x81 ∷ 0x08 ∷ 0xAC ∷ 0xA4 ∷ 0xD0 ∷ 0x20 ∷ [])) (Unfixed fixed.Marker) 6 0
+    ∷ area Scte20 (layoutUnit (0x03 ∷ 0x81 ∷ 0x08 ∷ 0xAC ∷ 0xA4 ∷ 0xD0 ∷ 0x20 ∷ [])) (Unfixed fixed.Marker) 6 0
     -- 10 and 6: a sampled video count of 1, and an alignment bit 1
-    ∷ area (layoutUnit (0x03 ∷ 0x81 ∷ 0x08 ∷ 0xAC ∷ 0xA4 ∷ 0xD2 ∷ 0x21 ∷ [])) SampledVideo 10 0
+    ∷ area Scte20 (layoutUnit (0x03 ∷ 0x81 ∷ 0x08 ∷ 0xAC ∷ 0xA4 ∷ 0xD2 ∷ 0x21 ∷ [])) SampledVideo 10 0
     -- 6 and 6: an alignment bit 1, and a stuffing byte 01
-    ∷ area (layoutUnit (0x03 ∷ 0x81 ∷ 0x08 ∷ 0xAC ∷ 0xA4 ∷ 0xD2 ∷ 0x01 ∷ 0x01 ∷ [])) (Unfixed fixed.Alignment) 6 0
+    ∷ area Scte20 (layoutUnit (0x03 ∷ 0x81 ∷ 0x08 ∷ 0xAC ∷ 0xA4 ∷ 0xD2 ∷ 0x01 ∷ 0x01 ∷ [])) (Unfixed fixed.Alignment) 6 0
+    -- READING AN AREA FOR GA94
+    -- 3 and 4: a second GA94 unit before a bad start code
+    ∷ area Ga94 (q ++ (q ++ (0x00 ∷ 0x00 ∷ 0x01 ∷ 0xB3 ∷ []))) StartCode 3 0
+    -- 4 and content: two GA94 units, each without its type
+    ∷ area Ga94 (layoutUnit (ga94 []) ++ layoutUnit (ga94 [])) SecondUnit 4 0
+    -- 16 and 5: the third flag, and no em_data; the unit behind a foreign one
+    ∷ area Ga94 (foreign ++ layoutUnit (ga94 (0x03 ∷ 0xE1 ∷ []))) AdditionalData 16 5
+    -- 16 and 6: the third flag, and a marker bit 0
+    ∷ area Ga94 (layoutUnit (ga94 (0x03 ∷ 0xE1 ∷ 0xFF ∷ 0xF4 ∷ 0x94 ∷ 0x2C ∷ 0xFF ∷ []))) AdditionalData 16 0
+    -- 5 and 6: a construct of which two bytes are there, with a marker bit 0
+    ∷ area Ga94 (layoutUnit (ga94 (0x03 ∷ 0xC1 ∷ 0xFF ∷ 0xF4 ∷ 0x94 ∷ []))) Ends 5 0
+    -- 6 and 5: cc_count 31, and one construct there, with a marker bit 0
+    ∷ area Ga94 (layoutUnit (ga94 (0x03 ∷ 0xDF ∷ 0xFF ∷ 0xF4 ∷ 0x94 ∷ 0x2C ∷ []))) (Unfixed fixed.Marker) 6 0
+    -- 6 and 6: marker_bits FE in the place of FF, and a stuffing byte 02
+    ∷ area Ga94 (layoutUnit (ga94 (0x03 ∷ 0xC0 ∷ 0xFF ∷ 0xFE ∷ 0x02 ∷ []))) (Unfixed fixed.Marker) 6 0
+    -- a fault of SCTE 20 and one of GA94: each is the fault of its own reading
+    ∷ area Ga94 (j ++ layoutUnit (ga94 (0x03 ∷ 0xE0 ∷ []))) AdditionalData 16 11
+    ∷ area Scte20 (layoutUnit (ga94 (0x03 ∷ 0xE0 ∷ [])) ++ j) (Unfixed fixed.Marker) 6 10
     -- READING A PACKET
     -- 1 and 2: 246 words, and no flag
     ∷ packet (replicate 246 1) TooLong 1
@@ -180,19 +223,32 @@ two-faults =
     ∷ payload (replicate 1458 0) TooLong 1
     -- WRITING A UNIT
     -- 15 and 15: z 16,385, and a record of priority 4
-    ∷ writeUnit (value (caption 4 1 10 ∷ []) 16385) 0 (Unholdable excess.Stuffing) 15
+    ∷ writeUnit Scte20 (value (caption 4 1 10 ∷ []) 16385) 0 (Unholdable excess.Stuffing) 15
     -- 15 and 7: line 32, and field 0
-    ∷ writeUnit (value (caption 0 0 32 ∷ []) 0) 0 (Unholdable excess.LineOffset) 15
+    ∷ writeUnit Scte20 (value (caption 0 0 32 ∷ []) 0) 0 (Unholdable excess.LineOffset) 15
     -- 7 and 15: field 0 in one record, and priority 4 in the next
-    ∷ writeUnit (value (caption 0 0 10 ∷ caption 4 1 10 ∷ []) 0) 0 FieldNumberZero 7
+    ∷ writeUnit Scte20 (value (caption 0 0 10 ∷ caption 4 1 10 ∷ []) 0) 0 FieldNumberZero 7
     -- 8 and 8: a field that falls, and in the next record a line that does not rise
-    ∷ writeUnit (value (caption 0 2 10 ∷ caption 0 1 10 ∷ caption 0 1 10 ∷ []) 0) 0 FieldFalls 8
+    ∷ writeUnit Scte20 (value (caption 0 2 10 ∷ caption 0 1 10 ∷ caption 0 1 10 ∷ []) 0) 0 FieldFalls 8
     -- 9 and 15: a fifth priority 0, and in the next record priority 4
-    ∷ writeUnit (value (five (caption 4 1 15 ∷ [])) 0) 0 FifthPriority 9
+    ∷ writeUnit Scte20 (value (five (caption 4 1 15 ∷ [])) 0) 0 FifthPriority 9
     -- 9 and 1: a fifth priority 0, and a result of more than 16,384 bytes
-    ∷ writeUnit (value (five []) 16384) 0 FifthPriority 9
+    ∷ writeUnit Scte20 (value (five []) 16384) 0 FifthPriority 9
     -- 1 and 14: a result of more than 16,384 bytes, and no room
-    ∷ writeUnit (value [] 16384) 0 TooLong 1
+    ∷ writeUnit Scte20 (value [] 16384) 0 TooLong 1
+    -- WRITING A GA94 UNIT
+    -- 15 and 16: em_data 256, and the third flag
+    ∷ writeUnit Ga94 (ga94Value 1 256 [] 0) 0 (Unholdable excess.EmData) 15
+    -- 15 and 16: z 16,385, and the third flag
+    ∷ writeUnit Ga94 (ga94Value 1 255 [] 16385) 0 (Unholdable excess.Stuffing) 15
+    -- 16 and 15: the third flag, and a record of cc_type 4
+    ∷ writeUnit Ga94 (ga94Value 1 255 (pair 1 4 ∷ []) 0) 0 AdditionalData 16
+    -- 15 and 15: cc_valid 2, and cc_type 4
+    ∷ writeUnit Ga94 (ga94Value 0 255 (pair 2 4 ∷ []) 0) 0 (Unholdable excess.CcValid) 15
+    -- 15 and 1: cc_type 4 in the second record, and a result of more than 16,384 bytes
+    ∷ writeUnit Ga94 (ga94Value 0 255 (pair 1 0 ∷ pair 1 4 ∷ []) 16384) 0 (Unholdable excess.CcType) 15
+    -- 1 and 14: a result of more than 16,384 bytes, and no room
+    ∷ writeUnit Ga94 (ga94Value 0 255 [] 16384) 0 TooLong 1
     -- WRITING A PACKET
     -- 15 and 15: counter 65,536, and a slot of reserved 4
     ∷ writePacket (two 65536 (slot 1 6 4 sdp.zeroRow) sdp.emptyRow) 0 (Unholdable excess.Counter) 15
@@ -209,11 +265,17 @@ two-faults =
     ∷ writePayload (payloadOf 1 (unit 0 0 64 0 0 0 0 ∷ [])) 0 (Unholdable excess.Padding) 15
     -- REPLACING
     -- 6 and 15: an area whose caption unit, behind a foreign one, has its marker 0, and a value of z 16,385
-    ∷ replace (foreign ++ j) (value [] 16385) 0 (Unfixed fixed.Marker) 6 5
+    ∷ replace Scte20 (foreign ++ j) (value [] 16385) 0 (Unfixed fixed.Marker) 6 5
     -- 4 and 7: two caption units, and a value of field 0
-    ∷ replace (a ++ a) (value (caption 0 0 10 ∷ []) 0) 0 SecondUnit 4 0
+    ∷ replace Scte20 (a ++ a) (value (caption 0 0 10 ∷ []) 0) 0 SecondUnit 4 0
     -- 15 and 14: a value of priority 4, and no room
-    ∷ replace a (value (caption 4 1 10 ∷ []) 0) 0 (Unholdable excess.Priority) 15 0
+    ∷ replace Scte20 a (value (caption 4 1 10 ∷ []) 0) 0 (Unholdable excess.Priority) 15 0
     -- 1 and 14: a new area of 16,389 bytes, of which the new unit has 16,384, and no room
-    ∷ replace (foreign ++ a) (value [] 16376) 0 TooLong 1 0
+    ∷ replace Scte20 (foreign ++ a) (value [] 16376) 0 TooLong 1 0
+    -- 16 and 15: a GA94 unit with the third flag, behind a foreign one, and a value of em_data 256
+    ∷ replace Ga94 (foreign ++ layoutUnit (ga94 (0x03 ∷ 0xE0 ∷ 0xFF ∷ 0xFF ∷ []))) (ga94Value 0 256 [] 0) 0 AdditionalData 16 5
+    -- 4 and 16: two GA94 units, and a value with the third flag
+    ∷ replace Ga94 (q ++ q) (ga94Value 1 255 [] 0) 0 SecondUnit 4 0
+    -- 1 and 14: a new area of 16,389 bytes, of which the new unit has 16,384, and no room
+    ∷ replace Ga94 (foreign ++ q) (ga94Value 0 255 [] 16372) 0 TooLong 1 0
     ∷ []
