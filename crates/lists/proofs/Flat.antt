@@ -86,17 +86,22 @@ module _ {A : Type 0} (bytes : A → List ℕ) (width : ℕ) (wide : (x : A) →
       let product : width * n ≡ width * length xs + width * rest = ap (λ (k : ℕ). width * k) (sym all) ∙ mul-add width (length xs) rest in
       omega (arith, product, length-flat xs)
 
-  -- records laid one behind the other over an array: the next one, where it comes,
-  pub flat-next : (d : A) (xs : List A) (s : List ℕ) (i : ℕ) → i < length xs
-      → overAt (width * i) (bytes (getD xs i d)) (over (flat bytes (take i xs)) s) ≡ over (flat bytes (take (i + 1) xs)) s
-  flat-next d xs s i h =
+  -- records laid one behind the other, from index `at` on: the next one, where it comes,
+  pub flat-next-at : (d : A) (xs : List A) (s : List ℕ) (i at next : ℕ) → i < length xs → at ≤ length s → at + width * i ≡ next
+      → overAt next (bytes (getD xs i d)) (overAt at (flat bytes (take i xs)) s) ≡ overAt at (flat bytes (take (i + 1) xs)) s
+  flat-next-at d xs s i at next h inside e =
       let front = take i xs in
       let x = getD xs i d in
       let count : length front ≡ i = length-take-le i xs (omega arith) in
-      let far : 0 + length (flat bytes front) ≡ width * i = omega (arith, length-flat front, ap (λ (k : ℕ). width * k) count) in
+      let far : at + length (flat bytes front) ≡ next = omega (arith, length-flat front, ap (λ (k : ℕ). width * k) count) in
       let more : take (i + 1) xs ≡ front ++ (x ∷ []) = ap (λ (k : ℕ). take k xs) (add-one i) ∙ take-suc xs i d h in
-      overAt-overAt 0 (flat bytes front) (bytes x) s (width * i) (omega arith) far
-      ∙ ap (λ (laid : List ℕ). over laid s) (sym (flat-more bytes front x) ∙ ap (flat bytes) (sym more))
+      overAt-overAt at (flat bytes front) (bytes x) s next inside far
+      ∙ ap (λ (laid : List ℕ). overAt at laid s) (sym (flat-more bytes front x) ∙ ap (flat bytes) (sym more))
+
+  -- and from the front on;
+  pub flat-next : (d : A) (xs : List A) (s : List ℕ) (i : ℕ) → i < length xs
+      → overAt (width * i) (bytes (getD xs i d)) (over (flat bytes (take i xs)) s) ≡ over (flat bytes (take (i + 1) xs)) s
+  flat-next d xs s i h = flat-next-at d xs s i 0 (width * i) h (omega arith) (omega arith)
 
   -- it keeps its length,
   pub flat-room : (xs : List A) (n : ℕ) (s : List ℕ) → length xs ≤ n → length s ≡ width * n → length (over (flat bytes xs) s) ≡ width * n

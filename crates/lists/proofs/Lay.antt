@@ -91,6 +91,19 @@ laid-more front piece out xs part a e long laid =
 pub length-rest : {A : Type 0} (xs : List A) (a : ℕ) → length (take (length xs - a) (drop a xs)) ≡ length xs - a
 length-rest xs a = ap length (rest-whole xs a) ∙ length-drop a xs
 
+-- the part from a on comes back as zeros
+pub cleared : (xs part : List ℕ) (a : ℕ) → part ≡ replicate (length (take (length xs - a) (drop a xs))) 0
+    → putMid a (length xs - a) xs part ≡ take a xs ++ replicate (length xs - a) 0
+cleared xs part a e =
+    let zeros : part ≡ replicate (length xs - a) 0 = e ∙ ap (λ (n : ℕ). replicate n 0) (length-rest xs a) in
+    ap₂ (λ (p r : List ℕ). take a xs ++ (p ++ r)) zeros (rest-none xs a) ∙ ap (λ (r : List ℕ). take a xs ++ r) (append-nil (replicate (length xs - a) 0))
+
+-- a part of n comes back with something of its length in it
+pub laid-part : {A : Type 0} (a n : ℕ) (out part piece : List A) → n ≡ length piece → part ≡ piece → putMid a (a + n - a) out part ≡ overAt a piece out
+laid-part a n out part piece long e =
+    let same : a + n - a ≡ length piece = omega arith in
+    ap₂ (λ (p : List _) (k : ℕ). take a out ++ (p ++ drop k (drop a out))) e same
+
 -- a piece laid from index `at` on
 module _ {A : Type 0} (at : ℕ) (piece out : List A) (fits : at + length piece ≤ length out) where
   length-before : length (take at out) ≡ at

@@ -2,8 +2,11 @@
 //
 // Normative references: docs/RULES.md, "Picture area", "GA94" and "Order of checks"; document 001, 5.7; document 003, Table 3.
 mod around;
+mod atsc;
 mod writing;
 
+pub use atsc::ga94_replace_from;
+pub use atsc::ga94_write_from;
 pub use writing::replace;
 pub use writing::replace_from;
 pub use writing::write;

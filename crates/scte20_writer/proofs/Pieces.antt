@@ -3,13 +3,13 @@
 use Prim.Native.Nat.{ℕ, zero, suc, _+_, _-_, _*_, _/_, _%_, _≤_, _<_}
 use native.Mathlib.Omega.{arith}
 use mathlib.Core.Path.{_≡_, _∙_, ap, ap₂, sym, subst}
-use mathlib.Core.List.{List, [], _∷_, _++_, append-assoc, append-nil}
+use mathlib.Core.List.{List, [], _∷_, _++_, append-assoc}
 use borrow.Rule.Slice.PartMut.{putMid}
-use lib.ListN.{length, take, drop, set, replicate, length-append, length-replicate, length-drop, length-set, replicate-append-replicate, drop-of-length-le}
+use lib.ListN.{length, take, drop, set, replicate, length-append, length-replicate, length-set, replicate-append-replicate}
 use lib.Seq.{drop-drop, sets-eq}
 use Rattle.lists.specs.Bytes.{Bytes}
 use Rattle.lists.specs.Room.{over, overAt}
-use Rattle.lists.proofs.Lay.{length-over, take-over, length-rest}
+use Rattle.lists.proofs.Lay.{length-over, take-over, cleared}
 use Rattle.lists.proofs.Each.{each-append, each-replicate}
 use Rattle.bits.specs.Bits.{bits, num, bitsOf, bytesOf}
 use Rattle.bits.proofs.Numbers.{AreBits, num-append, num-bits-small, bits-add, are-append, are-zeros, bits-are}
@@ -153,13 +153,6 @@ flagged-long c e =
     (full-long (c .reserved) (c .records) (c .z))
 
 -- ---- the output as it is stored
-
--- the part from a on comes back as zeros
-cleared : (xs part : List ℕ) (a : ℕ) → part ≡ replicate (length (take (length xs - a) (drop a xs))) 0 → putMid a (length xs - a) xs part ≡ take a xs ++ replicate (length xs - a) 0
-cleared xs part a e =
-    let zeros : part ≡ replicate (length xs - a) 0 = e ∙ ap (λ (n : ℕ). replicate n 0) (length-rest xs a) in
-    let none : drop (length xs - a) (drop a xs) ≡ [] = drop-of-length-le (drop a xs) {i = length xs - a} (omega (arith, length-drop a xs)) in
-    ap₂ (λ (p r : List ℕ). take a xs ++ (p ++ r)) zeros none ∙ ap (λ (r : List ℕ). take a xs ++ r) (append-nil (replicate (length xs - a) 0))
 
 module _ (c : Content) (h : c .reserved < 128) (out : List ℕ) (fills : length out ≡ length (layout c)) where
   abbrev second : ℕ

@@ -10,7 +10,7 @@ use denote.Ref.{now}
 use lib.ListN.{length, take, drop, length-drop}
 use lib.Seq.{length-take-le}
 use Rattle.lists.specs.Room.{overAt}
-use Rattle.lists.proofs.Lay.{length-overAt}
+use Rattle.lists.proofs.Lay.{length-overAt, laid-part}
 use Rattle.refusal.specs.declared.Reason.{Reason}
 use Rattle.refusal.specs.declared.Item.{Item}
 use Rattle.refusal.specs.declared.Verdict.{Verdict}
@@ -54,12 +54,6 @@ module _ (u : CaptionUnit) (before after : ℕ) (out : List ℕ) (known : Typed 
         counted = ap₂ (λ (v : Verdict) (k : ℕ). record { verdict = v; len = k }) e long ∙ ap (λ (v : Verdict). laidOf v (layout (held u))) (sym body);
         left = laid ∙ ap (λ (v : Verdict). bodyLeft v before (layout (held u)) out) (sym body);
       }
-
--- a part that comes back with something of its length in it
-laid-part : (before n : ℕ) (out part bytes : List ℕ) → n ≡ length bytes → part ≡ bytes → putMid before (before + n - before) out part ≡ overAt before bytes out
-laid-part before n out part bytes long e =
-    let same : before + n - before ≡ length bytes = omega arith in
-    ap₂ (λ (p : List ℕ) (k : ℕ). take before out ++ (p ++ drop k (drop before out))) e same
 
 -- a lent array holds bytes, so that the value it tells is one of the code's
 module _ (c : tie.After-known) where
