@@ -80,7 +80,7 @@ static void mutate_bytes(dice *d, question *q)
 static void duplicate_unit(dice *d, question *q, const area_map *map)
 {
     static uint8_t copy[INPUT_MAX];
-    size_t unit = chance(d, 60) && map->caption < map->count ? map->caption : below(d, map->count);
+    size_t unit = chance(d, 60) && map->ours < map->count ? map->ours : below(d, map->count);
     size_t len = map->starts[unit + 1] - map->starts[unit];
 
     if (map->starts[unit + 1] > q->len)
@@ -114,21 +114,38 @@ static void break_start(dice *d, question *q, const area_map *map)
         q->bytes[map->starts[below(d, map->count)] + 3] = any_byte(d);
 }
 
-/* ---- Changes inside the caption unit ---- */
+/* ---- Changes inside our unit ---- */
 
-/* The unit laid out again from a value with one number wrong, as far as its bits can hold that number. */
-static void relay_caption(dice *d, question *q, const area_map *map)
+static size_t relay_caption(dice *d, const area_map *map, uint8_t *to)
 {
-    static uint8_t unit[CAPTIONS_AREA_BYTES + 200];
     unit_value value = map->value;
-    size_t start = map->starts[map->caption], len = map->starts[map->caption + 1] - start;
 
     spoil_unit(d, &value);
     value.n %= 32;
     value.z %= 400;
     value.vbi_data_flag = value.n > 0 ? 1 : value.vbi_data_flag & 1;
+    return layout_unit(&value, to);
+}
+
+static size_t relay_ga94(dice *d, const area_map *map, uint8_t *to)
+{
+    ga94_value value = map->ga94;
+
+    spoil_ga94(d, &value);
+    value.n %= 32;
+    value.z %= 400;
+    return layout_ga94(&value, to);
+}
+
+/* The unit laid out again from a value with one number wrong, as far as its bits can hold that number. */
+static void relay_ours(dice *d, question *q, const area_map *map)
+{
+    static uint8_t unit[LAYOUT_UNIT_MAX];
+    size_t start = map->starts[map->ours], len = map->starts[map->ours + 1] - start;
+    size_t relaid = map->kind == GA94_KIND ? relay_ga94(d, map, unit) : relay_caption(d, map, unit);
+
     drop(q, start, len);
-    insert(q, start, unit, layout_unit(&value, unit));
+    insert(q, start, unit, relaid);
 }
 
 /* A bit of the count of sampled video, of the alignment, or of what follows. */
@@ -149,22 +166,51 @@ static void flip_in_construct(dice *d, question *q, const area_map *map, size_t 
         flip_bit(q, 8 * body + LAYOUT_CONSTRUCTS + LAYOUT_CONSTRUCT * below(d, n) + telling[below(d, sizeof telling)]);
 }
 
-static void mutate_caption(dice *d, question *q, const area_map *map)
+/* A bit of what no value holds: a construct's marker bits, or the closing FF and the byte behind it. */
+static void flip_fixed_ga94(dice *d, question *q, const area_map *map, size_t body)
 {
-    size_t start = map->starts[map->caption], end = map->starts[map->caption + 1], body = start + LAYOUT_START;
+    size_t n = map->ga94.n, triple = body + LAYOUT_GA94_FIRST;
+
+    if (n > 0 && chance(d, 60))
+        flip_bit(q, 8 * (triple + LAYOUT_GA94_TRIPLE * below(d, n)) + below(d, 5));
+    else
+        flip_bit(q, 8 * (triple + LAYOUT_GA94_TRIPLE * n) + below(d, 16));
+}
+
+/* A bit in front of the constructs: identifier, type, flags and cc_count, em_data. The third flag is often the one. */
+static void flip_front_ga94(dice *d, question *q, size_t body)
+{
+    flip_bit(q, 8 * body + (chance(d, 50) ? 8 * LAYOUT_GA94_FLAGS + 2 : below(d, 8 * LAYOUT_GA94_FIRST)));
+}
+
+static void flip_ours(dice *d, question *q, const area_map *map, size_t body)
+{
+    bool first = chance(d, 33);
+
+    if (map->kind == GA94_KIND && first)
+        flip_front_ga94(d, q, body);
+    else if (map->kind == GA94_KIND)
+        flip_fixed_ga94(d, q, map, body);
+    else if (first)
+        flip_behind_constructs(d, q, map, body);
+    else
+        flip_in_construct(d, q, map, body);
+}
+
+static void mutate_ours(dice *d, question *q, const area_map *map)
+{
+    size_t start = map->starts[map->ours], end = map->starts[map->ours + 1], body = start + LAYOUT_START;
 
     if (end > q->len)
         return;
     switch (below(d, 7)) {
     case 0:
-        relay_caption(d, q, map);
+        relay_ours(d, q, map);
         break;
     case 1:
-        flip_behind_constructs(d, q, map, body);
-        break;
     case 2:
     case 3:
-        flip_in_construct(d, q, map, body);
+        flip_ours(d, q, map, body);
         break;
     case 4: /* a piece taken out, of what follows too */
         drop(q, body + below(d, end - body), end - body);
@@ -181,13 +227,13 @@ static void mutate_caption(dice *d, question *q, const area_map *map)
 
 void mutate_area(dice *d, question *q, const area_map *map)
 {
-    bool caption = map->caption < map->count;
+    bool ours = map->ours < map->count;
     unsigned sort = (unsigned)below(d, 100);
 
     if (map->count == 0 || sort < 30)
         mutate_bytes(d, q);
-    else if (caption && sort < 80)
-        mutate_caption(d, q, map);
+    else if (ours && sort < 80)
+        mutate_ours(d, q, map);
     else if (sort < 88)
         duplicate_unit(d, q, map);
     else if (sort < 92)

@@ -122,6 +122,56 @@ void spoil_unit(dice *d, unit_value *value)
     }
 }
 
+/* ---- GA94 units ---- */
+
+static void spoil_ga94_record(dice *d, ga94_value *value)
+{
+    captions_ga94_record *record;
+
+    if (value->n == 0 || value->n > CAPTIONS_RECORDS) {
+        value->additional_data_flag = 1;
+        return;
+    }
+    record = &value->records[below(d, value->n)];
+    if (chance(d, 50))
+        record->cc_valid = small_above(d, 1);
+    else
+        record->cc_type = small_above(d, 3);
+}
+
+void spoil_ga94(dice *d, ga94_value *value)
+{
+    uint32_t *const flags[] = {&value->process_em_data_flag, &value->process_cc_data_flag, &value->additional_data_flag};
+    uint32_t *flag = flags[below(d, 3)];
+
+    switch (below(d, 9)) {
+    case 0:
+        *flag = (uint32_t)above(d, *flag, 1, 32);
+        break;
+    case 1:
+        value->em_data = (uint32_t)above(d, value->em_data, 255, 32);
+        break;
+    case 2:
+        value->n = above(d, value->n, CAPTIONS_RECORDS, 64);
+        break;
+    case 3:
+        value->z = above(d, value->z, CAPTIONS_AREA_BYTES, 64);
+        break;
+    case 4: /* a unit of 16,384 bytes, give or take some */
+        if (value->n <= CAPTIONS_RECORDS)
+            value->z = CAPTIONS_AREA_BYTES + 2 - below(d, 5) -
+                       (chance(d, 30) ? 2 : LAYOUT_START + layout_ga94_content_bytes(value));
+        break;
+    case 5:
+    case 6:
+        value->additional_data_flag = 1;
+        break;
+    default:
+        spoil_ga94_record(d, value);
+        break;
+    }
+}
+
 /* ---- Packets ---- */
 
 /* Any number that a uint8_t holds, with those around the limits often. */
