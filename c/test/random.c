@@ -168,8 +168,9 @@ static void print_row(int i)
 /* `whole`: not some cases asked again, but a run in which everything must arise. */
 static bool report(bool whole)
 {
-    static const int order[ROWS] = {AREA_READ,    UNIT_WRITE,            AREA_REPLACE, ROW_REPLACE_AREA, GA94_READ,    GA94_WRITE,
-                                    GA94_REPLACE, ROW_GA94_REPLACE_AREA, PACKET_READ,  PACKET_WRITE,     PAYLOAD_READ, PAYLOAD_WRITE};
+    static const int order[ROWS] = {AREA_READ,    UNIT_WRITE,   AREA_REPLACE,          ROW_REPLACE_AREA, GA94_READ,
+                                    GA94_WRITE,   GA94_REPLACE, ROW_GA94_REPLACE_AREA, PACKET_READ,      PACKET_WRITE,
+                                    PAYLOAD_READ, PAYLOAD_WRITE};
     bool good = true;
 
     printf("%-14s %8s %8s", "random", "cases", "accepted");
