@@ -114,9 +114,12 @@ void legal_ga94(dice *d, ga94_value *to)
     to->n = some_n(d);
     to->z = chance(d, 60) ? 0 : below(d, chance(d, 80) ? 8 : 300);
     for (size_t i = 0; i < to->n; i++) {
-        bool zero = chance(d, 25); /* both data bytes 0 give the longest run of zeros in legal content */
-        to->records[i] = (captions_ga94_record){(uint8_t)below(d, 2), (uint8_t)below(d, 4), zero ? 0 : any_byte(d),
-                                                zero ? 0 : any_byte(d)};
+        captions_ga94_record *record = &to->records[i];
+        bool zero = chance(d, 25); /* all four numbers 0 give the longest run of zeros in legal content */
+        record->cc_valid = zero && chance(d, 50) ? 0 : (uint8_t)below(d, 2);
+        record->cc_type = zero && chance(d, 50) ? 0 : (uint8_t)below(d, 4);
+        record->cc_data_1 = zero ? 0 : any_byte(d);
+        record->cc_data_2 = zero ? 0 : any_byte(d);
     }
 }
 
@@ -134,7 +137,7 @@ unit_kind other_kind(unit_kind kind)
 
 static const uint8_t identifier[] = {0x47, 0x41, 0x39, 0x34, 0x03};
 
-/* A foreign body may hold anything but a start code. It may not begin with 03, or as GA94 does. */
+/* A foreign body may hold anything but a start code. It may not begin as one of our kind: with 03, or as GA94 does. */
 static void make_foreign(unit_kind kind, uint8_t *body, size_t len)
 {
     if (kind == SCTE20_KIND && len > 0 && body[0] == 0x03)
