@@ -157,10 +157,10 @@ static void unit_write_case(dice *d, question *q, bool legal)
 /* z so that the new area has 16,384 bytes, give or take some. */
 static void fit_to_limit(dice *d, question *q, size_t around, bool legal)
 {
-    size_t front = around + front_len(q);
+    size_t front = around + front_len(q), more = legal ? 0 : 1 + below(d, 2);
 
     if (front + 3 < CAPTIONS_AREA_BYTES)
-        *value_z(q) = CAPTIONS_AREA_BYTES - front - below(d, 3) + (legal ? 0 : 1 + below(d, 2));
+        *value_z(q) = CAPTIONS_AREA_BYTES - front - below(d, 3) + more;
 }
 
 static void replace_case(dice *d, question *q, bool legal)

@@ -189,14 +189,17 @@ static size_t legal_of_kind(dice *d, unit_kind kind, area_map *map, uint8_t *to)
 static size_t unit_of_other_kind(dice *d, unit_kind kind, uint8_t *to)
 {
     area_map unused;
-    size_t len = legal_of_kind(d, other_kind(kind), &unused, to);
+    uint8_t *body = to + LAYOUT_START;
+    size_t len = legal_of_kind(d, other_kind(kind), &unused, to) - LAYOUT_START;
 
     if (chance(d, 20))
-        len = LAYOUT_START + 1 + below(d, len - LAYOUT_START);
-    if (chance(d, 20))
-        to[LAYOUT_START + below(d, len - LAYOUT_START)] ^= (uint8_t)(1u << below(d, 8));
-    make_foreign(kind, to + LAYOUT_START, len - LAYOUT_START);
-    return len;
+        len = 1 + below(d, len);
+    if (chance(d, 20)) {
+        size_t bit = below(d, 8 * len);
+        body[bit / 8] ^= (uint8_t)(0x80 >> bit % 8);
+    }
+    make_foreign(kind, body, len);
+    return LAYOUT_START + len;
 }
 
 static size_t foreign_unit(dice *d, unit_kind kind, uint8_t *to)

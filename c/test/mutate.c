@@ -108,10 +108,12 @@ static void break_start(dice *d, question *q, const area_map *map)
 {
     static const uint8_t prefix[] = {0x00, 0x00, 0x01, 0xB3};
 
+    size_t unit = map->starts[below(d, map->count)], front = 1 + below(d, 4);
+
     if (chance(d, 50))
-        insert(q, chance(d, 50) ? q->len : map->starts[below(d, map->count)], prefix, 1 + below(d, 4));
+        insert(q, chance(d, 50) ? q->len : unit, prefix, front);
     else if (map->starts[map->count - 1] + 3 < q->len)
-        q->bytes[map->starts[below(d, map->count)] + 3] = any_byte(d);
+        q->bytes[unit + 3] = any_byte(d);
 }
 
 /* ---- Changes inside our unit ---- */
@@ -160,21 +162,19 @@ static void flip_behind_constructs(dice *d, question *q, const area_map *map, si
 static void flip_in_construct(dice *d, question *q, const area_map *map, size_t body)
 {
     static const uint8_t telling[] = {0, 1, 2, 3, 4, 5, 6, 7, 8, 25};
-    size_t n = map->value.n;
+    size_t n = map->value.n, bit = telling[below(d, sizeof telling)];
 
     if (n > 0)
-        flip_bit(q, 8 * body + LAYOUT_CONSTRUCTS + LAYOUT_CONSTRUCT * below(d, n) + telling[below(d, sizeof telling)]);
+        flip_bit(q, 8 * body + LAYOUT_CONSTRUCTS + LAYOUT_CONSTRUCT * below(d, n) + bit);
 }
 
 /* A bit of what no value holds: a construct's marker bits, or the closing FF and the byte behind it. */
 static void flip_fixed_ga94(dice *d, question *q, const area_map *map, size_t body)
 {
-    size_t n = map->ga94.n, triple = body + LAYOUT_GA94_FIRST;
+    bool marker = map->ga94.n > 0 && chance(d, 60);
+    size_t triples = marker ? below(d, map->ga94.n) : map->ga94.n;
 
-    if (n > 0 && chance(d, 60))
-        flip_bit(q, 8 * (triple + LAYOUT_GA94_TRIPLE * below(d, n)) + below(d, 5));
-    else
-        flip_bit(q, 8 * (triple + LAYOUT_GA94_TRIPLE * n) + below(d, 16));
+    flip_bit(q, 8 * (body + LAYOUT_GA94_FIRST + LAYOUT_GA94_TRIPLE * triples) + below(d, marker ? 5 : 16));
 }
 
 /* A bit in front of the constructs: identifier, type, flags and cc_count, em_data. The third flag is often the one. */
@@ -197,6 +197,19 @@ static void flip_ours(dice *d, question *q, const area_map *map, size_t body)
         flip_in_construct(d, q, map, body);
 }
 
+/* Cut short; what follows stays whole. GA94 is often cut before its constructs, also with its third flag set. */
+static void cut_ours(dice *d, question *q, const area_map *map, size_t body, size_t end)
+{
+    size_t at = body + below(d, end - body);
+
+    if (map->kind == GA94_KIND && chance(d, 40)) {
+        at = body + LAYOUT_GA94_FLAGS - 1 + below(d, 4);
+        if (chance(d, 30))
+            q->bytes[body + LAYOUT_GA94_FLAGS] |= 0x20;
+    }
+    drop(q, at, end - at);
+}
+
 static void mutate_ours(dice *d, question *q, const area_map *map)
 {
     size_t start = map->starts[map->ours], end = map->starts[map->ours + 1], body = start + LAYOUT_START;
@@ -215,9 +228,8 @@ static void mutate_ours(dice *d, question *q, const area_map *map)
     case 4: /* a piece taken out, of what follows too */
         drop(q, body + below(d, end - body), end - body);
         break;
-    case 5: /* cut short; what follows stays whole */
-        body += below(d, end - body);
-        drop(q, body, end - body);
+    case 5:
+        cut_ours(d, q, map, body, end);
         break;
     default:
         flip_bit(q, 8 * body + below(d, 8 * (end - body)));
@@ -259,7 +271,7 @@ static void mend_words(dice *d, question *q)
 /* A word that is always the same: the head, format and descriptors, the front of a structure, the footer. */
 static size_t telling_word(dice *d, const question *q)
 {
-    size_t structure = LAYOUT_STRUCTURES + LAYOUT_STRUCTURE * below(d, 6) + below(d, 3);
+    size_t first = LAYOUT_STRUCTURES + LAYOUT_STRUCTURE * below(d, 6), structure = first + below(d, 3);
 
     if (chance(d, 50))
         return below(d, LAYOUT_STRUCTURES);
@@ -319,7 +331,8 @@ void mutate_packet(dice *d, question *q)
         change_descriptor(d, q);
         break;
     default: /* DC or LENGTH alone */
-        q->words[chance(d, 50) ? 5 : 8] = layout_word((uint8_t)(13 + LAYOUT_STRUCTURE * below(d, 6)));
+        at = chance(d, 50) ? 5 : 8;
+        q->words[at] = layout_word((uint8_t)(13 + LAYOUT_STRUCTURE * below(d, 6)));
         break;
     }
     if (chance(d, 65))

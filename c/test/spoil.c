@@ -158,9 +158,10 @@ void spoil_ga94(dice *d, ga94_value *value)
         value->z = above(d, value->z, CAPTIONS_AREA_BYTES, 64);
         break;
     case 4: /* a unit of 16,384 bytes, give or take some */
-        if (value->n <= CAPTIONS_RECORDS)
-            value->z = CAPTIONS_AREA_BYTES + 2 - below(d, 5) -
-                       (chance(d, 30) ? 2 : LAYOUT_START + layout_ga94_content_bytes(value));
+        if (value->n <= CAPTIONS_RECORDS) {
+            size_t front = chance(d, 30) ? 2 : LAYOUT_START + layout_ga94_content_bytes(value);
+            value->z = CAPTIONS_AREA_BYTES + 2 - below(d, 5) - front;
+        }
         break;
     case 5:
     case 6:
@@ -184,7 +185,7 @@ static uint8_t any_line(dice *d)
 
 void spoil_packet(dice *d, packet_value *value)
 {
-    size_t i = below(d, CAPTIONS_SLOTS);
+    size_t i = below(d, CAPTIONS_SLOTS), bit;
     captions_slot *slot = &value->slots[i];
 
     switch (below(d, 8)) {
@@ -208,7 +209,8 @@ void spoil_packet(dice *d, packet_value *value)
         *slot = (captions_slot){1, 0, 0, 0};
         break;
     default: /* in an empty slot, one byte that may not be there */
-        value->rows[i].bytes[below(d, CAPTIONS_ROW_BYTES)] ^= (uint8_t)(1u << below(d, 8));
+        bit = below(d, 8 * CAPTIONS_ROW_BYTES);
+        value->rows[i].bytes[bit / 8] ^= (uint8_t)(1u << bit % 8);
         break;
     }
 }
