@@ -1,6 +1,5 @@
 /*
- * model.h: the ten calls of captions.h once more, written from documents 01, 02 and 003, the sources of docs/RULES.md,
- * alone.
+ * model.h: the ten calls of captions.h once more, written from documents 01, 02 and 003, the sources of docs/RULES.md.
  *
  * The model shares nothing with the library but the types of captions.h. It is meant to be read beside RULES: one check
  * after the other, in the order of checks, bit by bit, and slow.
