@@ -1,7 +1,8 @@
 /*
- * captions.h: closed captions and teletext in three carriages, read, written and replaced.
+ * captions.h: closed captions and teletext in four carriages, read, written and replaced.
  *
  * Picture area       the user data behind an MPEG-2 picture header, with an SCTE 20 caption unit
+ * GA94               ATSC caption data in a unit of the same picture area
  * Subtitling packet  RDD 8 (OP-47), as ancillary data words
  * Line 21 payload    the ISMA RTP payload, what follows the RTP header
  *
@@ -55,7 +56,7 @@ enum {
     CAPTIONS_TOO_LONG = 1,        /* above 16,384 bytes of an area, 245 words of a packet, 1,456 bytes of a payload */
     CAPTIONS_NO_START = 2,        /* no start code, flag words or flags byte where the input must begin with them */
     CAPTIONS_START_CODE = 3,      /* a 00 00 01 with no B2 behind it */
-    CAPTIONS_SECOND_UNIT = 4,     /* more than one caption unit in an area */
+    CAPTIONS_SECOND_UNIT = 4,     /* more than one caption unit in an area, or more than one GA94 unit */
     CAPTIONS_ENDS = 5,            /* the input is over before an item is complete */
     CAPTIONS_FIXED = 6,           /* a bit, a byte or a word that can only have one value has another */
     CAPTIONS_FIELD_OR_LINE = 7,   /* a record of field 0; a descriptor of line 1 to 5 or 23 to 31 */
@@ -66,7 +67,8 @@ enum {
     CAPTIONS_CHECKSUM = 12,       /* the sum of the user bytes, or CS, does not come out */
     CAPTIONS_LENGTH = 13,         /* a length that fits nothing: DC, LENGTH, or that of a payload */
     CAPTIONS_NO_ROOM = 14,        /* the lent output is shorter than the result */
-    CAPTIONS_UNHOLDABLE = 15      /* a number out of its range, records under flag 0, or a slot at odds with its mark */
+    CAPTIONS_UNHOLDABLE = 15,     /* a number out of its range, records under flag 0, or a slot at odds with its mark */
+    CAPTIONS_ADDITIONAL_DATA = 16 /* GA94 with additional_data_flag set */
 };
 
 /* Why a call was refused. Both are 0 in an accepted one. */
@@ -85,7 +87,7 @@ typedef struct captions_written {
 
 enum {
     CAPTIONS_AREA_BYTES = 16384, /* the longest area, so that an output of this size is never too short for one */
-    CAPTIONS_RECORDS = 31        /* the most records that a caption unit has */
+    CAPTIONS_RECORDS = 31        /* the most records that a caption unit has, and a GA94 unit */
 };
 
 /* One construct of a caption unit. */
@@ -139,6 +141,64 @@ captions_written captions_unit_write(uint32_t reserved, uint32_t vbi_data_flag, 
 captions_written captions_area_replace(const uint8_t *area, size_t len,
                                        uint32_t reserved, uint32_t vbi_data_flag, size_t n, size_t z,
                                        const captions_record CAPTIONS_ARRAY(records, CAPTIONS_RECORDS),
+                                       uint8_t *CAPTIONS_STORED out, size_t room);
+
+/* ---- GA94 (ATSC) in a picture area ---- */
+
+/* One construct of a GA94 unit. */
+typedef struct captions_ga94_record {
+    uint8_t cc_valid;  /* 0 or 1 */
+    uint8_t cc_type;   /* 0 to 3 */
+    uint8_t cc_data_1; /* the two bytes as they are sent */
+    uint8_t cc_data_2;
+} captions_ga94_record;
+
+/* What captions_ga94_read answers. All zero but for the refusal where it is refused, or where no GA94 unit stands. */
+typedef struct captions_ga94_unit {
+    captions_refusal refusal;
+    bool present;                  /* whether a GA94 unit stands in the area */
+    uint32_t process_em_data_flag; /* 0 or 1 */
+    uint32_t process_cc_data_flag; /* 0 or 1 */
+    uint32_t additional_data_flag; /* 0: set, it is refused */
+    uint32_t em_data;              /* the byte as it is */
+    size_t n;                      /* how many records */
+    size_t z;                      /* how many zero bytes of stuffing follow the content */
+} captions_ga94_unit;
+
+/*
+ * Reads the GA94 unit of an area. An SCTE 20 caption unit is a foreign one here, as a GA94 unit is for captions_area_read.
+ *
+ * Refuses with 1, 2, 3, 4, then 5, 6 and 16 from left to right in the GA94 unit, with the unit's first byte as the place.
+ * Lent: all places of `records` are stored to where the call is accepted, the n records first and zeros behind them.
+ */
+captions_ga94_unit captions_ga94_read(const uint8_t *area, size_t len,
+                                      captions_ga94_record CAPTIONS_STORED_ARRAY(records, CAPTIONS_RECORDS));
+
+/*
+ * Writes a GA94 unit with its start code and its stuffing at the front of `out`.
+ *
+ * Of `records` the first n are looked at. No number is narrowed: an em_data of 256 is refused.
+ * Refuses with 15 (n above 31, a flag above 1, em_data above 255, z above 16,384), then with 16; for each record in order
+ * with 15; then with 1, then with 14.
+ * Lent: the first `len` bytes of `out` are stored to.
+ */
+captions_written captions_ga94_write(uint32_t process_em_data_flag, uint32_t process_cc_data_flag,
+                                     uint32_t additional_data_flag, uint32_t em_data, size_t n, size_t z,
+                                     const captions_ga94_record CAPTIONS_ARRAY(records, CAPTIONS_RECORDS),
+                                     uint8_t *CAPTIONS_STORED out, size_t room);
+
+/*
+ * Writes an area with another GA94 unit at the front of `out`. The new unit stands in the place of the old one, or behind
+ * the last byte where there is none. All other units pass byte for byte, an SCTE 20 caption unit too.
+ *
+ * Refuses as captions_ga94_read does for the area, then as captions_ga94_write does, with 1 and 14 judged on the whole
+ * new area.
+ * Lent: the first `len` bytes of `out` are stored to.
+ */
+captions_written captions_ga94_replace(const uint8_t *area, size_t len,
+                                       uint32_t process_em_data_flag, uint32_t process_cc_data_flag,
+                                       uint32_t additional_data_flag, uint32_t em_data, size_t n, size_t z,
+                                       const captions_ga94_record CAPTIONS_ARRAY(records, CAPTIONS_RECORDS),
                                        uint8_t *CAPTIONS_STORED out, size_t room);
 
 /* ---- Subtitling packet (RDD 8, OP-47) ---- */
@@ -282,6 +342,22 @@ CAPTIONS_FIELD(captions_unit, vbi_data_flag, 18, 1);
 CAPTIONS_FIELD(captions_unit, n, 24, 8);
 CAPTIONS_FIELD(captions_unit, z, 32, 8);
 CAPTIONS_SIZE(captions_unit, 40);
+
+CAPTIONS_FIELD(captions_ga94_record, cc_valid, 0, 1);
+CAPTIONS_FIELD(captions_ga94_record, cc_type, 1, 1);
+CAPTIONS_FIELD(captions_ga94_record, cc_data_1, 2, 1);
+CAPTIONS_FIELD(captions_ga94_record, cc_data_2, 3, 1);
+CAPTIONS_SIZE(captions_ga94_record, 4);
+
+CAPTIONS_FIELD(captions_ga94_unit, refusal, 0, 16);
+CAPTIONS_FIELD(captions_ga94_unit, present, 16, 1);
+CAPTIONS_FIELD(captions_ga94_unit, process_em_data_flag, 20, 4);
+CAPTIONS_FIELD(captions_ga94_unit, process_cc_data_flag, 24, 4);
+CAPTIONS_FIELD(captions_ga94_unit, additional_data_flag, 28, 4);
+CAPTIONS_FIELD(captions_ga94_unit, em_data, 32, 4);
+CAPTIONS_FIELD(captions_ga94_unit, n, 40, 8);
+CAPTIONS_FIELD(captions_ga94_unit, z, 48, 8);
+CAPTIONS_SIZE(captions_ga94_unit, 56);
 
 CAPTIONS_FIELD(captions_slot, full, 0, 1);
 CAPTIONS_FIELD(captions_slot, line, 1, 1);

@@ -3,13 +3,14 @@
 
 #include <string.h>
 
-size_t agree_numbers[16];
+size_t agree_numbers[256];
 
 /* Lent memory, one piece for each program, with the same bytes in it before a call. The third is for a variant. */
 static union lent {
     uint8_t bytes[CAPTIONS_AREA_BYTES + 64];
     uint16_t words[CAPTIONS_PACKET_WORDS + 32];
     captions_record records[CAPTIONS_RECORDS + 2];
+    captions_ga94_record ga94[CAPTIONS_RECORDS + 2];
     captions_row rows[CAPTIONS_SLOTS + 1];
     captions_access_unit units[CAPTIONS_ACCESS_UNITS + 2];
 } lent[3];
@@ -30,7 +31,7 @@ static bool same_lent(size_t bytes)
 
 static bool same_refusal(captions_refusal a, captions_refusal b)
 {
-    agree_numbers[a.number & 15]++;
+    agree_numbers[a.number]++;
     return a.number == b.number && a.place == b.place;
 }
 
@@ -80,6 +81,37 @@ bool agree_area_replace(const area_input *area, const unit_value *v, size_t room
                                                   lent[0].bytes, room);
     captions_written b = library_calls.area_replace(area->bytes, area->len, v->reserved, v->flag, v->n, v->z,
                                                     v->records, lent[1].bytes, room);
+    return same_written(a, b) && same_lent(reach(room));
+}
+
+bool agree_ga94_read(const area_input *area)
+{
+    fill(sizeof lent[0].ga94);
+    captions_ga94_unit a = plain_calls.ga94_read(area->bytes, area->len, lent[0].ga94);
+    captions_ga94_unit b = library_calls.ga94_read(area->bytes, area->len, lent[1].ga94);
+    return same_refusal(a.refusal, b.refusal) && a.present == b.present &&
+           a.process_em_data_flag == b.process_em_data_flag && a.process_cc_data_flag == b.process_cc_data_flag &&
+           a.additional_data_flag == b.additional_data_flag && a.em_data == b.em_data && a.n == b.n && a.z == b.z &&
+           same_lent(sizeof lent[0].ga94);
+}
+
+bool agree_ga94_write(const ga94_value *v, size_t room)
+{
+    fill(reach(room));
+    captions_written a = plain_calls.ga94_write(v->em_flag, v->cc_flag, v->additional, v->em_data, v->n, v->z, v->records,
+                                                lent[0].bytes, room);
+    captions_written b = library_calls.ga94_write(v->em_flag, v->cc_flag, v->additional, v->em_data, v->n, v->z,
+                                                  v->records, lent[1].bytes, room);
+    return same_written(a, b) && same_lent(reach(room));
+}
+
+bool agree_ga94_replace(const area_input *area, const ga94_value *v, size_t room)
+{
+    fill(reach(room));
+    captions_written a = plain_calls.ga94_replace(area->bytes, area->len, v->em_flag, v->cc_flag, v->additional,
+                                                  v->em_data, v->n, v->z, v->records, lent[0].bytes, room);
+    captions_written b = library_calls.ga94_replace(area->bytes, area->len, v->em_flag, v->cc_flag, v->additional,
+                                                    v->em_data, v->n, v->z, v->records, lent[1].bytes, room);
     return same_written(a, b) && same_lent(reach(room));
 }
 
@@ -175,16 +207,51 @@ static void random_value(unit_value *v)
     }
 }
 
+/* How many bytes a GA94 unit has without its stuffing. */
+static size_t size_of_ga94(const ga94_value *v)
+{
+    return 12 + 3 * v->n;
+}
+
+static void random_ga94(ga94_value *v)
+{
+    make_ga94(v, below(2) == 0 ? below(5) : below(32), near_longest(below(3) == 0 ? below(20) : 0));
+    if (below(40) == 0) {
+        v->z = CAPTIONS_AREA_BYTES - 2 + below(5) - size_of_ga94(v);
+    }
+    if (below(6) == 0) {
+        mutate(v->records, v->n * sizeof v->records[0]);
+    }
+    if (below(8) == 0) {
+        v->em_flag = below(3);
+        v->cc_flag = below(3);
+        v->additional = below(3);
+        v->em_data = below(300);
+        v->n = below(34);
+    }
+}
+
+/* Mostly one unit of the kind, else none or two. */
+static uint32_t some_units(void)
+{
+    return below(8) == 0 ? 2 : below(6) != 0;
+}
+
 static void random_area(area_input *area)
 {
     area->len = 0;
     for (uint32_t left = below(4); left > 0; left--) {
         add_foreign(area, below(below(50) != 0 ? 40 : 4000), (enum body)below(3));
     }
-    for (uint32_t left = below(8) == 0 ? 2 : below(6) != 0; left > 0; left--) {
+    for (uint32_t left = some_units(); left > 0; left--) {
         unit_value v;
         random_value(&v);
         carry_unit(&v, area);
+    }
+    for (uint32_t left = some_units(); left > 0; left--) {
+        ga94_value v;
+        random_ga94(&v);
+        carry_ga94(&v, area);
     }
     if (below(3) == 0 && area->len < CAPTIONS_AREA_BYTES - 60) {
         add_foreign(area, below(40), (enum body)below(3));
@@ -262,16 +329,20 @@ bool agree_on_random(size_t inputs)
 {
     static area_input area;
     static packet_input packet;
-    for (size_t i = 0; i < inputs; i += 7) {
+    for (size_t i = 0; i < inputs; i += 10) {
         unit_value v;
+        ga94_value g;
         random_area(&area);
         random_value(&v);
+        random_ga94(&g);
         random_packet(&packet);
         if (below(20) == 0 && area.len < 16000) {
             v.z = CAPTIONS_AREA_BYTES - 2 + below(5) - area.len - size_of(&v);
+            g.z = CAPTIONS_AREA_BYTES - 2 + below(5) - area.len - size_of_ga94(&g);
         }
-        size_t room = below(8) == 0 || v.z > 1000 ? CAPTIONS_AREA_BYTES : below(600);
+        size_t room = below(8) == 0 || v.z > 1000 || g.z > 1000 ? CAPTIONS_AREA_BYTES : below(600);
         if (!agree_area_read(&area) || !agree_unit_write(&v, room) || !agree_area_replace(&area, &v, room) ||
+            !agree_ga94_read(&area) || !agree_ga94_write(&g, room) || !agree_ga94_replace(&area, &g, room) ||
             !agree_packet_read(&packet) || !random_packet_write() || !random_payload()) {
             return false;
         }

@@ -11,6 +11,9 @@
 bool agree_area_read(const area_input *area);
 bool agree_unit_write(const unit_value *v, size_t room);
 bool agree_area_replace(const area_input *area, const unit_value *v, size_t room);
+bool agree_ga94_read(const area_input *area);
+bool agree_ga94_write(const ga94_value *v, size_t room);
+bool agree_ga94_replace(const area_input *area, const ga94_value *v, size_t room);
 bool agree_packet_read(const packet_input *packet);
 bool agree_packet_write(const packet_value *v, size_t room);
 bool agree_payload_read(const payload_input *payload);
@@ -20,6 +23,6 @@ bool agree_payload_write(const payload_value *v, size_t room);
 bool agree_on_random(size_t inputs);
 
 /* How many of all inputs so far were refused with each number, 0 for accepted. */
-extern size_t agree_numbers[16];
+extern size_t agree_numbers[256];
 
 #endif

@@ -34,6 +34,7 @@ enum {
 typedef struct sample {
     area_input area;
     unit_value unit;
+    ga94_value ga94;
     packet_input packet;
     packet_value numbers;
     payload_input payload;
@@ -44,13 +45,14 @@ typedef struct sample {
 static uint8_t out_bytes[CAPTIONS_AREA_BYTES];
 static uint16_t out_words[CAPTIONS_PACKET_WORDS];
 static captions_record out_records[CAPTIONS_RECORDS];
+static captions_ga94_record out_ga94[CAPTIONS_RECORDS];
 static captions_row out_rows[CAPTIONS_SLOTS];
 static captions_access_unit out_units[CAPTIONS_ACCESS_UNITS];
 
 /* Every answer goes in here, so that no call is without effect. */
 static volatile uint64_t sink;
 
-/* ---- The seven calls, `times` over the samples in turn ---- */
+/* ---- The ten calls, `times` over the samples in turn ---- */
 
 static void run_area_read(const calls *c, const sample *samples, size_t times)
 {
@@ -76,6 +78,34 @@ static void run_area_replace(const calls *c, const sample *samples, size_t times
         const unit_value *v = &samples[i % SAMPLES].unit;
         sink += c->area_replace(a->bytes, a->len, v->reserved, v->flag, v->n, v->z, v->records, out_bytes,
                                 sizeof out_bytes).len;
+    }
+}
+
+static void run_ga94_read(const calls *c, const sample *samples, size_t times)
+{
+    for (size_t i = 0; i < times; i++) {
+        const area_input *a = &samples[i % SAMPLES].area;
+        captions_ga94_unit u = c->ga94_read(a->bytes, a->len, out_ga94);
+        sink += u.n + u.refusal.number + out_ga94[0].cc_data_1;
+    }
+}
+
+static void run_ga94_write(const calls *c, const sample *samples, size_t times)
+{
+    for (size_t i = 0; i < times; i++) {
+        const ga94_value *v = &samples[i % SAMPLES].ga94;
+        sink += c->ga94_write(v->em_flag, v->cc_flag, v->additional, v->em_data, v->n, v->z, v->records, out_bytes,
+                              sizeof out_bytes).len;
+    }
+}
+
+static void run_ga94_replace(const calls *c, const sample *samples, size_t times)
+{
+    for (size_t i = 0; i < times; i++) {
+        const area_input *a = &samples[i % SAMPLES].area;
+        const ga94_value *v = &samples[i % SAMPLES].ga94;
+        sink += c->ga94_replace(a->bytes, a->len, v->em_flag, v->cc_flag, v->additional, v->em_data, v->n, v->z,
+                                v->records, out_bytes, sizeof out_bytes).len;
     }
 }
 
@@ -166,6 +196,13 @@ static void unit_among_foreign(sample *s, size_t n)
     add_foreign(&s->area, 7996, RANDOM_BODY);
 }
 
+static void ga94_unit(sample *s, size_t n)
+{
+    make_ga94(&s->ga94, n, 0);
+    carry_ga94(&s->ga94, &s->area);
+    make_ga94(&s->ga94, n, 0);
+}
+
 static void packet(sample *s, size_t n)
 {
     make_packet(&s->numbers, n);
@@ -204,6 +241,12 @@ static const row rows[] = {
     {"replace 1 by 1 construct", &plain_calls, caption_unit, 1, run_area_replace},
     {"replace 31 by 31 constructs", &plain_calls, caption_unit, 31, run_area_replace},
     {"replace 1 by 1 in 16,000 bytes", &plain_calls, unit_among_foreign, 1, run_area_replace},
+    {"GA94 unit of 1 construct: read", &plain_calls, ga94_unit, 1, run_ga94_read},
+    {"GA94 unit of 1 construct: write", &plain_calls, ga94_unit, 1, run_ga94_write},
+    {"GA94 unit of 31 constructs: read", &plain_calls, ga94_unit, 31, run_ga94_read},
+    {"GA94 unit of 31 constructs: write", &plain_calls, ga94_unit, 31, run_ga94_write},
+    {"GA94: replace 1 by 1 construct", &plain_calls, ga94_unit, 1, run_ga94_replace},
+    {"GA94: replace 31 by 31 constructs", &plain_calls, ga94_unit, 31, run_ga94_replace},
     {"packet of 20 words: read", &plain_calls, packet, 0, run_packet_read},
     {"packet of 20 words: write", &plain_calls, packet, 0, run_packet_write},
     {"packet of 245 words: read", &plain_calls, packet, 5, run_packet_read},
@@ -228,6 +271,15 @@ static bool agree_on_sample(const row *r, const sample *s)
     }
     if (r->run == run_area_replace) {
         return agree_area_replace(&s->area, &s->unit, CAPTIONS_AREA_BYTES);
+    }
+    if (r->run == run_ga94_read) {
+        return agree_ga94_read(&s->area);
+    }
+    if (r->run == run_ga94_write) {
+        return agree_ga94_write(&s->ga94, CAPTIONS_AREA_BYTES);
+    }
+    if (r->run == run_ga94_replace) {
+        return agree_ga94_replace(&s->area, &s->ga94, CAPTIONS_AREA_BYTES);
     }
     if (r->run == run_packet_read) {
         return agree_packet_read(&s->packet);

@@ -6,18 +6,18 @@
 #include <string.h>
 
 const calls plain_calls = {
-    plain_area_read,    plain_unit_write,   plain_area_replace,  plain_packet_read,
-    plain_packet_write, plain_payload_read, plain_payload_write,
+    plain_area_read,    plain_unit_write,  plain_area_replace, plain_ga94_read,    plain_ga94_write,
+    plain_ga94_replace, plain_packet_read, plain_packet_write, plain_payload_read, plain_payload_write,
 };
 
 const calls memchr_calls = {
-    plain_area_read_memchr, plain_unit_write,   plain_area_replace,  plain_packet_read,
-    plain_packet_write,     plain_payload_read, plain_payload_write,
+    plain_area_read_memchr, plain_unit_write,  plain_area_replace, plain_ga94_read,    plain_ga94_write,
+    plain_ga94_replace,     plain_packet_read, plain_packet_write, plain_payload_read, plain_payload_write,
 };
 
 const calls library_calls = {
-    captions_area_read,    captions_unit_write,   captions_area_replace,  captions_packet_read,
-    captions_packet_write, captions_payload_read, captions_payload_write,
+    captions_area_read,    captions_unit_write,  captions_area_replace, captions_ga94_read,    captions_ga94_write,
+    captions_ga94_replace, captions_packet_read, captions_packet_write, captions_payload_read, captions_payload_write,
 };
 
 uint32_t below(uint32_t n)
@@ -57,6 +57,19 @@ void make_unit(unit_value *v, size_t n, size_t z)
     }
 }
 
+void make_ga94(ga94_value *v, size_t n, size_t z)
+{
+    memset(v, 0, sizeof *v);
+    v->em_flag = below(2);
+    v->cc_flag = below(2);
+    v->em_data = byte();
+    v->n = n;
+    v->z = z;
+    for (size_t i = 0; i < n; i++) {
+        v->records[i] = (captions_ga94_record){(uint8_t)below(2), (uint8_t)below(4), byte(), byte()};
+    }
+}
+
 void make_packet(packet_value *v, size_t k)
 {
     memset(v, 0, sizeof *v);
@@ -90,6 +103,12 @@ void carry_unit(const unit_value *v, area_input *area)
 {
     area->len += plain_unit_write(v->reserved, v->flag, v->n, v->z, v->records, area->bytes + area->len,
                                   CAPTIONS_AREA_BYTES - area->len).len;
+}
+
+void carry_ga94(const ga94_value *v, area_input *area)
+{
+    area->len += plain_ga94_write(v->em_flag, v->cc_flag, v->additional, v->em_data, v->n, v->z, v->records,
+                                  area->bytes + area->len, CAPTIONS_AREA_BYTES - area->len).len;
 }
 
 void carry_packet(const packet_value *v, packet_input *packet)

@@ -4,7 +4,7 @@
 
 #include "../captions.h"
 
-/* A caption unit's value, and an area. */
+/* A caption unit's value, a GA94 unit's, and an area. */
 typedef struct unit_value {
     uint32_t reserved;
     uint32_t flag;
@@ -12,6 +12,16 @@ typedef struct unit_value {
     size_t z;
     captions_record records[CAPTIONS_RECORDS];
 } unit_value;
+
+typedef struct ga94_value {
+    uint32_t em_flag;
+    uint32_t cc_flag;
+    uint32_t additional;
+    uint32_t em_data;
+    size_t n;
+    size_t z;
+    captions_ga94_record records[CAPTIONS_RECORDS];
+} ga94_value;
 
 typedef struct area_input {
     size_t len;
@@ -40,12 +50,17 @@ typedef struct payload_input {
     uint8_t bytes[CAPTIONS_PAYLOAD_BYTES + 16];
 } payload_input;
 
-/* The seven calls of one program. */
+/* The ten calls of one program. */
 typedef struct calls {
     captions_unit (*area_read)(const uint8_t *, size_t, captions_record *);
     captions_written (*unit_write)(uint32_t, uint32_t, size_t, size_t, const captions_record *, uint8_t *, size_t);
     captions_written (*area_replace)(const uint8_t *, size_t, uint32_t, uint32_t, size_t, size_t,
                                      const captions_record *, uint8_t *, size_t);
+    captions_ga94_unit (*ga94_read)(const uint8_t *, size_t, captions_ga94_record *);
+    captions_written (*ga94_write)(uint32_t, uint32_t, uint32_t, uint32_t, size_t, size_t, const captions_ga94_record *,
+                                   uint8_t *, size_t);
+    captions_written (*ga94_replace)(const uint8_t *, size_t, uint32_t, uint32_t, uint32_t, uint32_t, size_t, size_t,
+                                     const captions_ga94_record *, uint8_t *, size_t);
     captions_packet (*packet_read)(const uint16_t *, size_t, captions_row *);
     captions_written (*packet_write)(uint32_t, const captions_slot *, const captions_row *, uint16_t *, size_t);
     captions_payload (*payload_read)(const uint8_t *, size_t, captions_access_unit *);
@@ -61,11 +76,13 @@ uint32_t below(uint32_t n);
 
 /* Legal values of n records, k structures, m units. */
 void make_unit(unit_value *v, size_t n, size_t z);
+void make_ga94(ga94_value *v, size_t n, size_t z);
 void make_packet(packet_value *v, size_t k);
 void make_payload(payload_value *v, size_t m);
 
 /* What carries them, from the plain writers. */
 void carry_unit(const unit_value *v, area_input *area);
+void carry_ga94(const ga94_value *v, area_input *area);
 void carry_packet(const packet_value *v, packet_input *packet);
 void carry_payload(const payload_value *v, payload_input *payload);
 

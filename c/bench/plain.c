@@ -1,16 +1,11 @@
-/* plain.c: the picture area; see plain.h. Sections named in comments are those of docs/RULES.md. */
-#include "plain_area.h"
+/* plain.c: SCTE 20 in a picture area; see plain.h. Sections named in comments are those of docs/RULES.md. */
+#include "plain_search.h"
 
 enum {
     CONTENT_BYTES = 104, /* with 31 constructs */
     CONSTRUCTS = 21,     /* the bit of the body at which they begin */
     CONSTRUCT_BITS = 26
 };
-
-static captions_written refuse(uint8_t number, size_t place)
-{
-    return (captions_written){.refusal = {number, place}};
-}
 
 /* ---- Bits ---- */
 
@@ -40,82 +35,6 @@ static uint64_t bits_before(const uint8_t *s, size_t end)
 {
     size_t bytes = (end + 7) / 8;
     return load_be64(s + bytes - 8) >> (8 * bytes - end);
-}
-
-/* In the machine's order, which is nothing to a test for zeros. */
-static uint64_t load_eight(const uint8_t *s)
-{
-    uint64_t eight;
-    memcpy(&eight, s, 8);
-    return eight;
-}
-
-/* Eight bytes at a time and no early exit, so that compilers take even more. */
-static bool all_zero(const uint8_t *s, size_t len)
-{
-    uint64_t any = 0;
-    size_t i = 0;
-    for (; i + 8 <= len; i += 8) {
-        any |= load_eight(s + i);
-    }
-    for (; i < len; i++) {
-        any |= s[i];
-    }
-    return any == 0;
-}
-
-/* ---- Picture area: its units ---- */
-
-/* The first of i, i + 3, i + 6 and so on with a byte of 0 or 1, or an index that is not below len. Four to a turn. */
-static inline size_t past_others(const uint8_t *s, size_t i, size_t len)
-{
-    for (; i + 9 < len; i += 12) {
-        if (s[i] <= 1) {
-            return i;
-        }
-        if (s[i + 3] <= 1) {
-            return i + 3;
-        }
-        if (s[i + 6] <= 1) {
-            return i + 6;
-        }
-        if (s[i + 9] <= 1) {
-            return i + 9;
-        }
-    }
-    while (i < len && s[i] > 1) {
-        i += 3;
-    }
-    return i;
-}
-
-/* The first byte from i on that is not 0, or an index that is not below len. Mostly it is near; long runs go by eights. */
-static inline size_t past_zeros(const uint8_t *s, size_t i, size_t len)
-{
-    if (i + 1 < len && s[i + 1] != 0) {
-        return s[i] == 0 ? i + 1 : i;
-    }
-    while (i + 8 <= len && load_eight(s + i) == 0) {
-        i += 8;
-    }
-    while (i < len && s[i] == 0) {
-        i++;
-    }
-    return i;
-}
-
-/* Looks where the 01 may be. A byte there that is not 0 rules the next two places out too, since two zeros precede 01. */
-static inline size_t next_start(const uint8_t *s, size_t from, size_t len)
-{
-    for (size_t i = from + 2;; i += 3) {
-        i = past_zeros(s, past_others(s, i, len), len);
-        if (i >= len) {
-            return len;
-        }
-        if (s[i] == 1 && s[i - 1] == 0 && s[i - 2] == 0) {
-            return i - 2;
-        }
-    }
 }
 
 /* ---- Picture area: records ---- */
@@ -251,7 +170,7 @@ static inline captions_unit read_found(const uint8_t *area, spot at, captions_re
 
 captions_unit plain_area_read(const uint8_t *area, size_t len, captions_record records[static CAPTIONS_RECORDS])
 {
-    return read_found(area, find_unit(area, len, next_start), records);
+    return read_found(area, find_unit(area, len, next_start, is_caption), records);
 }
 
 captions_unit plain_read_found(const uint8_t *area, spot at, captions_record records[static CAPTIONS_RECORDS])
@@ -323,23 +242,14 @@ captions_written plain_unit_write(uint32_t reserved, uint32_t vbi_data_flag, siz
     if (unit.number != CAPTIONS_ACCEPTED) {
         return refuse(unit.number, 0);
     }
-    size_t len = unit.len + z;
-    if (len > CAPTIONS_AREA_BYTES) {
-        return refuse(CAPTIONS_TOO_LONG, 0);
-    }
-    if (len > room) {
-        return refuse(CAPTIONS_NO_ROOM, 0);
-    }
-    memcpy(out, unit.bytes, unit.len);
-    memset(out + unit.len, 0, z);
-    return (captions_written){.len = len};
+    return put_alone(unit.bytes, unit.len, z, out, room);
 }
 
 captions_written plain_area_replace(const uint8_t *area, size_t len, uint32_t reserved, uint32_t vbi_data_flag,
                                     size_t n, size_t z, const captions_record records[static CAPTIONS_RECORDS],
                                     uint8_t *out, size_t room)
 {
-    spot old = find_unit(area, len, next_start);
+    spot old = find_unit(area, len, next_start, is_caption);
     if (old.number != CAPTIONS_ACCEPTED) {
         return refuse(old.number, 0);
     }
@@ -356,17 +266,5 @@ captions_written plain_area_replace(const uint8_t *area, size_t len, uint32_t re
     if (unit.number != CAPTIONS_ACCEPTED) {
         return refuse(unit.number, 0);
     }
-    size_t rest = len - old.end;
-    size_t whole = old.start + unit.len + z + rest;
-    if (whole > CAPTIONS_AREA_BYTES) {
-        return refuse(CAPTIONS_TOO_LONG, 0);
-    }
-    if (whole > room) {
-        return refuse(CAPTIONS_NO_ROOM, 0);
-    }
-    memcpy(out, area, old.start);
-    memcpy(out + old.start, unit.bytes, unit.len);
-    memset(out + old.start + unit.len, 0, z);
-    memcpy(out + old.start + unit.len + z, area + old.end, rest);
-    return (captions_written){.len = whole};
+    return put_unit(area, len, old, unit.bytes, unit.len, z, out, room);
 }

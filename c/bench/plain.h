@@ -1,5 +1,5 @@
 /*
- * plain.h: the seven calls of captions.h in plain C, to measure the library against.
+ * plain.h: the ten calls of captions.h in plain C, to measure the library against.
  *
  * Each does the same work as its namesake: the checks of docs/RULES.md in their order, the same refusals and places,
  * the same answers, and no lent memory changed in a refusal.
@@ -24,6 +24,19 @@ captions_written plain_unit_write(uint32_t reserved, uint32_t vbi_data_flag, siz
 captions_written plain_area_replace(const uint8_t *area, size_t len,
                                     uint32_t reserved, uint32_t vbi_data_flag, size_t n, size_t z,
                                     const captions_record records[static CAPTIONS_RECORDS],
+                                    uint8_t *out, size_t room);
+
+captions_ga94_unit plain_ga94_read(const uint8_t *area, size_t len, captions_ga94_record records[static CAPTIONS_RECORDS]);
+
+captions_written plain_ga94_write(uint32_t process_em_data_flag, uint32_t process_cc_data_flag,
+                                  uint32_t additional_data_flag, uint32_t em_data, size_t n, size_t z,
+                                  const captions_ga94_record records[static CAPTIONS_RECORDS],
+                                  uint8_t *out, size_t room);
+
+captions_written plain_ga94_replace(const uint8_t *area, size_t len,
+                                    uint32_t process_em_data_flag, uint32_t process_cc_data_flag,
+                                    uint32_t additional_data_flag, uint32_t em_data, size_t n, size_t z,
+                                    const captions_ga94_record records[static CAPTIONS_RECORDS],
                                     uint8_t *out, size_t room);
 
 captions_packet plain_packet_read(const uint16_t *words, size_t len,

@@ -1,4 +1,7 @@
-/* plain_area.h: what plain.c and plain_memchr.c share. They differ in how the next start code is searched for. */
+/*
+ * plain_area.h: what plain.c, plain_memchr.c and plain_ga94.c share. They differ in how the next start code is searched
+ * for, and in which units are theirs.
+ */
 #ifndef PLAIN_AREA_H
 #define PLAIN_AREA_H
 
@@ -8,7 +11,7 @@
 
 enum { START_BYTES = 4 };
 
-/* Where the caption unit stands, or the area's end twice. */
+/* Where the unit stands, or the area's end twice. */
 typedef struct spot {
     uint8_t number;
     bool present;
@@ -19,8 +22,16 @@ typedef struct spot {
 /* The first 00 00 01 of s from index `from` on, or the end. */
 typedef size_t search(const uint8_t *s, size_t from, size_t len);
 
-/* 1, 2, 3, 4 in this order: a second caption unit is told only when every start code was seen. */
-static inline spot find_unit(const uint8_t *s, size_t len, search *next_start)
+/* Whether the unit with this body is the one to find. */
+typedef bool mine(const uint8_t *body, size_t len);
+
+static inline bool is_caption(const uint8_t *body, size_t len)
+{
+    return len > 0 && body[0] == 3;
+}
+
+/* 1, 2, 3, 4 in this order: a second unit is told only when every start code was seen. */
+static inline spot find_unit(const uint8_t *s, size_t len, search *next_start, mine *is_mine)
 {
     static const uint8_t start_code[START_BYTES] = {0, 0, 1, 0xB2};
     spot found = {.start = len, .end = len};
@@ -37,7 +48,7 @@ static inline spot find_unit(const uint8_t *s, size_t len, search *next_start)
         }
         size_t body = at + START_BYTES;
         size_t next = next_start(s, body, len);
-        if (body < next && s[body] == 3) {
+        if (is_mine(s + body, next - body)) {
             count++;
             found.start = at;
             found.end = next;

@@ -20,5 +20,5 @@ static size_t next_start(const uint8_t *s, size_t from, size_t len)
 
 captions_unit plain_area_read_memchr(const uint8_t *area, size_t len, captions_record records[static CAPTIONS_RECORDS])
 {
-    return plain_read_found(area, find_unit(area, len, next_start), records);
+    return plain_read_found(area, find_unit(area, len, next_start, is_caption), records);
 }

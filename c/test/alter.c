@@ -83,7 +83,7 @@ static const char *smallest_answer(operation op)
 {
     if (is_writer(op))
         return "ok len=0 out=-";
-    if (op == AREA_READ)
+    if (op == AREA_READ || op == GA94_READ)
         return "ok none";
     if (op == PAYLOAD_READ)
         return "ok flags=0 m=0 units=-";
@@ -96,7 +96,7 @@ static void alter_refusal(const char *line, const vector_line *right)
     unsigned long long place = right->expected.numbers[1];
     char answer[64];
 
-    for (unsigned other = 1; other <= 15; other++) {
+    for (unsigned other = 1; other <= REFUSAL_MAX; other++) {
         if (other == number)
             continue;
         snprintf(answer, sizeof answer, "refused %u at %llu", other, place);

@@ -66,63 +66,101 @@ static void stretch_some(dice *d, question *q, area_map *map, bool legal)
         stretch_area(d, q, map, chance(d, 80) ? CAPTIONS_AREA_BYTES + 3 - below(d, 6) : 40000 + below(d, 20000));
 }
 
-/* Bytes of which start codes are made, in any order behind a first start code. */
+/* Start codes, identifiers and the bytes of which they are made, in any order behind a first start code. */
 static void start_code_soup(dice *d, question *q)
 {
-    static const uint8_t bytes[] = {0x00, 0x00, 0x00, 0x01, 0x01, 0xB2, 0xB2, 0x03, 0x80, 0x81};
+    static const uint8_t bytes[] = {0x00, 0x00, 0x00, 0x01, 0x01, 0xB2, 0xB2, 0x03, 0x80, 0x81, 0x40, 0xFF, 0xE0};
     static const uint8_t start[LAYOUT_START] = {0x00, 0x00, 0x01, 0xB2};
+    static const uint8_t identifier[] = {0x47, 0x41, 0x39, 0x34, 0x03};
+    size_t most = LAYOUT_START + below(d, 60);
 
-    q->len = LAYOUT_START + below(d, 60);
     memcpy(q->bytes, start, LAYOUT_START);
-    for (size_t i = LAYOUT_START; i < q->len; i++)
-        q->bytes[i] = bytes[below(d, sizeof bytes)];
+    q->len = LAYOUT_START;
+    while (q->len < most) {
+        if (chance(d, 10)) {
+            memcpy(q->bytes + q->len, identifier, sizeof identifier);
+            q->len += chance(d, 80) ? 5 : 4;
+        } else if (chance(d, 5)) {
+            memcpy(q->bytes + q->len, start, LAYOUT_START);
+            q->len += LAYOUT_START;
+        } else {
+            q->bytes[q->len++] = bytes[below(d, sizeof bytes)];
+        }
+    }
 }
 
-static void area_case(dice *d, question *q, area_map *map, bool legal)
+static void area_case(dice *d, question *q, bool legal)
 {
+    area_map area, *map = &area;
+
     if (!legal && chance(d, 8)) {
         start_code_soup(d, q);
         return;
     }
-    legal_area(d, q, map);
+    legal_area(d, q, kind_of(q->op), map);
     stretch_some(d, q, map, legal);
     if (!legal && chance(d, 90))
         one_or_two(d, q, map);
 }
 
-static void unit_case(dice *d, unit_value *value, bool legal)
+static void spoil_value(dice *d, question *q)
 {
-    legal_unit(d, value);
+    if (takes_ga94(q->op))
+        spoil_ga94(d, &q->ga94);
+    else
+        spoil_unit(d, &q->unit);
+}
+
+/* The value to write, of the operation's kind. */
+static void value_case(dice *d, question *q, bool legal)
+{
+    if (takes_ga94(q->op))
+        legal_ga94(d, &q->ga94);
+    else
+        legal_unit(d, &q->unit);
     if (legal)
         return;
-    spoil_unit(d, value);
+    spoil_value(d, q);
     if (chance(d, 30))
-        spoil_unit(d, value);
+        spoil_value(d, q);
+}
+
+static size_t *value_z(question *q)
+{
+    return takes_ga94(q->op) ? &q->ga94.z : &q->unit.z;
+}
+
+/* The unit without its stuffing. */
+static size_t front_len(const question *q)
+{
+    return LAYOUT_START + (takes_ga94(q->op) ? layout_ga94_content_bytes(&q->ga94) : layout_content_bytes(&q->unit));
 }
 
 /* What the unit would take; 100 where it is not to be written anyway. */
-static size_t unit_len(const unit_value *value)
+static size_t unit_len(question *q)
 {
-    if (value->n > CAPTIONS_RECORDS || value->z > CAPTIONS_AREA_BYTES)
+    size_t n = takes_ga94(q->op) ? q->ga94.n : q->unit.n;
+
+    if (n > CAPTIONS_RECORDS || *value_z(q) > CAPTIONS_AREA_BYTES)
         return 100;
-    return LAYOUT_START + layout_content_bytes(value) + value->z;
+    return front_len(q) + *value_z(q);
 }
 
 static void unit_write_case(dice *d, question *q, bool legal)
 {
-    unit_case(d, &q->unit, legal || chance(d, 30));
+    value_case(d, q, legal || chance(d, 30));
     if (legal && chance(d, 2)) /* as long as a unit can be */
-        q->unit.z = CAPTIONS_AREA_BYTES - LAYOUT_START - layout_content_bytes(&q->unit) - below(d, 2);
-    q->room = legal ? enough_room(d, unit_len(&q->unit), OUTPUT_MAX) : any_room(d, unit_len(&q->unit), OUTPUT_MAX);
+        *value_z(q) = CAPTIONS_AREA_BYTES - front_len(q) - below(d, 2);
+    q->room = legal ? enough_room(d, unit_len(q), OUTPUT_MAX) : any_room(d, unit_len(q), OUTPUT_MAX);
 }
 
 /* z so that the new area has 16,384 bytes, give or take some. */
 static void fit_to_limit(dice *d, question *q, size_t around, bool legal)
 {
-    size_t front = around + LAYOUT_START + layout_content_bytes(&q->unit);
+    size_t front = around + front_len(q), more = legal ? 0 : 1 + below(d, 2);
 
     if (front + 3 < CAPTIONS_AREA_BYTES)
-        q->unit.z = CAPTIONS_AREA_BYTES - front - below(d, 3) + (legal ? 0 : 1 + below(d, 2));
+        *value_z(q) = CAPTIONS_AREA_BYTES - front - below(d, 3) + more;
 }
 
 static void replace_case(dice *d, question *q, bool legal)
@@ -131,15 +169,14 @@ static void replace_case(dice *d, question *q, bool legal)
     size_t around;
     bool legal_value = legal || chance(d, 40);
 
-    legal_area(d, q, &map);
+    legal_area(d, q, kind_of(q->op), &map);
     around = q->len;
-    if (map.caption < map.count)
-        around -= map.starts[map.caption + 1] - map.starts[map.caption];
-    unit_case(d, &q->unit, legal_value);
+    if (map.ours < map.count)
+        around -= map.starts[map.ours + 1] - map.starts[map.ours];
+    value_case(d, q, legal_value);
     if (legal_value && chance(d, 2))
         fit_to_limit(d, q, around, legal);
-    q->room = legal ? enough_room(d, around + unit_len(&q->unit), OUTPUT_MAX)
-                    : any_room(d, around + unit_len(&q->unit), OUTPUT_MAX);
+    q->room = legal ? enough_room(d, around + unit_len(q), OUTPUT_MAX) : any_room(d, around + unit_len(q), OUTPUT_MAX);
     if (legal)
         return;
     if (chance(d, 2))
@@ -210,9 +247,10 @@ static void payload_write_case(dice *d, question *q, bool legal)
 
 static operation some_operation(dice *d)
 {
-    static const operation often[] = {AREA_READ,    AREA_READ,   AREA_READ,   AREA_READ,    AREA_REPLACE, AREA_REPLACE,
-                                      AREA_REPLACE, UNIT_WRITE,  UNIT_WRITE,  PACKET_READ,  PACKET_READ,  PACKET_READ,
-                                      PACKET_WRITE, PACKET_WRITE, PAYLOAD_READ, PAYLOAD_WRITE};
+    static const operation often[] = {AREA_READ,    AREA_READ,    AREA_READ,    AREA_READ,    AREA_REPLACE, AREA_REPLACE,
+                                      AREA_REPLACE, UNIT_WRITE,   UNIT_WRITE,   GA94_READ,    GA94_READ,    GA94_READ,
+                                      GA94_REPLACE, GA94_REPLACE, GA94_REPLACE, GA94_WRITE,   GA94_WRITE,   PACKET_READ,
+                                      PACKET_READ,  PACKET_READ,  PACKET_WRITE, PACKET_WRITE, PAYLOAD_READ, PAYLOAD_WRITE};
 
     return often[below(d, sizeof often / sizeof *often)];
 }
@@ -220,18 +258,17 @@ static operation some_operation(dice *d)
 void make_case(dice *d, question *q)
 {
     bool legal;
-    area_map map;
 
     q->op = some_operation(d);
     q->fill = (uint16_t)roll(d);
     q->at = chance(d, 50) ? AT_END : AT_FRONT;
     q->len = 0;
     legal = chance(d, MEANT_LEGAL);
-    if (q->op == AREA_READ)
-        area_case(d, q, &map, legal);
-    else if (q->op == UNIT_WRITE)
+    if (q->op == AREA_READ || q->op == GA94_READ)
+        area_case(d, q, legal);
+    else if (q->op == UNIT_WRITE || q->op == GA94_WRITE)
         unit_write_case(d, q, legal);
-    else if (q->op == AREA_REPLACE)
+    else if (q->op == AREA_REPLACE || q->op == GA94_REPLACE)
         replace_case(d, q, legal);
     else if (q->op == PACKET_READ)
         packet_read_case(d, q, legal);

@@ -13,6 +13,8 @@ static char text[160];
 static const char *number_name(operation op, size_t i)
 {
     static const char *const unit[] = {"present", "reserved", "vbi_data_flag", "n", "z"};
+    static const char *const ga94[] = {"present", "process_em_data_flag", "process_cc_data_flag", "additional_data_flag",
+                                       "em_data", "n", "z"};
     static const char *const payload[] = {"flags", "m"};
     static const char *const slot[] = {"full", "line", "reserved", "field"};
 
@@ -22,6 +24,8 @@ static const char *number_name(operation op, size_t i)
         return "len";
     if (op == AREA_READ)
         return unit[i - 2];
+    if (op == GA94_READ)
+        return ga94[i - 2];
     if (op == PAYLOAD_READ)
         return payload[i - 2];
     return i == 2 ? "counter" : slot[(i - 3) % 4];
@@ -59,8 +63,8 @@ static const char *broken_rule(const question *q, const outcome *got)
 {
     size_t untouched = 0;
 
-    if (got->numbers[0] > 15)
-        return "a number above 15";
+    if (got->numbers[0] > REFUSAL_MAX)
+        return "a number that no refusal has";
     for (size_t i = 2; got->numbers[0] != 0 && i < got->count; i++)
         if (got->numbers[i] != 0)
             return "a refusal that holds a value";

@@ -134,6 +134,17 @@ static captions_record take_record(cursor *c)
     return r;
 }
 
+static captions_ga94_record take_ga94_record(cursor *c)
+{
+    captions_ga94_record r;
+
+    r.cc_valid = take_small(c);
+    r.cc_type = take_small(c);
+    r.cc_data_1 = (uint8_t)take_hex(c, 2);
+    r.cc_data_2 = (uint8_t)take_hex(c, 2);
+    return r;
+}
+
 static captions_access_unit take_unit(cursor *c)
 {
     captions_access_unit u;
@@ -163,6 +174,21 @@ size_t take_record_list(cursor *c, captions_record *to)
     return len;
 }
 
+size_t take_ga94_list(cursor *c, captions_ga94_record *to)
+{
+    size_t len = 0;
+
+    if (take(c, '-'))
+        return 0;
+    do {
+        captions_ga94_record record = take_ga94_record(c);
+        for (size_t times = take_times(c); times > 0 && !c->bad; times--, len++)
+            if (len < CAPTIONS_RECORDS)
+                to[len] = record;
+    } while (!c->bad && take(c, ','));
+    return len;
+}
+
 size_t take_unit_list(cursor *c, captions_access_unit *to)
 {
     size_t len = 0;
@@ -176,6 +202,31 @@ size_t take_unit_list(cursor *c, captions_access_unit *to)
                 to[len] = unit;
     } while (!c->bad && take(c, ','));
     return len;
+}
+
+static uint32_t take_digit(cursor *c)
+{
+    bool one = take(c, '1');
+
+    if (!one)
+        need(c, '0');
+    return one;
+}
+
+void take_flags(cursor *c, ga94_value *to)
+{
+    uint32_t *const flags[] = {&to->process_em_data_flag, &to->process_cc_data_flag, &to->additional_data_flag};
+    const char *end = c->at;
+    bool decimals;
+
+    while (*end >= '0' && *end <= '9')
+        end++;
+    decimals = *end == '.';
+    for (size_t i = 0; i < 3 && !c->bad; i++) {
+        if (decimals && i > 0)
+            need(c, '.');
+        *flags[i] = decimals ? (uint32_t)take_number(c, UINT32_MAX) : take_digit(c);
+    }
 }
 
 void take_slots(cursor *c, packet_value *to)

@@ -19,7 +19,7 @@ typedef struct empty_case {
     size_t len;         /* how many elements a writer wrote */
 } empty_case;
 
-enum { UNIT_BYTES = 11 };
+enum { UNIT_BYTES = 11, GA94_BYTES = 15 };
 
 static const empty_case cases[] = {
     {"area_read: area", AREA_READ, true, false, true, 0, 0},
@@ -29,6 +29,13 @@ static const empty_case cases[] = {
     {"area_replace: area, a value that is not legal", AREA_REPLACE, true, false, false, 15, 0},
     {"area_replace: out", AREA_REPLACE, false, true, true, 14, 0},
     {"area_replace: area and out", AREA_REPLACE, true, true, true, 14, 0},
+    {"ga94_read: area", GA94_READ, true, false, true, 0, 0},
+    {"ga94_write: out", GA94_WRITE, false, true, true, 14, 0},
+    {"ga94_write: out, a value that is not legal", GA94_WRITE, false, true, false, 15, 0},
+    {"ga94_replace: area", GA94_REPLACE, true, false, true, 0, GA94_BYTES},
+    {"ga94_replace: area, a value that is not legal", GA94_REPLACE, true, false, false, 15, 0},
+    {"ga94_replace: out", GA94_REPLACE, false, true, true, 14, 0},
+    {"ga94_replace: area and out", GA94_REPLACE, true, true, true, 14, 0},
     {"packet_read: words", PACKET_READ, true, false, true, 5, 0},
     {"packet_write: out", PACKET_WRITE, false, true, true, 14, 0},
     {"packet_write: out, a value that is not legal", PACKET_WRITE, false, true, false, 15, 0},
@@ -69,6 +76,27 @@ static captions_written eager_area_replace(const uint8_t *area, size_t len, uint
     return captions_area_replace(area, len, reserved, flag, n, z, records, out, room);
 }
 
+static captions_ga94_unit eager_ga94_read(const uint8_t *area, size_t len, captions_ga94_record *records)
+{
+    touch(area);
+    return captions_ga94_read(area, len, records);
+}
+
+static captions_written eager_ga94_write(uint32_t em_flag, uint32_t cc_flag, uint32_t additional, uint32_t em_data, size_t n,
+                                         size_t z, const captions_ga94_record *records, uint8_t *out, size_t room)
+{
+    touch(out);
+    return captions_ga94_write(em_flag, cc_flag, additional, em_data, n, z, records, out, room);
+}
+
+static captions_written eager_ga94_replace(const uint8_t *area, size_t len, uint32_t em_flag, uint32_t cc_flag,
+                                           uint32_t additional, uint32_t em_data, size_t n, size_t z,
+                                           const captions_ga94_record *records, uint8_t *out, size_t room)
+{
+    touch(len == 0 ? area : out);
+    return captions_ga94_replace(area, len, em_flag, cc_flag, additional, em_data, n, z, records, out, room);
+}
+
 static captions_packet eager_packet_read(const uint16_t *words, size_t len, captions_row *rows)
 {
     touch(words);
@@ -94,8 +122,9 @@ static captions_written eager_payload_write(uint32_t flags, size_t m, const capt
     return captions_payload_write(flags, m, units, out, room);
 }
 
-static const calls eager_calls = {eager_area_read,    eager_unit_write,   eager_area_replace, eager_packet_read,
-                                  eager_packet_write, eager_payload_read, eager_payload_write};
+static const calls eager_calls = {eager_area_read,    eager_unit_write,   eager_area_replace, eager_ga94_read,
+                                  eager_ga94_write,   eager_ga94_replace, eager_packet_read,  eager_packet_write,
+                                  eager_payload_read, eager_payload_write};
 
 static void ask_eagerly(void *question_asked)
 {
@@ -122,6 +151,10 @@ static void make_question(const empty_case *c, side at)
     q.unit.vbi_data_flag = 1;
     q.unit.n = 1;
     q.unit.records[0] = (captions_record){0, 1, 11, 0x94, 0x2C};
+    q.ga94.process_cc_data_flag = 1;
+    q.ga94.em_data = c->legal ? 255 : 256;
+    q.ga94.n = 1;
+    q.ga94.records[0] = (captions_ga94_record){1, 0, 0x94, 0x2C};
     q.packet.counter = c->legal ? 4660 : 65536;
     q.payload.flags = c->legal ? 0 : 256;
     q.payload.m = 1;

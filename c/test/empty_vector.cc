@@ -59,6 +59,31 @@ static void areas()
     expect_refused("an area and no room", made.refusal, CAPTIONS_NO_ROOM);
 }
 
+static void ga94()
+{
+    const std::vector<uint8_t> none;
+    std::vector<uint8_t> no_room, out(64, 0xA5);
+    captions_ga94_record records[CAPTIONS_RECORDS];
+
+    std::memset(records, 0xA5, sizeof records);
+    captions_ga94_unit unit = captions_ga94_read(none.data(), none.size(), records);
+    expect_refused("an empty area is accepted for GA94", unit.refusal, CAPTIONS_ACCEPTED);
+    expect("an empty area has no GA94 unit", !unit.present && unit.em_data == 0 && unit.n == 0 && unit.z == 0);
+    expect("an empty area clears the GA94 records", is_all(records, 0));
+
+    captions_written made = captions_ga94_write(0, 1, 0, 255, 0, 0, records, no_room.data(), no_room.size());
+    expect_refused("a GA94 unit and no room", made.refusal, CAPTIONS_NO_ROOM);
+    made = captions_ga94_replace(none.data(), none.size(), 0, 1, 1, 255, 0, 0, records, no_room.data(), no_room.size());
+    expect_refused("a GA94 unit with its third flag set and no room", made.refusal, CAPTIONS_ADDITIONAL_DATA);
+    made = captions_ga94_replace(none.data(), none.size(), 0, 1, 0, 255, 0, 0, records, no_room.data(), no_room.size());
+    expect_refused("an empty area, a GA94 unit and no room", made.refusal, CAPTIONS_NO_ROOM);
+    made = captions_ga94_replace(none.data(), none.size(), 0, 1, 0, 255, 0, 0, records, out.data(), out.size());
+    expect_refused("a GA94 unit put into an empty area", made.refusal, CAPTIONS_ACCEPTED);
+    const uint8_t right[] = {0x00, 0x00, 0x01, 0xB2, 0x47, 0x41, 0x39, 0x34, 0x03, 0x40, 0xFF, 0xFF};
+    expect("the bytes of that GA94 unit", made.len == sizeof right && std::memcmp(out.data(), right, sizeof right) == 0);
+    expect("what stands behind that GA94 unit", out[made.len] == 0xA5);
+}
+
 static void packets()
 {
     const std::vector<uint16_t> none;
@@ -92,6 +117,7 @@ static void payloads()
 int main()
 {
     areas();
+    ga94();
     packets();
     payloads();
     std::printf("empty_vector: %d checks, %d differ; an empty vector gave %s\n", checks, wrong,

@@ -102,21 +102,66 @@ void legal_unit(dice *d, unit_value *to)
     legal_records(d, to);
 }
 
+/* ---- GA94 units ---- */
+
+void legal_ga94(dice *d, ga94_value *to)
+{
+    any_bytes(d, to->records, sizeof to->records);
+    to->process_em_data_flag = (uint32_t)below(d, 2);
+    to->process_cc_data_flag = (uint32_t)below(d, 2);
+    to->additional_data_flag = 0;
+    to->em_data = any_byte(d);
+    to->n = some_n(d);
+    to->z = chance(d, 60) ? 0 : below(d, chance(d, 80) ? 8 : 300);
+    for (size_t i = 0; i < to->n; i++) {
+        captions_ga94_record *record = &to->records[i];
+        bool zero = chance(d, 25); /* all four numbers 0 give the longest run of zeros in legal content */
+        record->cc_valid = zero && chance(d, 50) ? 0 : (uint8_t)below(d, 2);
+        record->cc_type = zero && chance(d, 50) ? 0 : (uint8_t)below(d, 4);
+        record->cc_data_1 = zero ? 0 : any_byte(d);
+        record->cc_data_2 = zero ? 0 : any_byte(d);
+    }
+}
+
 /* ---- Areas ---- */
 
-/* A foreign body may hold anything but a start code, and may not begin with 03. */
-static void make_foreign(uint8_t *body, size_t len)
+unit_kind kind_of(operation op)
 {
-    if (len > 0 && body[0] == 0x03)
+    return op == GA94_READ || op == GA94_WRITE || op == GA94_REPLACE ? GA94_KIND : SCTE20_KIND;
+}
+
+unit_kind other_kind(unit_kind kind)
+{
+    return kind == GA94_KIND ? SCTE20_KIND : GA94_KIND;
+}
+
+static const uint8_t identifier[] = {0x47, 0x41, 0x39, 0x34, 0x03};
+
+/* A foreign body may hold anything but a start code. It may not begin as one of our kind: with 03, or as GA94 does. */
+static void make_foreign(unit_kind kind, uint8_t *body, size_t len)
+{
+    if (kind == SCTE20_KIND && len > 0 && body[0] == 0x03)
         body[0] = 0x02;
+    if (kind == GA94_KIND && len >= 4 && memcmp(body, identifier, len > 4 ? 5 : 4) == 0)
+        body[len > 4 ? 4 : 3] = 0x05;
     for (size_t i = 2; i < len; i++)
         if (body[i - 2] == 0x00 && body[i - 1] == 0x00 && body[i] == 0x01)
             body[i] = 0x02;
 }
 
-static size_t foreign_body(dice *d, uint8_t *body)
+/* In front of a body: bytes that other user data begins with, or some of GA94's, often the identifier with another type. */
+static void foreign_front(dice *d, uint8_t *body, size_t len)
 {
-    static const uint8_t fronts[] = {0x02, 0x04, 0x00, 0x47, 0x13};
+    size_t alike = chance(d, 50) ? 4 : 1 + below(d, sizeof identifier);
+
+    if (chance(d, 30))
+        memcpy(body, identifier, alike < len ? alike : len);
+    else if (len > 0 && chance(d, 60))
+        body[0] = (const uint8_t[]){0x02, 0x04, 0x00, 0x03, 0x13}[below(d, 5)];
+}
+
+static size_t foreign_body(dice *d, unit_kind kind, uint8_t *body)
+{
     static const uint8_t near_start[] = {0x00, 0x00, 0x00, 0x01, 0xB2, 0x03};
     size_t len = chance(d, 20) ? 0 : 1 + below(d, chance(d, 80) ? 12 : 300);
     size_t tail = chance(d, 40) ? below(d, len + 1) : 0;
@@ -125,33 +170,60 @@ static size_t foreign_body(dice *d, uint8_t *body)
     for (size_t i = 0; i < len; i++)
         body[i] = style == 0 ? 0x00 : style == 1 ? near_start[below(d, sizeof near_start)] : any_byte(d);
     memset(body + len - tail, 0, tail);
-    if (len > 0 && chance(d, 60))
-        body[0] = fronts[below(d, sizeof fronts)];
-    make_foreign(body, len);
+    foreign_front(d, body, len);
+    make_foreign(kind, body, len);
     return len;
 }
 
-static size_t foreign_unit(dice *d, uint8_t *to)
+static size_t legal_of_kind(dice *d, unit_kind kind, area_map *map, uint8_t *to)
+{
+    if (kind == GA94_KIND) {
+        legal_ga94(d, &map->ga94);
+        return layout_ga94(&map->ga94, to);
+    }
+    legal_unit(d, &map->value);
+    return layout_unit(&map->value, to);
+}
+
+/* A unit of the other kind, in many cases cut short or with a wrong bit: here all of it is foreign. */
+static size_t unit_of_other_kind(dice *d, unit_kind kind, uint8_t *to)
+{
+    area_map unused;
+    uint8_t *body = to + LAYOUT_START;
+    size_t len = legal_of_kind(d, other_kind(kind), &unused, to) - LAYOUT_START;
+
+    if (chance(d, 20))
+        len = 1 + below(d, len);
+    if (chance(d, 20)) {
+        size_t bit = below(d, 8 * len);
+        body[bit / 8] ^= (uint8_t)(0x80 >> bit % 8);
+    }
+    make_foreign(kind, body, len);
+    return LAYOUT_START + len;
+}
+
+static size_t foreign_unit(dice *d, unit_kind kind, uint8_t *to)
 {
     static const uint8_t start[LAYOUT_START] = {0x00, 0x00, 0x01, 0xB2};
 
+    if (chance(d, 30))
+        return unit_of_other_kind(d, kind, to);
     memcpy(to, start, LAYOUT_START);
-    return LAYOUT_START + foreign_body(d, to + LAYOUT_START);
+    return LAYOUT_START + foreign_body(d, kind, to + LAYOUT_START);
 }
 
-void legal_area(dice *d, question *q, area_map *map)
+void legal_area(dice *d, question *q, unit_kind kind, area_map *map)
 {
     q->len = 0;
+    map->kind = kind;
     map->count = chance(d, 2) ? 0 : 1 + below(d, chance(d, 70) ? 4 : AREA_UNITS_MAX);
-    map->caption = chance(d, 85) && map->count > 0 ? below(d, map->count) : map->count;
+    map->ours = chance(d, 85) && map->count > 0 ? below(d, map->count) : map->count;
     for (size_t i = 0; i < map->count; i++) {
         map->starts[i] = q->len;
-        if (i == map->caption) {
-            legal_unit(d, &map->value);
-            q->len += layout_unit(&map->value, q->bytes + q->len);
-        } else {
-            q->len += foreign_unit(d, q->bytes + q->len);
-        }
+        if (i == map->ours)
+            q->len += legal_of_kind(d, kind, map, q->bytes + q->len);
+        else
+            q->len += foreign_unit(d, kind, q->bytes + q->len);
     }
     map->starts[map->count] = q->len;
 }
@@ -168,12 +240,12 @@ void stretch_area(dice *d, question *q, area_map *map, size_t len)
     end = map->starts[unit + 1];
     memmove(q->bytes + end + more, q->bytes + end, q->len - end);
     memset(q->bytes + end, 0, more);
-    if (unit == map->caption) {
-        map->value.z += more; /* zero bytes behind the content are stuffing */
+    if (unit == map->ours) {
+        *(map->kind == GA94_KIND ? &map->ga94.z : &map->value.z) += more; /* zero bytes behind the content are stuffing */
     } else if (chance(d, 50)) {
         for (size_t i = 0; i < more; i++)
             q->bytes[end + i] = any_byte(d);
-        make_foreign(q->bytes + body, end + more - body);
+        make_foreign(map->kind, q->bytes + body, end + more - body);
     }
     q->len += more;
     for (size_t i = unit + 1; i <= map->count; i++)

@@ -5,13 +5,15 @@
 
 #include "model.h"
 
-const calls library_calls = {captions_area_read,    captions_unit_write,   captions_area_replace, captions_packet_read,
-                             captions_packet_write, captions_payload_read, captions_payload_write};
-const calls model_calls = {model_area_read,    model_unit_write,   model_area_replace, model_packet_read,
-                           model_packet_write, model_payload_read, model_payload_write};
+const calls library_calls = {captions_area_read,    captions_unit_write,   captions_area_replace, captions_ga94_read,
+                             captions_ga94_write,   captions_ga94_replace, captions_packet_read,  captions_packet_write,
+                             captions_payload_read, captions_payload_write};
+const calls model_calls = {model_area_read,    model_unit_write,   model_area_replace, model_ga94_read,
+                           model_ga94_write,   model_ga94_replace, model_packet_read,  model_packet_write,
+                           model_payload_read, model_payload_write};
 
-const char *const operation_names[OPERATIONS] = {"area read",    "unit write",   "area replace", "packet read",
-                                                 "packet write", "payload read", "payload write"};
+const char *const operation_names[OPERATIONS] = {"area read",    "unit write",  "area replace", "ga94 read",    "ga94 write",
+                                                 "ga94 replace", "packet read", "packet write", "payload read", "payload write"};
 
 /* What one call is lent: an input, a second one (records, units, or slots with rows apart), and one output. */
 static arena first_arena, second_arena, rows_arena, output_arena;
@@ -33,7 +35,22 @@ void harness_open(void)
 
 bool is_writer(operation op)
 {
-    return op == UNIT_WRITE || op == AREA_REPLACE || op == PACKET_WRITE || op == PAYLOAD_WRITE;
+    return takes_unit(op) || takes_ga94(op) || op == PACKET_WRITE || op == PAYLOAD_WRITE;
+}
+
+bool takes_input(operation op)
+{
+    return !is_writer(op) || op == AREA_REPLACE || op == GA94_REPLACE;
+}
+
+bool takes_unit(operation op)
+{
+    return op == UNIT_WRITE || op == AREA_REPLACE;
+}
+
+bool takes_ga94(operation op)
+{
+    return op == GA94_WRITE || op == GA94_REPLACE;
 }
 
 size_t element_bytes(operation op)
@@ -48,6 +65,8 @@ static size_t output_size(const question *q)
     switch (q->op) {
     case AREA_READ:
         return CAPTIONS_RECORDS * sizeof(captions_record);
+    case GA94_READ:
+        return CAPTIONS_RECORDS * sizeof(captions_ga94_record);
     case PACKET_READ:
         return CAPTIONS_SLOTS * sizeof(captions_row);
     case PAYLOAD_READ:
@@ -80,16 +99,17 @@ static uint8_t *lend_copy(arena *a, side at, const void *from, size_t size)
 
 static void choose_inputs(const question *q, loan *l)
 {
-    bool reads_input = !is_writer(q->op) || q->op == AREA_REPLACE;
-
     l->first = q->op == PACKET_READ ? (const void *)q->words : q->bytes;
-    l->first_size = reads_input ? q->len * element_bytes(q->op) : 0;
+    l->first_size = takes_input(q->op) ? q->len * element_bytes(q->op) : 0;
     l->second = q->unit.records;
     l->second_size = 0;
     l->rows = q->packet.rows;
     l->rows_size = 0;
-    if (q->op == UNIT_WRITE || q->op == AREA_REPLACE) {
+    if (takes_unit(q->op)) {
         l->second_size = sizeof q->unit.records;
+    } else if (takes_ga94(q->op)) {
+        l->second = q->ga94.records;
+        l->second_size = sizeof q->ga94.records;
     } else if (q->op == PACKET_WRITE) {
         l->second = q->packet.slots;
         l->second_size = sizeof q->packet.slots;
@@ -159,6 +179,21 @@ static void set_unit(outcome *got, captions_unit answer)
     got->numbers[6] = answer.z;
 }
 
+static void set_ga94(outcome *got, captions_ga94_unit answer)
+{
+    uint8_t present;
+
+    memcpy(&present, &answer.present, 1);
+    set_refusal(got, answer.refusal);
+    got->numbers[2] = present;
+    got->numbers[3] = answer.process_em_data_flag;
+    got->numbers[4] = answer.process_cc_data_flag;
+    got->numbers[5] = answer.additional_data_flag;
+    got->numbers[6] = answer.em_data;
+    got->numbers[7] = answer.n;
+    got->numbers[8] = answer.z;
+}
+
 static void set_packet(outcome *got, captions_packet answer)
 {
     set_refusal(got, answer.refusal);
@@ -187,6 +222,7 @@ static void *given(const calls *who, const question *q, uint8_t *lent, size_t si
 static void call(const calls *who, const question *q, const loan *l, outcome *got)
 {
     const unit_value *u = &q->unit;
+    const ga94_value *g = &q->ga94;
     void *output = given(who, q, l->output_lent, l->output_size);
     const void *first = given(who, q, l->first_lent, l->first_size), *second = l->second_lent, *rows = l->rows_lent;
 
@@ -199,6 +235,17 @@ static void call(const calls *who, const question *q, const loan *l, outcome *go
         break;
     case AREA_REPLACE:
         set_written(got, who->area_replace(first, q->len, u->reserved, u->vbi_data_flag, u->n, u->z, second, output, q->room));
+        break;
+    case GA94_READ:
+        set_ga94(got, who->ga94_read(first, q->len, output));
+        break;
+    case GA94_WRITE:
+        set_written(got, who->ga94_write(g->process_em_data_flag, g->process_cc_data_flag, g->additional_data_flag, g->em_data,
+                                         g->n, g->z, second, output, q->room));
+        break;
+    case GA94_REPLACE:
+        set_written(got, who->ga94_replace(first, q->len, g->process_em_data_flag, g->process_cc_data_flag,
+                                           g->additional_data_flag, g->em_data, g->n, g->z, second, output, q->room));
         break;
     case PACKET_READ:
         set_packet(got, who->packet_read(first, q->len, output));
@@ -248,7 +295,7 @@ static bool do_spoil(spoil spoiling, const question *q, const loan *l, const out
 
 static size_t number_count(operation op)
 {
-    static const size_t counts[OPERATIONS] = {7, 3, 3, 23, 3, 4, 3};
+    static const size_t counts[OPERATIONS] = {7, 3, 3, 9, 3, 3, 23, 3, 4, 3};
 
     return counts[op];
 }

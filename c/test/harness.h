@@ -13,6 +13,9 @@ typedef enum operation {
     AREA_READ,
     UNIT_WRITE,
     AREA_REPLACE,
+    GA94_READ,
+    GA94_WRITE,
+    GA94_REPLACE,
     PACKET_READ,
     PACKET_WRITE,
     PAYLOAD_READ,
@@ -25,6 +28,7 @@ enum {
     OUTPUT_MAX = 40000, /* bytes of the longest lent output */
     WORDS_MAX = 1000,   /* words of the longest packet input or output */
     NUMBERS_MAX = 23,
+    REFUSAL_MAX = CAPTIONS_ADDITIONAL_DATA, /* the highest number of a refusal */
     FILL = 11 /* the pattern of vectors/: element i is i * 37 + 11 */
 };
 
@@ -37,6 +41,7 @@ typedef struct question {
     uint8_t bytes[INPUT_MAX]; /* an area or a payload */
     uint16_t words[WORDS_MAX];
     unit_value unit;
+    ga94_value ga94;
     packet_value packet;
     payload_value payload;
     size_t room; /* elements of a writer's output */
@@ -50,12 +55,17 @@ typedef struct outcome {
     const char *damage;         /* what became of memory that was not to be stored to; null where nothing did */
 } outcome;
 
-/* The seven calls of the library or of the model. */
+/* The ten calls of the library or of the model. */
 typedef struct calls {
     captions_unit (*area_read)(const uint8_t *, size_t, captions_record *);
     captions_written (*unit_write)(uint32_t, uint32_t, size_t, size_t, const captions_record *, uint8_t *, size_t);
     captions_written (*area_replace)(const uint8_t *, size_t, uint32_t, uint32_t, size_t, size_t, const captions_record *,
                                      uint8_t *, size_t);
+    captions_ga94_unit (*ga94_read)(const uint8_t *, size_t, captions_ga94_record *);
+    captions_written (*ga94_write)(uint32_t, uint32_t, uint32_t, uint32_t, size_t, size_t, const captions_ga94_record *,
+                                   uint8_t *, size_t);
+    captions_written (*ga94_replace)(const uint8_t *, size_t, uint32_t, uint32_t, uint32_t, uint32_t, size_t, size_t,
+                                     const captions_ga94_record *, uint8_t *, size_t);
     captions_packet (*packet_read)(const uint16_t *, size_t, captions_row *);
     captions_written (*packet_write)(uint32_t, const captions_slot *, const captions_row *, uint16_t *, size_t);
     captions_payload (*payload_read)(const uint8_t *, size_t, captions_access_unit *);
@@ -88,6 +98,9 @@ void outcome_begin(const question *q, outcome *o);
 const char *difference(const question *q, const outcome *expected, const outcome *got);
 
 bool is_writer(operation op);
+bool takes_input(operation op); /* an area, a packet or a payload: each reader does, and replacing */
+bool takes_unit(operation op);  /* the value of an SCTE 20 caption unit */
+bool takes_ga94(operation op);  /* the value of a GA94 unit */
 size_t element_bytes(operation op);
 
 /* All guard bytes of all arenas, not only the near ones. */

@@ -68,6 +68,41 @@ size_t layout_unit(const unit_value *value, uint8_t *out)
     return len;
 }
 
+/* ---- GA94 unit (RULES, "GA94", the table of the content) ---- */
+
+size_t layout_ga94_content_bytes(const ga94_value *value)
+{
+    return 8 + LAYOUT_GA94_TRIPLE * value->n;
+}
+
+static void put_triple(bit_row *row, const captions_ga94_record *record)
+{
+    put_bits(row, 31, 5); /* marker_bits */
+    put_bits(row, record->cc_valid, 1);
+    put_bits(row, record->cc_type, 2);
+    put_bits(row, record->cc_data_1, 8); /* as they are */
+    put_bits(row, record->cc_data_2, 8);
+}
+
+size_t layout_ga94(const ga94_value *value, uint8_t *out)
+{
+    static const uint8_t front[] = {0x00, 0x00, 0x01, 0xB2, 0x47, 0x41, 0x39, 0x34, 0x03};
+    size_t len = LAYOUT_START + layout_ga94_content_bytes(value) + value->z;
+    bit_row row = {out + sizeof front, 0};
+
+    memset(out, 0, len);
+    memcpy(out, front, sizeof front); /* start code, ATSC_identifier, user_data_type_code */
+    put_bits(&row, value->process_em_data_flag, 1);
+    put_bits(&row, value->process_cc_data_flag, 1);
+    put_bits(&row, value->additional_data_flag, 1);
+    put_bits(&row, (unsigned)value->n, 5); /* cc_count */
+    put_bits(&row, value->em_data, 8);
+    for (size_t i = 0; i < value->n; i++)
+        put_triple(&row, &value->records[i]);
+    put_bits(&row, 0xFF, 8); /* marker_bits; the stuffing is zero already */
+    return len;
+}
+
 /* ---- Subtitling packet (RULES, "Subtitling packet") ---- */
 
 uint16_t layout_word(uint8_t byte)

@@ -9,7 +9,7 @@
 
 #include "captions.h"
 
-/* The values of RULES: what a unit, a packet and a payload are written from. */
+/* The values of RULES: what a unit of either kind, a packet and a payload are written from. */
 typedef struct unit_value {
     uint32_t reserved;
     uint32_t vbi_data_flag;
@@ -17,6 +17,16 @@ typedef struct unit_value {
     size_t z;
     captions_record records[CAPTIONS_RECORDS];
 } unit_value;
+
+typedef struct ga94_value {
+    uint32_t process_em_data_flag;
+    uint32_t process_cc_data_flag;
+    uint32_t additional_data_flag;
+    uint32_t em_data;
+    size_t n;
+    size_t z;
+    captions_ga94_record records[CAPTIONS_RECORDS];
+} ga94_value;
 
 typedef struct packet_value {
     uint32_t counter;
@@ -34,6 +44,10 @@ enum {
     LAYOUT_START = 4,         /* 00 00 01 B2 */
     LAYOUT_CONSTRUCTS = 21,   /* the bit of a body at which the first construct begins: 8 + 7 + 1 + 5 */
     LAYOUT_CONSTRUCT = 26,    /* bits of a construct */
+    LAYOUT_GA94_FLAGS = 5,    /* the byte of a GA94 body that has the flags and cc_count */
+    LAYOUT_GA94_FIRST = 7,    /* the byte of a GA94 body at which the first construct begins */
+    LAYOUT_GA94_TRIPLE = 3,   /* bytes of a GA94 construct */
+    LAYOUT_UNIT_MAX = 4 + 104 + CAPTIONS_AREA_BYTES, /* bytes of the longest unit that layout_unit or layout_ga94 stores */
     LAYOUT_USER = 6,          /* the word of a packet at which the user words begin */
     LAYOUT_DESCRIPTORS = 10,  /* the word of the first descriptor */
     LAYOUT_STRUCTURES = 15,   /* the word at which the structures begin */
@@ -45,6 +59,10 @@ size_t layout_content_bytes(const unit_value *value);
 
 /* Stores start code, content and stuffing, and gives their length. The caller has the room, and n is at most 31. */
 size_t layout_unit(const unit_value *value, uint8_t *out);
+
+/* The same for a GA94 unit, whose content has 8 + 3n bytes. */
+size_t layout_ga94_content_bytes(const ga94_value *value);
+size_t layout_ga94(const ga94_value *value, uint8_t *out);
 
 /* The byte of a slot's descriptor. */
 uint8_t layout_descriptor(const captions_slot *slot);

@@ -1,94 +1,18 @@
-/* model.c: the picture area by RULES. The packet and the payload are in model_words.c. */
+/* model.c: SCTE 20 in a picture area by RULES. GA94 is in model_ga94.c, the packet and the payload in model_words.c. */
 #include "model.h"
 
 #include <string.h>
 
 #include "layout.h"
-
-/* ---- The units of an area (RULES, "Picture area", first paragraph) ---- */
-
-static bool prefix_at(const uint8_t *area, size_t len, size_t i)
-{
-    return i + 2 < len && area[i] == 0x00 && area[i + 1] == 0x00 && area[i + 2] == 0x01;
-}
-
-static bool start_code_at(const uint8_t *area, size_t len, size_t i)
-{
-    return prefix_at(area, len, i) && i + 3 < len && area[i + 3] == 0xB2;
-}
-
-/* A unit runs to the next 00 00 01 or to the end. */
-static size_t end_of_unit(const uint8_t *area, size_t len, size_t start)
-{
-    for (size_t i = start + 1; i < len; i++)
-        if (prefix_at(area, len, i))
-            return i;
-    return len;
-}
+#include "model_area.h"
 
 /* A caption unit is one whose body begins with 03. A unit may have no body. */
-static bool is_caption_unit(const uint8_t *area, size_t len, size_t start)
+static bool is_caption_unit(const uint8_t *body, size_t len)
 {
-    size_t body = start + LAYOUT_START;
-
-    return body < end_of_unit(area, len, start) && area[body] == 0x03;
-}
-
-/* The caption unit of an area: found or not, its first byte, and the byte behind it. */
-typedef struct caption_span {
-    bool found;
-    size_t start;
-    size_t end;
-} caption_span;
-
-/* The checks 1 to 4, each over the whole area before the next one. */
-static uint8_t find_caption_unit(const uint8_t *area, size_t len, caption_span *span)
-{
-    span->found = false;
-    if (len > CAPTIONS_AREA_BYTES)
-        return 1;
-    if (len > 0 && !start_code_at(area, len, 0))
-        return 2;
-    for (size_t i = 0; i < len; i++)
-        if (prefix_at(area, len, i) && !start_code_at(area, len, i))
-            return 3;
-    for (size_t i = 0; i < len; i++) {
-        if (!start_code_at(area, len, i) || !is_caption_unit(area, len, i))
-            continue;
-        if (span->found)
-            return 4;
-        span->found = true;
-        span->start = i;
-        span->end = end_of_unit(area, len, i);
-    }
-    return 0;
+    return len > 0 && body[0] == 0x03;
 }
 
 /* ---- The content of a caption unit (RULES, the table; most significant bit first) ---- */
-
-typedef struct bit_source {
-    const uint8_t *bytes;
-    size_t at;   /* in bits */
-    size_t left; /* in bits */
-} bit_source;
-
-static unsigned take_bit(bit_source *bits)
-{
-    unsigned bit = bits->bytes[bits->at / 8] >> (7 - bits->at % 8) & 1;
-
-    bits->at++;
-    bits->left--;
-    return bit;
-}
-
-static unsigned take_bits(bit_source *bits, unsigned count)
-{
-    unsigned value = 0;
-
-    while (count-- > 0)
-        value = value * 2 + take_bit(bits);
-    return value;
-}
 
 /* A data byte comes with its lowest bit first: bit i of the stream is worth 2 to the i. */
 static uint8_t take_data(bit_source *bits)
@@ -193,12 +117,12 @@ captions_unit model_area_read(const uint8_t *area, size_t len, captions_record *
 {
     captions_unit unit = {0};
     captions_record read[CAPTIONS_RECORDS] = {{0}};
-    caption_span span;
-    uint8_t refused = find_caption_unit(area, len, &span);
+    unit_span span;
+    uint8_t refused = model_find_unit(area, len, is_caption_unit, &span);
     size_t place = 0;
 
     if (refused == 0 && span.found) {
-        bit_source bits = {area + span.start + LAYOUT_START, 0, 8 * (span.end - span.start - LAYOUT_START)};
+        bit_source bits = model_body_bits(area, span);
         refused = read_content(&bits, &unit, read);
         place = span.start; /* a refusal inside a unit's body has that unit's first byte as its place */
         unit.present = true;
@@ -210,11 +134,6 @@ captions_unit model_area_read(const uint8_t *area, size_t len, captions_record *
 }
 
 /* ---- Writing (RULES, "Order of checks") ---- */
-
-static captions_written refusal(uint8_t number, size_t place)
-{
-    return (captions_written){.refusal = {number, place}};
-}
 
 /* The numbers of the whole value first, then each record in order: 15, 7, 8, 9. */
 static uint8_t judge_value(uint32_t reserved, uint32_t vbi_data_flag, size_t n, size_t z, const captions_record *records)
@@ -234,47 +153,27 @@ static uint8_t judge_value(uint32_t reserved, uint32_t vbi_data_flag, size_t n, 
     return 0;
 }
 
-/*
- * Writes `area` with the bytes of `span` given up for a new unit. Writing a unit by itself is this with nothing around it.
- * 1 and 14 are judged on the whole result.
- */
-static captions_written write_around(const uint8_t *area, size_t len, caption_span span, const unit_value *value, uint8_t *out,
-                                     size_t room)
+/* A legal value put in the place of `span`. The room for records beyond n is not looked at. */
+static captions_written put_value(const uint8_t *area, size_t len, unit_span span, unit_value *value,
+                                  const captions_record *records, uint8_t *out, size_t room)
 {
-    size_t unit_len = LAYOUT_START + layout_content_bytes(value) + value->z;
-    size_t whole = len - (span.end - span.start) + unit_len;
+    static uint8_t unit[LAYOUT_UNIT_MAX];
 
-    if (whole > CAPTIONS_AREA_BYTES)
-        return refusal(1, 0);
-    if (whole > room)
-        return refusal(14, 0);
-    memcpy(out, area, span.start);
-    layout_unit(value, out + span.start);
-    memcpy(out + span.start + unit_len, area + span.end, len - span.end);
-    return (captions_written){.len = whole};
-}
-
-/* The room for records beyond n is not looked at. */
-static unit_value value_of(uint32_t reserved, uint32_t vbi_data_flag, size_t n, size_t z, const captions_record *records)
-{
-    unit_value value = {.reserved = reserved, .vbi_data_flag = vbi_data_flag, .n = n, .z = z};
-
-    memcpy(value.records, records, n * sizeof *records);
-    return value;
+    memcpy(value->records, records, value->n * sizeof *records);
+    return model_put_unit(area, len, span, unit, layout_unit(value, unit), out, room);
 }
 
 captions_written model_unit_write(uint32_t reserved, uint32_t vbi_data_flag, size_t n, size_t z,
                                   const captions_record *records, uint8_t *out, size_t room)
 {
     static const uint8_t nothing[1] = {0};
-    caption_span nowhere = {false, 0, 0};
-    unit_value value;
+    unit_span nowhere = {false, 0, 0};
+    unit_value value = {.reserved = reserved, .vbi_data_flag = vbi_data_flag, .n = n, .z = z};
     uint8_t refused = judge_value(reserved, vbi_data_flag, n, z, records);
 
     if (refused != 0)
-        return refusal(refused, 0);
-    value = value_of(reserved, vbi_data_flag, n, z, records);
-    return write_around(nothing, 0, nowhere, &value, out, room);
+        return model_refusal(refused, 0);
+    return put_value(nothing, 0, nowhere, &value, records, out, room);
 }
 
 captions_written model_area_replace(const uint8_t *area, size_t len, uint32_t reserved, uint32_t vbi_data_flag, size_t n,
@@ -282,18 +181,17 @@ captions_written model_area_replace(const uint8_t *area, size_t len, uint32_t re
 {
     captions_record old_records[CAPTIONS_RECORDS];
     captions_unit old = model_area_read(area, len, old_records);
-    caption_span span;
-    unit_value value;
+    unit_value value = {.reserved = reserved, .vbi_data_flag = vbi_data_flag, .n = n, .z = z};
+    unit_span span;
     uint8_t refused;
 
     if (old.refusal.number != 0)
-        return refusal(old.refusal.number, old.refusal.place);
+        return model_refusal(old.refusal.number, old.refusal.place);
     refused = judge_value(reserved, vbi_data_flag, n, z, records);
     if (refused != 0)
-        return refusal(refused, 0);
-    find_caption_unit(area, len, &span);
+        return model_refusal(refused, 0);
+    model_find_unit(area, len, is_caption_unit, &span);
     if (!span.found)
         span.start = span.end = len; /* the new unit is put after the last byte */
-    value = value_of(reserved, vbi_data_flag, n, z, records);
-    return write_around(area, len, span, &value, out, room);
+    return put_value(area, len, span, &value, records, out, room);
 }

@@ -1,5 +1,5 @@
 /*
- * model.h: the seven calls of captions.h once more, written from document 01, the source of docs/RULES.md, alone.
+ * model.h: the ten calls of captions.h once more, written from documents 01, 02 and 003, the sources of docs/RULES.md.
  *
  * The model shares nothing with the library but the types of captions.h. It is meant to be read beside RULES: one check
  * after the other, in the order of checks, bit by bit, and slow.
@@ -16,6 +16,16 @@ captions_written model_unit_write(uint32_t reserved, uint32_t vbi_data_flag, siz
 
 captions_written model_area_replace(const uint8_t *area, size_t len, uint32_t reserved, uint32_t vbi_data_flag, size_t n,
                                     size_t z, const captions_record *records, uint8_t *out, size_t room);
+
+captions_ga94_unit model_ga94_read(const uint8_t *area, size_t len, captions_ga94_record *records);
+
+captions_written model_ga94_write(uint32_t process_em_data_flag, uint32_t process_cc_data_flag, uint32_t additional_data_flag,
+                                  uint32_t em_data, size_t n, size_t z, const captions_ga94_record *records, uint8_t *out,
+                                  size_t room);
+
+captions_written model_ga94_replace(const uint8_t *area, size_t len, uint32_t process_em_data_flag,
+                                    uint32_t process_cc_data_flag, uint32_t additional_data_flag, uint32_t em_data, size_t n,
+                                    size_t z, const captions_ga94_record *records, uint8_t *out, size_t room);
 
 captions_packet model_packet_read(const uint16_t *words, size_t len, captions_row *rows);
 

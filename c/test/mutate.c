@@ -80,7 +80,7 @@ static void mutate_bytes(dice *d, question *q)
 static void duplicate_unit(dice *d, question *q, const area_map *map)
 {
     static uint8_t copy[INPUT_MAX];
-    size_t unit = chance(d, 60) && map->caption < map->count ? map->caption : below(d, map->count);
+    size_t unit = chance(d, 60) && map->ours < map->count ? map->ours : below(d, map->count);
     size_t len = map->starts[unit + 1] - map->starts[unit];
 
     if (map->starts[unit + 1] > q->len)
@@ -108,27 +108,46 @@ static void break_start(dice *d, question *q, const area_map *map)
 {
     static const uint8_t prefix[] = {0x00, 0x00, 0x01, 0xB3};
 
+    size_t unit = map->starts[below(d, map->count)], front = 1 + below(d, 4);
+
     if (chance(d, 50))
-        insert(q, chance(d, 50) ? q->len : map->starts[below(d, map->count)], prefix, 1 + below(d, 4));
+        insert(q, chance(d, 50) ? q->len : unit, prefix, front);
     else if (map->starts[map->count - 1] + 3 < q->len)
-        q->bytes[map->starts[below(d, map->count)] + 3] = any_byte(d);
+        q->bytes[unit + 3] = any_byte(d);
 }
 
-/* ---- Changes inside the caption unit ---- */
+/* ---- Changes inside our unit ---- */
 
-/* The unit laid out again from a value with one number wrong, as far as its bits can hold that number. */
-static void relay_caption(dice *d, question *q, const area_map *map)
+static size_t relay_caption(dice *d, const area_map *map, uint8_t *to)
 {
-    static uint8_t unit[CAPTIONS_AREA_BYTES + 200];
     unit_value value = map->value;
-    size_t start = map->starts[map->caption], len = map->starts[map->caption + 1] - start;
 
     spoil_unit(d, &value);
     value.n %= 32;
     value.z %= 400;
     value.vbi_data_flag = value.n > 0 ? 1 : value.vbi_data_flag & 1;
+    return layout_unit(&value, to);
+}
+
+static size_t relay_ga94(dice *d, const area_map *map, uint8_t *to)
+{
+    ga94_value value = map->ga94;
+
+    spoil_ga94(d, &value);
+    value.n %= 32;
+    value.z %= 400;
+    return layout_ga94(&value, to);
+}
+
+/* The unit laid out again from a value with one number wrong, as far as its bits can hold that number. */
+static void relay_ours(dice *d, question *q, const area_map *map)
+{
+    static uint8_t unit[LAYOUT_UNIT_MAX];
+    size_t start = map->starts[map->ours], len = map->starts[map->ours + 1] - start;
+    size_t relaid = map->kind == GA94_KIND ? relay_ga94(d, map, unit) : relay_caption(d, map, unit);
+
     drop(q, start, len);
-    insert(q, start, unit, layout_unit(&value, unit));
+    insert(q, start, unit, relaid);
 }
 
 /* A bit of the count of sampled video, of the alignment, or of what follows. */
@@ -143,35 +162,74 @@ static void flip_behind_constructs(dice *d, question *q, const area_map *map, si
 static void flip_in_construct(dice *d, question *q, const area_map *map, size_t body)
 {
     static const uint8_t telling[] = {0, 1, 2, 3, 4, 5, 6, 7, 8, 25};
-    size_t n = map->value.n;
+    size_t n = map->value.n, bit = telling[below(d, sizeof telling)];
 
     if (n > 0)
-        flip_bit(q, 8 * body + LAYOUT_CONSTRUCTS + LAYOUT_CONSTRUCT * below(d, n) + telling[below(d, sizeof telling)]);
+        flip_bit(q, 8 * body + LAYOUT_CONSTRUCTS + LAYOUT_CONSTRUCT * below(d, n) + bit);
 }
 
-static void mutate_caption(dice *d, question *q, const area_map *map)
+/* A bit of what no value holds: a construct's marker bits, or the closing FF and the byte behind it. */
+static void flip_fixed_ga94(dice *d, question *q, const area_map *map, size_t body)
 {
-    size_t start = map->starts[map->caption], end = map->starts[map->caption + 1], body = start + LAYOUT_START;
+    bool marker = map->ga94.n > 0 && chance(d, 60);
+    size_t triples = marker ? below(d, map->ga94.n) : map->ga94.n;
+
+    flip_bit(q, 8 * (body + LAYOUT_GA94_FIRST + LAYOUT_GA94_TRIPLE * triples) + below(d, marker ? 5 : 16));
+}
+
+/* A bit in front of the constructs: identifier, type, flags and cc_count, em_data. The third flag is often the one. */
+static void flip_front_ga94(dice *d, question *q, size_t body)
+{
+    flip_bit(q, 8 * body + (chance(d, 50) ? 8 * LAYOUT_GA94_FLAGS + 2 : below(d, 8 * LAYOUT_GA94_FIRST)));
+}
+
+static void flip_ours(dice *d, question *q, const area_map *map, size_t body)
+{
+    bool first = chance(d, 33);
+
+    if (map->kind == GA94_KIND && first)
+        flip_front_ga94(d, q, body);
+    else if (map->kind == GA94_KIND)
+        flip_fixed_ga94(d, q, map, body);
+    else if (first)
+        flip_behind_constructs(d, q, map, body);
+    else
+        flip_in_construct(d, q, map, body);
+}
+
+/* Cut short; what follows stays whole. GA94 is often cut before its constructs, also with its third flag set. */
+static void cut_ours(dice *d, question *q, const area_map *map, size_t body, size_t end)
+{
+    size_t at = body + below(d, end - body);
+
+    if (map->kind == GA94_KIND && chance(d, 40)) {
+        at = body + LAYOUT_GA94_FLAGS - 1 + below(d, 4);
+        if (chance(d, 30))
+            q->bytes[body + LAYOUT_GA94_FLAGS] |= 0x20;
+    }
+    drop(q, at, end - at);
+}
+
+static void mutate_ours(dice *d, question *q, const area_map *map)
+{
+    size_t start = map->starts[map->ours], end = map->starts[map->ours + 1], body = start + LAYOUT_START;
 
     if (end > q->len)
         return;
     switch (below(d, 7)) {
     case 0:
-        relay_caption(d, q, map);
+        relay_ours(d, q, map);
         break;
     case 1:
-        flip_behind_constructs(d, q, map, body);
-        break;
     case 2:
     case 3:
-        flip_in_construct(d, q, map, body);
+        flip_ours(d, q, map, body);
         break;
     case 4: /* a piece taken out, of what follows too */
         drop(q, body + below(d, end - body), end - body);
         break;
-    case 5: /* cut short; what follows stays whole */
-        body += below(d, end - body);
-        drop(q, body, end - body);
+    case 5:
+        cut_ours(d, q, map, body, end);
         break;
     default:
         flip_bit(q, 8 * body + below(d, 8 * (end - body)));
@@ -181,13 +239,13 @@ static void mutate_caption(dice *d, question *q, const area_map *map)
 
 void mutate_area(dice *d, question *q, const area_map *map)
 {
-    bool caption = map->caption < map->count;
+    bool ours = map->ours < map->count;
     unsigned sort = (unsigned)below(d, 100);
 
     if (map->count == 0 || sort < 30)
         mutate_bytes(d, q);
-    else if (caption && sort < 80)
-        mutate_caption(d, q, map);
+    else if (ours && sort < 80)
+        mutate_ours(d, q, map);
     else if (sort < 88)
         duplicate_unit(d, q, map);
     else if (sort < 92)
@@ -213,7 +271,7 @@ static void mend_words(dice *d, question *q)
 /* A word that is always the same: the head, format and descriptors, the front of a structure, the footer. */
 static size_t telling_word(dice *d, const question *q)
 {
-    size_t structure = LAYOUT_STRUCTURES + LAYOUT_STRUCTURE * below(d, 6) + below(d, 3);
+    size_t first = LAYOUT_STRUCTURES + LAYOUT_STRUCTURE * below(d, 6), structure = first + below(d, 3);
 
     if (chance(d, 50))
         return below(d, LAYOUT_STRUCTURES);
@@ -273,7 +331,8 @@ void mutate_packet(dice *d, question *q)
         change_descriptor(d, q);
         break;
     default: /* DC or LENGTH alone */
-        q->words[chance(d, 50) ? 5 : 8] = layout_word((uint8_t)(13 + LAYOUT_STRUCTURE * below(d, 6)));
+        at = chance(d, 50) ? 5 : 8;
+        q->words[at] = layout_word((uint8_t)(13 + LAYOUT_STRUCTURE * below(d, 6)));
         break;
     }
     if (chance(d, 65))

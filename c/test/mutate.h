@@ -15,6 +15,7 @@ void mutate_packet(dice *d, question *q);
 
 /* Puts one number out of its range, or out of order. */
 void spoil_unit(dice *d, unit_value *value);
+void spoil_ga94(dice *d, ga94_value *value);
 void spoil_packet(dice *d, packet_value *value);
 void spoil_payload(dice *d, payload_value *value);
 

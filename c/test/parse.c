@@ -42,6 +42,18 @@ static void unit_fields(cursor *c, listing how, unit_value *to)
     to->z = number_field(c, "z", SIZE_MAX);
 }
 
+static void ga94_fields(cursor *c, listing how, ga94_value *to)
+{
+    memset(to->records, 0xFF, sizeof to->records);
+    field(c, "flags");
+    take_flags(c, to);
+    to->n = number_field(c, "n", SIZE_MAX);
+    to->em_data = (uint32_t)number_field(c, "em", UINT32_MAX);
+    field(c, "recs");
+    need_items(c, how, to->n, CAPTIONS_RECORDS, take_ga94_list(c, to->records));
+    to->z = number_field(c, "z", SIZE_MAX);
+}
+
 static void packet_fields(cursor *c, packet_value *to)
 {
     to->counter = (uint32_t)number_field(c, "counter", UINT32_MAX);
@@ -69,10 +81,12 @@ static void input_field(cursor *c, question *q)
 
 static void question_fields(cursor *c, question *q)
 {
-    if (!is_writer(q->op) || q->op == AREA_REPLACE)
+    if (takes_input(q->op))
         input_field(c, q);
-    if (q->op == UNIT_WRITE || q->op == AREA_REPLACE)
+    if (takes_unit(q->op))
         unit_fields(c, MORE_ALLOWED, &q->unit);
+    if (takes_ga94(q->op))
+        ga94_fields(c, MORE_ALLOWED, &q->ga94);
     if (q->op == PACKET_WRITE)
         packet_fields(c, &q->packet);
     if (q->op == PAYLOAD_WRITE)
@@ -85,10 +99,10 @@ static void question_fields(cursor *c, question *q)
 
 /* ---- The answer behind ` => ` ---- */
 
-/* `refused N at P`. What may follow as ` or P2` is of no use here: in the state `base`, P is what RULES says. */
+/* `refused N at P`. What may follow as ` or P2` is of no use here: P is what RULES says. */
 static void refused_answer(cursor *c, outcome *to)
 {
-    to->numbers[0] = take_number(c, 15);
+    to->numbers[0] = take_number(c, REFUSAL_MAX);
     for (const char *text = " at "; *text != '\0'; text++)
         need(c, *text);
     if (!c->bad)
@@ -137,6 +151,25 @@ static void unit_answer(cursor *c, outcome *to)
     to->numbers[6] = value.z;
 }
 
+static void ga94_answer(cursor *c, outcome *to)
+{
+    ga94_value value;
+
+    ga94_fields(c, ALL_COUNTED, &value);
+    if (c->bad || c->wide || value.n > CAPTIONS_RECORDS) {
+        c->bad = true;
+        return;
+    }
+    memcpy(to->memory, value.records, value.n * sizeof *value.records);
+    to->numbers[2] = 1;
+    to->numbers[3] = value.process_em_data_flag;
+    to->numbers[4] = value.process_cc_data_flag;
+    to->numbers[5] = value.additional_data_flag;
+    to->numbers[6] = value.em_data;
+    to->numbers[7] = value.n;
+    to->numbers[8] = value.z;
+}
+
 static void packet_answer(cursor *c, outcome *to)
 {
     packet_value value;
@@ -174,10 +207,12 @@ static void accepted_answer(cursor *c, const question *q, outcome *to)
         return;
     }
     memset(to->memory, 0, to->size); /* an accepted reader stores to all that it is lent */
-    if (q->op == AREA_READ && strcmp(c->at, " none") == 0)
+    if ((q->op == AREA_READ || q->op == GA94_READ) && strcmp(c->at, " none") == 0)
         c->at += strlen(" none");
     else if (q->op == AREA_READ)
         unit_answer(c, to);
+    else if (q->op == GA94_READ)
+        ga94_answer(c, to);
     else if (q->op == PACKET_READ)
         packet_answer(c, to);
     else
@@ -234,18 +269,32 @@ static parsed skipped(vector_line *to, const char *why)
     return PARSED_SKIPPED;
 }
 
+/*
+ * ` STATE ` behind the operation: `1`, the rules with request 1, or `base`, those before it. A file here holds only what is
+ * right today. Gives the TAG, or null.
+ */
+static const char *behind_state(const char *at)
+{
+    static const char *const states[] = {" 1 ", " base "};
+
+    for (size_t i = 0; i < sizeof states / sizeof *states; i++)
+        if (strncmp(at, states[i], strlen(states[i])) == 0)
+            return at + strlen(states[i]);
+    return NULL;
+}
+
 parsed parse_line(char *line, vector_line *to)
 {
-    static const char rules[] = " base ";
     char *arrow = strstr(line, " => ");
     cursor c = {NULL, false, false};
 
     to->kind = kind_of(line, &c.at);
     if (to->kind < 0)
         return bad(to, "an operation that is not known here");
-    if (strncmp(c.at, rules, strlen(rules)) != 0)
-        return bad(to, "rules that are not `base`");
-    c.at = strchr(c.at + strlen(rules), ' '); /* behind TAG, which has no meaning */
+    c.at = behind_state(c.at);
+    if (c.at == NULL)
+        return bad(to, "a state of the rules that is not known here");
+    c.at = strchr(c.at, ' '); /* behind TAG, which has no meaning */
     if (c.at == NULL || arrow == NULL || c.at > arrow)
         return bad(to, "a line without its parts");
     if (to->kind == KIND_AREA_UNITS)

@@ -15,10 +15,10 @@
 #include "show.h"
 #include "trips.h"
 
-enum { REFUSALS = 16, SHOWN_MAX = 5, SWEEP = 65536 };
+enum { REFUSALS = REFUSAL_MAX + 1, SHOWN_MAX = 5, SWEEP = 65536 };
 
-/* What replacing refuses for the area's sake has a row of its own, since 1, 7, 8 and 9 can come from the value too. */
-enum { ROW_REPLACE_AREA = OPERATIONS, ROWS };
+/* What replacing refuses for the area's sake has a row of its own, since 1, 7, 8, 9 and 16 can come from the value too. */
+enum { ROW_REPLACE_AREA = OPERATIONS, ROW_GA94_REPLACE_AREA, ROWS };
 
 typedef struct row {
     unsigned long cases, numbers[REFUSALS], placed[REFUSALS], differs, trips, trips_differ;
@@ -47,9 +47,12 @@ static void show_case(const char *differs)
 static row *row_of(void)
 {
     captions_record records[CAPTIONS_RECORDS];
+    captions_ga94_record ga94_records[CAPTIONS_RECORDS];
 
     if (q.op == AREA_REPLACE && model_calls.area_read(q.bytes, q.len, records).refusal.number != 0)
         return &rows[ROW_REPLACE_AREA];
+    if (q.op == GA94_REPLACE && model_calls.ga94_read(q.bytes, q.len, ga94_records).refusal.number != 0)
+        return &rows[ROW_GA94_REPLACE_AREA];
     return &rows[q.op];
 }
 
@@ -81,7 +84,7 @@ static void run_case(void)
 
 static const char *row_name(int i)
 {
-    return i == ROW_REPLACE_AREA ? "  area refused" : operation_names[i];
+    return i >= OPERATIONS ? "  area refused" : operation_names[i];
 }
 
 /* The refusals that RULES has for each operation; all others are 0. */
@@ -92,6 +95,10 @@ static bool can_refuse(int i, unsigned number)
         [UNIT_WRITE] = {15, 7, 8, 9, 1, 14},
         [AREA_REPLACE] = {15, 7, 8, 9, 1, 14},
         [ROW_REPLACE_AREA] = {1, 2, 3, 4, 5, 6, 7, 8, 9, 10},
+        [GA94_READ] = {1, 2, 3, 4, 5, 6, 16},
+        [GA94_WRITE] = {15, 16, 1, 14},
+        [GA94_REPLACE] = {15, 16, 1, 14},
+        [ROW_GA94_REPLACE_AREA] = {1, 2, 3, 4, 5, 6, 16},
         [PACKET_READ] = {1, 5, 2, 11, 6, 13, 7, 12},
         [PACKET_WRITE] = {15, 7, 14},
         [PAYLOAD_READ] = {2, 1, 13},
@@ -104,6 +111,8 @@ static bool can_refuse(int i, unsigned number)
 /* Refusals from inside a unit's body must also have come from a unit that is not the first. */
 static bool place_must_arise(int i, unsigned number)
 {
+    if (i == GA94_READ || i == ROW_GA94_REPLACE_AREA)
+        return number == 5 || number == 6 || number == 16;
     return (i == AREA_READ || i == ROW_REPLACE_AREA) && number >= 5 && number <= 10;
 }
 
@@ -131,7 +140,9 @@ static bool enough_accepted(int i)
 
     if (i == AREA_REPLACE)
         cases += rows[ROW_REPLACE_AREA].cases;
-    if (i != ROW_REPLACE_AREA && (accepted == 0 || accepted < cases / 3)) {
+    if (i == GA94_REPLACE)
+        cases += rows[ROW_GA94_REPLACE_AREA].cases;
+    if (i < OPERATIONS && (accepted == 0 || accepted < cases / 3)) {
         printf("%s: %lu of %lu cases accepted are fewer than a third\n", row_name(i), accepted, cases);
         return false;
     }
@@ -157,8 +168,9 @@ static void print_row(int i)
 /* `whole`: not some cases asked again, but a run in which everything must arise. */
 static bool report(bool whole)
 {
-    static const int order[ROWS] = {AREA_READ,   UNIT_WRITE,   AREA_REPLACE, ROW_REPLACE_AREA,
-                                    PACKET_READ, PACKET_WRITE, PAYLOAD_READ, PAYLOAD_WRITE};
+    static const int order[ROWS] = {AREA_READ,    UNIT_WRITE,   AREA_REPLACE,          ROW_REPLACE_AREA, GA94_READ,
+                                    GA94_WRITE,   GA94_REPLACE, ROW_GA94_REPLACE_AREA, PACKET_READ,      PACKET_WRITE,
+                                    PAYLOAD_READ, PAYLOAD_WRITE};
     bool good = true;
 
     printf("%-14s %8s %8s", "random", "cases", "accepted");

@@ -35,6 +35,20 @@ static void show_unit(const unit_value *u)
     printf(" z=%zu", u->z);
 }
 
+static void show_ga94(const ga94_value *g)
+{
+    bool bits = g->process_em_data_flag <= 1 && g->process_cc_data_flag <= 1 && g->additional_data_flag <= 1;
+
+    printf(bits ? " flags=%u%u%u" : " flags=%u.%u.%u", g->process_em_data_flag, g->process_cc_data_flag,
+           g->additional_data_flag);
+    printf(" n=%zu em=%u recs=", g->n, g->em_data);
+    for (size_t i = 0; i < CAPTIONS_RECORDS; i++) {
+        const captions_ga94_record *r = &g->records[i];
+        printf("%s%u.%u.%02X%02X", i > 0 ? "," : "", r->cc_valid, r->cc_type, r->cc_data_1, r->cc_data_2);
+    }
+    printf(" z=%zu", g->z);
+}
+
 static void show_packet(const packet_value *p)
 {
     printf(" counter=%u slots=", p->counter);
@@ -57,16 +71,18 @@ static void show_payload(const payload_value *p)
 
 void show_question(const question *q, const char *tag)
 {
-    printf("%s base %s", operation_names[q->op], tag);
-    if (!is_writer(q->op) || q->op == AREA_REPLACE) {
+    printf("%s 1 %s", operation_names[q->op], tag);
+    if (takes_input(q->op)) {
         printf(" in=");
         if (q->op == PACKET_READ)
             show_words((const uint8_t *)q->words, q->len);
         else
             show_bytes(q->bytes, q->len);
     }
-    if (q->op == UNIT_WRITE || q->op == AREA_REPLACE)
+    if (takes_unit(q->op))
         show_unit(&q->unit);
+    if (takes_ga94(q->op))
+        show_ga94(&q->ga94);
     if (q->op == PACKET_WRITE)
         show_packet(&q->packet);
     if (q->op == PAYLOAD_WRITE)

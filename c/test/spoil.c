@@ -122,6 +122,57 @@ void spoil_unit(dice *d, unit_value *value)
     }
 }
 
+/* ---- GA94 units ---- */
+
+static void spoil_ga94_record(dice *d, ga94_value *value)
+{
+    captions_ga94_record *record;
+
+    if (value->n == 0 || value->n > CAPTIONS_RECORDS) {
+        value->additional_data_flag = 1;
+        return;
+    }
+    record = &value->records[below(d, value->n)];
+    if (chance(d, 50))
+        record->cc_valid = small_above(d, 1);
+    else
+        record->cc_type = small_above(d, 3);
+}
+
+void spoil_ga94(dice *d, ga94_value *value)
+{
+    uint32_t *const flags[] = {&value->process_em_data_flag, &value->process_cc_data_flag, &value->additional_data_flag};
+    uint32_t *flag = flags[below(d, 3)];
+
+    switch (below(d, 9)) {
+    case 0:
+        *flag = (uint32_t)above(d, *flag, 1, 32);
+        break;
+    case 1:
+        value->em_data = (uint32_t)above(d, value->em_data, 255, 32);
+        break;
+    case 2:
+        value->n = above(d, value->n, CAPTIONS_RECORDS, 64);
+        break;
+    case 3:
+        value->z = above(d, value->z, CAPTIONS_AREA_BYTES, 64);
+        break;
+    case 4: /* a unit of 16,384 bytes, give or take some */
+        if (value->n <= CAPTIONS_RECORDS) {
+            size_t front = chance(d, 30) ? 2 : LAYOUT_START + layout_ga94_content_bytes(value);
+            value->z = CAPTIONS_AREA_BYTES + 2 - below(d, 5) - front;
+        }
+        break;
+    case 5:
+    case 6:
+        value->additional_data_flag = 1;
+        break;
+    default:
+        spoil_ga94_record(d, value);
+        break;
+    }
+}
+
 /* ---- Packets ---- */
 
 /* Any number that a uint8_t holds, with those around the limits often. */
@@ -134,7 +185,7 @@ static uint8_t any_line(dice *d)
 
 void spoil_packet(dice *d, packet_value *value)
 {
-    size_t i = below(d, CAPTIONS_SLOTS);
+    size_t i = below(d, CAPTIONS_SLOTS), bit;
     captions_slot *slot = &value->slots[i];
 
     switch (below(d, 8)) {
@@ -158,7 +209,8 @@ void spoil_packet(dice *d, packet_value *value)
         *slot = (captions_slot){1, 0, 0, 0};
         break;
     default: /* in an empty slot, one byte that may not be there */
-        value->rows[i].bytes[below(d, CAPTIONS_ROW_BYTES)] ^= (uint8_t)(1u << below(d, 8));
+        bit = below(d, 8 * CAPTIONS_ROW_BYTES);
+        value->rows[i].bytes[bit / 8] ^= (uint8_t)(1u << bit % 8);
         break;
     }
 }

@@ -30,9 +30,41 @@ static void expect_written(const void *from, size_t len)
     memcpy(expected.memory, from, len * element_bytes(back.op));
 }
 
-/* ---- Areas ---- */
+/* ---- Areas: the same for both kinds of unit ---- */
 
-static void value_read(const outcome *got, unit_value *to)
+static bool of_ga94(operation op)
+{
+    return op == GA94_READ || op == GA94_WRITE || op == GA94_REPLACE;
+}
+
+/* The reader of the question's kind, and that of the other. */
+static operation reader(const question *q)
+{
+    return of_ga94(q->op) ? GA94_READ : AREA_READ;
+}
+
+static operation other_reader(const question *q)
+{
+    return of_ga94(q->op) ? AREA_READ : GA94_READ;
+}
+
+static operation replacer(const question *q)
+{
+    return of_ga94(q->op) ? GA94_REPLACE : AREA_REPLACE;
+}
+
+static void ga94_read(const outcome *got, ga94_value *to)
+{
+    to->process_em_data_flag = (uint32_t)got->numbers[3];
+    to->process_cc_data_flag = (uint32_t)got->numbers[4];
+    to->additional_data_flag = (uint32_t)got->numbers[5];
+    to->em_data = (uint32_t)got->numbers[6];
+    to->n = got->numbers[7];
+    to->z = got->numbers[8];
+    memcpy(to->records, got->memory, sizeof to->records);
+}
+
+static void unit_read(const outcome *got, unit_value *to)
 {
     to->reserved = (uint32_t)got->numbers[3];
     to->vbi_data_flag = (uint32_t)got->numbers[4];
@@ -41,16 +73,45 @@ static void value_read(const outcome *got, unit_value *to)
     memcpy(to->records, got->memory, sizeof to->records);
 }
 
-static void expect_value(const unit_value *value)
+/* The value that was read becomes the one to write. */
+static void value_read(const outcome *got)
 {
-    outcome_begin(&back, &expected);
-    expected.numbers[2] = 1;
+    if (takes_ga94(back.op))
+        ga94_read(got, &back.ga94);
+    else
+        unit_read(got, &back.unit);
+}
+
+static void expect_ga94(const ga94_value *value)
+{
+    expected.numbers[3] = value->process_em_data_flag;
+    expected.numbers[4] = value->process_cc_data_flag;
+    expected.numbers[5] = value->additional_data_flag;
+    expected.numbers[6] = value->em_data;
+    expected.numbers[7] = value->n;
+    expected.numbers[8] = value->z;
+    memcpy(expected.memory, value->records, value->n * sizeof *value->records);
+}
+
+static void expect_unit(const unit_value *value)
+{
     expected.numbers[3] = value->reserved;
     expected.numbers[4] = value->vbi_data_flag;
     expected.numbers[5] = value->n;
     expected.numbers[6] = value->z;
-    memset(expected.memory, 0, expected.size);
     memcpy(expected.memory, value->records, value->n * sizeof *value->records);
+}
+
+/* Expects the value of q from a reader. */
+static void expect_value(const question *q)
+{
+    outcome_begin(&back, &expected);
+    expected.numbers[2] = 1;
+    memset(expected.memory, 0, expected.size);
+    if (back.op == GA94_READ)
+        expect_ga94(&q->ga94);
+    else
+        expect_unit(&q->unit);
 }
 
 static void lend_area(const uint8_t *bytes, size_t len)
@@ -59,46 +120,81 @@ static void lend_area(const uint8_t *bytes, size_t len)
     back.len = len;
 }
 
-/* The value of an area's caption unit, put in its place again, gives the same area. */
+/* The value of an area's unit, put in its place again, gives the same area. */
 static const char *after_area_read(const question *q, const outcome *got, unsigned long *made)
 {
     if (got->numbers[2] == 0)
         return NULL;
-    begin(AREA_REPLACE, q);
+    begin(replacer(q), q);
     lend_area(q->bytes, q->len);
-    value_read(got, &back.unit);
+    value_read(got);
     expect_written(q->bytes, q->len);
     return compare(made);
 }
 
 /* A unit, or an area with a unit put in, has the value that was written. */
-static const char *after_unit(const question *q, const outcome *got, unsigned long *made)
+static const char *is_there(const question *q, const outcome *got, unsigned long *made)
 {
-    begin(AREA_READ, q);
+    begin(reader(q), q);
     lend_area(got->memory, got->numbers[2]);
-    expect_value(&q->unit);
+    expect_value(q);
     return compare(made);
 }
 
-/* The old value put back gives the old area. */
-static const char *after_replace(const question *q, const outcome *got, unsigned long *made)
+/* A unit by itself is foreign to the reader of the other kind, which finds none. */
+static const char *after_unit(const question *q, const outcome *got, unsigned long *made)
 {
-    const char *differs = after_unit(q, got, made);
+    const char *differs = is_there(q, got, made);
 
     if (differs != NULL)
         return differs;
-    begin(AREA_READ, q);
+    begin(other_reader(q), q);
+    lend_area(got->memory, got->numbers[2]);
+    outcome_begin(&back, &expected);
+    memset(expected.memory, 0, expected.size);
+    return compare(made);
+}
+
+/* The reader of the other kind answers for the new area as for the old one. A place may move with its unit. */
+static const char *other_is_kept(const question *q, const outcome *got, unsigned long *made)
+{
+    size_t moved = (size_t)got->numbers[2] - q->len;
+
+    begin(other_reader(q), q);
+    lend_area(q->bytes, q->len);
+    ask(&library_calls, &back, SPOIL_NOTHING, &expected);
+    lend_area(got->memory, got->numbers[2]);
+    ask(&library_calls, &back, SPOIL_NOTHING, &answer);
+    if (expected.numbers[0] != 0 && answer.numbers[1] == expected.numbers[1] + moved)
+        expected.numbers[1] += moved;
+    ++*made;
+    return difference(&back, &expected, &answer);
+}
+
+/* The old value put back gives the old area. */
+static const char *is_put_back(const question *q, const outcome *got, unsigned long *made)
+{
+    begin(reader(q), q);
     lend_area(q->bytes, q->len);
     ask(&library_calls, &back, SPOIL_NOTHING, &answer);
     if (answer.numbers[0] != 0)
         return "an area that was replaced in but is not read";
     if (answer.numbers[2] == 0)
         return NULL;
-    begin(AREA_REPLACE, q);
+    begin(replacer(q), q);
     lend_area(got->memory, got->numbers[2]);
-    value_read(&answer, &back.unit);
+    value_read(&answer);
     expect_written(q->bytes, q->len);
     return compare(made);
+}
+
+static const char *after_replace(const question *q, const outcome *got, unsigned long *made)
+{
+    const char *differs = is_there(q, got, made);
+
+    if (differs == NULL)
+        differs = other_is_kept(q, got, made);
+    return differs != NULL ? differs : is_put_back(q, got, made);
 }
 
 /* ---- Packets ---- */
@@ -161,8 +257,8 @@ static const char *after_payload_write(const question *q, const outcome *got, un
 const char *round_trip(const question *q, const outcome *got, unsigned long *made)
 {
     static const char *(*const trips[OPERATIONS])(const question *, const outcome *, unsigned long *) = {
-        after_area_read,    after_unit,         after_replace,      after_packet_read,
-        after_packet_write, after_payload_read, after_payload_write};
+        after_area_read,   after_unit,         after_replace,      after_area_read,    after_unit,
+        after_replace,     after_packet_read,  after_packet_write, after_payload_read, after_payload_write};
 
     return trips[q->op](q, got, made);
 }

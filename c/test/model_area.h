@@ -1,0 +1,40 @@
+/* model_area.h: what the two models of a picture area share: its units, bits in order, and a unit put into an area. */
+#ifndef MODEL_AREA_H
+#define MODEL_AREA_H
+
+#include "captions.h"
+
+/* Our unit of an area: found or not, its first byte, and the byte behind it. */
+typedef struct unit_span {
+    bool found;
+    size_t start;
+    size_t end;
+} unit_span;
+
+/* Whether a unit with this body is one of ours. */
+typedef bool ours(const uint8_t *body, size_t len);
+
+/* The checks 1 to 4, each over the whole area before the next one. Gives the number, 0 where all hold. */
+uint8_t model_find_unit(const uint8_t *area, size_t len, ours *is_ours, unit_span *span);
+
+/* Bits of a body, most significant first. */
+typedef struct bit_source {
+    const uint8_t *bytes;
+    size_t at;   /* in bits */
+    size_t left; /* in bits */
+} bit_source;
+
+bit_source model_body_bits(const uint8_t *area, unit_span span);
+unsigned take_bit(bit_source *bits);
+unsigned take_bits(bit_source *bits, unsigned count);
+
+captions_written model_refusal(uint8_t number, size_t place);
+
+/*
+ * Writes `area` with the bytes of `span` given up for a unit that is laid out already. Writing a unit by itself is this with
+ * nothing around it. 1 and 14 are judged on the whole result.
+ */
+captions_written model_put_unit(const uint8_t *area, size_t len, unit_span span, const uint8_t *unit, size_t unit_len,
+                                uint8_t *out, size_t room);
+
+#endif
