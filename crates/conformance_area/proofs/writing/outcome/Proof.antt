@@ -1,11 +1,11 @@
--- `conformance::unit_writing::outcome` is safe: the parts that it lends are within their room. Assumes nothing.
+-- `conformance_area::writing::outcome` is safe: the parts that it lends are within their room. Assumes nothing.
 use mathlib.Core.Path.{sym}
 use native.Mathlib.Omega.{arith}
 use lib.ListN.{length-take}
 use lib.Seq.{length-take-le}
 use borrow.Author.Needs.{needs}
-use Rattle.conformance.proofs.unit_writing.outcome.Statement.{statement}
-use Rattle.conformance.proofs.unit_writing.outcome.Tie as tie
+use Rattle.conformance_area.proofs.writing.outcome.Statement.{statement}
+use Rattle.conformance_area.proofs.writing.outcome.Tie as tie
 
 slice-aggregate-agrees : tie.Need-slice-aggregate-agrees
 slice-aggregate-agrees c = sym (length-take-le _ _ (omega arith))
@@ -20,16 +20,16 @@ pub outcome-spec : {M : Type 1} → statement M
 outcome-spec =
     tie.close
     (tie.spec
+    (λ c κs. search needs)
     (λ c. search needs)
     (λ c κs. search needs)
     (λ c. search needs)
     (λ c. search needs)
-    (λ c κs. search needs)
-    (λ c. search needs)
-    (λ c. search needs)
-    (λ c. search needs)
     (λ c. search needs)
     (λ c κs. search needs)
+    (λ c. search needs)
+    (λ c. search needs)
+    (λ c. search needs)
     (λ c. search needs)
     slice-aggregate-agrees
     (λ c. search needs)

@@ -1,8 +1,8 @@
--- `conformance::unit_writing::unit_of` is safe and ends: the measure is how many records are left. Assumes nothing.
+-- `conformance_area::unit_value::unit_of` is safe and ends: the measure is how many records are left. Assumes nothing.
 use Prim.Native.Nat.{_≤_, _-_}
 use borrow.Author.Needs.{needs}
-use Rattle.conformance.proofs.unit_writing.unit_of.Statement.{statement}
-use Rattle.conformance.proofs.unit_writing.unit_of.Tie as tie
+use Rattle.conformance_area.proofs.unit_value.unit_of.Statement.{statement}
+use Rattle.conformance_area.proofs.unit_value.unit_of.Tie as tie
 
 abbrev Inv-loop : tie.InvT-loop
 Inv-loop input records₀ i₀ records i = i ≤ 31
@@ -26,14 +26,10 @@ unit-of-spec =
     (λ c. search needs)
     (λ c. search needs)
     (λ c. search needs)
-    (λ c. search needs)
-    (λ c. search needs)
-    (λ c. search needs)
-    (λ c. search needs)
+    (λ c κs. search needs)
+    (λ c κs. search needs)
+    (λ c κs. search needs)
     (λ c. search needs)
     (λ c κs. search needs)
     (λ c. search needs)
-    (λ c. search needs)
-    (λ c. search needs)
-    (λ c κs. search needs)
     (λ c. search needs))

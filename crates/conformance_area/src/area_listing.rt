@@ -1,7 +1,7 @@
 // The vectors of what `cclist` prints for an area, which is INPUT. EXPECTED is the text.
-use crate::Outcome;
-use crate::judged;
 use listing::ROOM;
+use vectors::Outcome;
+use vectors::judged;
 
 pub(crate) fn outcome(input: &[u8], expected: &[u8]) -> Outcome {
     let text = listing::text_of(picture::read(input));

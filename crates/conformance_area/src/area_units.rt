@@ -2,14 +2,14 @@
 // (4).
 ghost use Prim.Native.Nat.{_≤_};
 ghost use lib.ListN.{length};
-use crate::Outcome;
 use crate::ROOM;
-use crate::judged;
 use kind::Kind;
 use refusal::Verdict;
 use units::Found;
 use units::MAX_BYTES;
 use units::START_BYTES;
+use vectors::Outcome;
+use vectors::judged;
 
 // Before the units of an answer.
 const HEAD: usize = 5;

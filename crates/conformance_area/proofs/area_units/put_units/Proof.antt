@@ -1,11 +1,11 @@
--- `conformance::area_units::put_units` is safe and ends: the measure is how many bytes are left, since the next unit begins behind this one's
+-- `conformance_area::area_units::put_units` is safe and ends: the measure is how many bytes are left, since the next unit begins behind this one's
 -- start bytes. So a unit has four bytes or more, and its eight bytes of answer keep within the invariant. Assumes nothing.
 use Prim.Native.Nat.{_≤_, _+_, _*_, _-_}
 use mathlib.Core.Path.{_≡_}
 use lib.ListN.{length}
 use borrow.Author.Needs.{needs}
-use Rattle.conformance.proofs.area_units.put_units.Statement.{statement}
-use Rattle.conformance.proofs.area_units.put_units.Tie as tie
+use Rattle.conformance_area.proofs.area_units.put_units.Statement.{statement}
+use Rattle.conformance_area.proofs.area_units.put_units.Tie as tie
 
 abbrev Inv-loop : tie.InvT-loop
 Inv-loop s out₀ at₀ k₀ out at k = (k ≤ 5 + 2 * at) × (length out ≡ length out₀)

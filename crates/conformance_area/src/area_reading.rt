@@ -1,11 +1,11 @@
 // The vectors of reading an area, which is INPUT. EXPECTED is number (1 byte), place (4), 1 where a caption unit stands (1), reserved (1), flag (1), n (4),
 // z (4), then all 31 records of 5 bytes, zeros beyond n, so that unused room is compared too.
 ghost use Prim.Native.Nat.{_<_};
-use crate::Outcome;
-use crate::judged;
 use picture::Answer;
 use scte20::MAX_RECORDS;
 use scte20::Record;
+use vectors::Outcome;
+use vectors::judged;
 
 const HEAD: usize = 16;
 

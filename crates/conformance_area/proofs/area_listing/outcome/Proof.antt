@@ -1,11 +1,11 @@
--- `conformance::area_listing::outcome` is safe: the bytes that it lends are within their room. Assumes nothing.
+-- `conformance_area::area_listing::outcome` is safe: the bytes that it lends are within their room. Assumes nothing.
 use mathlib.Core.Path.{_≡_, sym}
 use native.Mathlib.Omega.{arith}
 use lib.ListN.{length, length-map}
 use lib.Seq.{length-take-le}
 use borrow.Author.Needs.{needs}
-use Rattle.conformance.proofs.area_listing.outcome.Statement.{statement}
-use Rattle.conformance.proofs.area_listing.outcome.Tie as tie
+use Rattle.conformance_area.proofs.area_listing.outcome.Statement.{statement}
+use Rattle.conformance_area.proofs.area_listing.outcome.Tie as tie
 
 -- the text's array is as long as its type says
 room : (c : tie.After-text-of) → length (c .text-of .result .bytes) ≡ 640

@@ -1,10 +1,10 @@
--- `conformance::unit_writing::agrees` is safe: the parts that it lends are within the answer's room. Assumes nothing.
+-- `conformance_area::writing::agrees` is safe: the parts that it lends are within the answer's room. Assumes nothing.
 use mathlib.Core.Path.{sym}
 use native.Mathlib.Omega.{arith}
 use borrow.Author.Needs.{needs}
 use lib.Seq.{length-take-le}
-use Rattle.conformance.proofs.unit_writing.agrees.Statement.{statement}
-use Rattle.conformance.proofs.unit_writing.agrees.Tie as tie
+use Rattle.conformance_area.proofs.writing.agrees.Statement.{statement}
+use Rattle.conformance_area.proofs.writing.agrees.Tie as tie
 
 slice-aggregate-same : tie.Need-slice-aggregate-same
 slice-aggregate-same c = sym (length-take-le _ _ (omega arith))

@@ -1,8 +1,8 @@
--- `conformance::area_reading::answer_of` is safe and ends: the measure is how many records are left. Assumes nothing.
+-- `conformance_area::area_reading::answer_of` is safe and ends: the measure is how many records are left. Assumes nothing.
 use Prim.Native.Nat.{_≤_, _-_}
 use borrow.Author.Needs.{needs}
-use Rattle.conformance.proofs.area_reading.answer_of.Statement.{statement}
-use Rattle.conformance.proofs.area_reading.answer_of.Tie as tie
+use Rattle.conformance_area.proofs.area_reading.answer_of.Statement.{statement}
+use Rattle.conformance_area.proofs.area_reading.answer_of.Tie as tie
 
 abbrev Inv-loop : tie.InvT-loop
 Inv-loop input unit out₀ i₀ out i = i ≤ 31
