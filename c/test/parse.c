@@ -85,7 +85,7 @@ static void question_fields(cursor *c, question *q)
 
 /* ---- The answer behind ` => ` ---- */
 
-/* `refused N at P`. What may follow as ` or P2` is of no use here: in the state `base`, P is what RULES says. */
+/* `refused N at P`. What may follow as ` or P2` is of no use here: in the state `1`, P is what RULES says. */
 static void refused_answer(cursor *c, outcome *to)
 {
     to->numbers[0] = take_number(c, 15);
@@ -204,9 +204,9 @@ static void answer(cursor *c, const question *q, outcome *to)
 
 const char *kind_name(int kind)
 {
-    if (kind < OPERATIONS)
-        return operation_names[kind];
-    return kind == KIND_AREA_UNITS ? "area units" : "area cclist";
+    static const char *const others[] = {"area units", "area cclist", "ga94 read", "ga94 replace", "ga94 write"};
+
+    return kind < OPERATIONS ? operation_names[kind] : others[kind - OPERATIONS];
 }
 
 /* `CARRIAGE OPERATION ` at the front of a line: its kind, or -1. */
@@ -236,7 +236,7 @@ static parsed skipped(vector_line *to, const char *why)
 
 parsed parse_line(char *line, vector_line *to)
 {
-    static const char rules[] = " base ";
+    static const char rules[] = " 1 ";
     char *arrow = strstr(line, " => ");
     cursor c = {NULL, false, false};
 
@@ -244,7 +244,7 @@ parsed parse_line(char *line, vector_line *to)
     if (to->kind < 0)
         return bad(to, "an operation that is not known here");
     if (strncmp(c.at, rules, strlen(rules)) != 0)
-        return bad(to, "rules that are not `base`");
+        return bad(to, "rules that are not `1`");
     c.at = strchr(c.at + strlen(rules), ' '); /* behind TAG, which has no meaning */
     if (c.at == NULL || arrow == NULL || c.at > arrow)
         return bad(to, "a line without its parts");
@@ -252,6 +252,8 @@ parsed parse_line(char *line, vector_line *to)
         return skipped(to, "captions.h has no call that lists units");
     if (to->kind == KIND_AREA_CCLIST)
         return skipped(to, "it is the text of the program cclist");
+    if (to->kind > KIND_AREA_CCLIST)
+        return skipped(to, "captions.h has no call for GA94");
     *arrow = '\0';
     to->q.op = (operation)to->kind;
     to->q.fill = FILL;

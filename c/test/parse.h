@@ -11,10 +11,10 @@ typedef enum parsed {
 } parsed;
 
 /* The kinds of lines that are known but not asked stand behind the operations. */
-enum { KIND_AREA_UNITS = OPERATIONS, KIND_AREA_CCLIST, KINDS };
+enum { KIND_AREA_UNITS = OPERATIONS, KIND_AREA_CCLIST, KIND_GA94_READ, KIND_GA94_REPLACE, KIND_GA94_WRITE, KINDS };
 
 typedef struct vector_line {
-    int kind;        /* an operation, KIND_AREA_UNITS or KIND_AREA_CCLIST; -1 where it is bad */
+    int kind;        /* an operation, or one of these; -1 where it is bad */
     const char *why; /* for a line that is skipped or bad */
     question q;
     outcome expected;

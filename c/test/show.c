@@ -57,7 +57,7 @@ static void show_payload(const payload_value *p)
 
 void show_question(const question *q, const char *tag)
 {
-    printf("%s base %s", operation_names[q->op], tag);
+    printf("%s 1 %s", operation_names[q->op], tag);
     if (!is_writer(q->op) || q->op == AREA_REPLACE) {
         printf(" in=");
         if (q->op == PACKET_READ)

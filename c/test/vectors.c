@@ -14,7 +14,7 @@
 #include "alter.h"
 #include "parse.h"
 
-enum { REASONS_MAX = 8 };
+enum { REASONS_MAX = 12 };
 
 typedef struct kind_tally {
     unsigned long lines, asked, accepted, refused, skipped, library_differs, model_differs;
