@@ -111,7 +111,7 @@ pub fn print_wrong(t: Tally) {
 }
 
 // Names a vector that did not do what it is to do. One that is wrong on purpose is to differ.
-pub fn tell(line: &[u8], outcome: Outcome) {
+pub fn print_outcome(line: &[u8], outcome: Outcome) {
     let is_wrong = is_wrong(line);
     match outcome {
         Outcome::Agrees => {
