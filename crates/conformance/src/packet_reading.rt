@@ -2,12 +2,12 @@
 // then the five slots, all zero in a refusal.
 ghost use Prim.Native.Nat.{_+_, _≤_};
 ghost use lib.ListN.{length};
-use crate::Outcome;
-use crate::judged;
 use refusal::Refusal;
 use sdp::ROW_BYTES;
 use sdp::SLOTS;
 use sdp::Slot;
+use vectors::Outcome;
+use vectors::judged;
 
 // An input must fit: some are far longer than a packet may be.
 const INPUT_WORDS: usize = 32768;

@@ -2,15 +2,15 @@
 // (1), place (4), len (4), then the words of the whole output as the call leaves it.
 ghost use Prim.Native.Nat.{_+_, _*_, _≤_, _<_};
 ghost use lib.ListN.{length};
-use crate::Outcome;
 use crate::ROOM;
-use crate::judged;
 use crate::packet_reading::SLOT;
 use sdp::OddEven;
 use sdp::Packet;
 use sdp::ROW_BYTES;
 use sdp::SLOTS;
 use sdp::Slot;
+use vectors::Outcome;
+use vectors::judged;
 
 // A lent output must fit.
 const OUT_WORDS: usize = 20480;
@@ -76,15 +76,9 @@ fn packet_of(input: &[u8]) -> Packet {
         i += 1;
     }
     Packet {
-        counter: counter_of(input),
+        counter: vectors::long(input, 4),
         slots,
     }
-}
-
-fn counter_of(input: &[u8]) -> u32 {
-    let high = vectors::word(input, 4) as u32;
-    let low = vectors::word(input, 6) as u32;
-    high * 65536 + low
 }
 
 fn slot_at(input: &[u8], at: usize) -> Slot

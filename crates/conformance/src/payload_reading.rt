@@ -1,12 +1,12 @@
 // The vectors of reading a payload, which is INPUT. EXPECTED is number (1 byte), place (4), flags (1), m
 // (4), then all 291 units of 7 bytes, zeros beyond m, so that unused room is compared too.
 ghost use Prim.Native.Nat.{_<_};
-use crate::Outcome;
-use crate::judged;
 use line21::AccessUnit;
 use line21::MAX_UNITS;
 use line21::One;
 use refusal::Refusal;
+use vectors::Outcome;
+use vectors::judged;
 
 const HEAD: usize = 10;
 

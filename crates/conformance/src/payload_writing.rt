@@ -2,12 +2,12 @@
 // are zero. EXPECTED is number (1), place (4), len (4), then the whole output as the call leaves it.
 ghost use Prim.Native.Nat.{_+_, _≤_, _<_};
 ghost use lib.ListN.{length};
-use crate::Outcome;
 use crate::ROOM;
-use crate::judged;
 use line21::AccessUnit;
 use line21::MAX_UNITS;
 use line21::Payload;
+use vectors::Outcome;
+use vectors::judged;
 
 // Before the units of an input, and before the output in an answer.
 const HEAD: usize = 9;

@@ -16,6 +16,10 @@ numberPut s at n =
 abbrev pub wordIn : List ℕ → ℕ → ℕ
 wordIn s at = getD s at 0 * 256 + getD s (at + 1) 0
 
+-- the number in the four bytes from an index on
+abbrev pub longIn : List ℕ → ℕ → ℕ
+longIn s at = wordIn s at * 65536 + wordIn s (at + 2)
+
 -- a list with the two bytes of a word at an index; those that lie beyond the end are left out
 abbrev pub wordPut : List ℕ → ℕ → ℕ → List ℕ
 wordPut s at w = set (set s at (w / 256)) (at + 1) (w % 256)

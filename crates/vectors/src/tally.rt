@@ -1,7 +1,27 @@
 // Counting vectors, and saying what became of them.
 ghost use mathlib.Core.Path.{_≡_};
-ghost use Rattle.vectors.specs.Tallies.{talliedOf, oneMore};
+ghost use mathlib.Core.Bool.{not};
+ghost use Rattle.vectors.specs.Tallies.{agreed, differed, judgedOf, talliedOf, oneMore};
 use crate::line::field;
+use crate::line::is_wrong;
+use crate::line::unmarked;
+
+// What became of a vector.
+pub enum Outcome {
+    Agrees,
+    Differs,
+    Unreadable,
+}
+
+pub fn judged(agrees: bool) -> Outcome
+    ensures { λ r. ⌜ r ≡ judgedOf agrees ⌝ }
+{
+    if agrees {
+        Outcome::Agrees
+    } else {
+        Outcome::Differs
+    }
+}
 
 // How many vectors ran, and how many of them differed.
 pub struct Tally {
@@ -15,8 +35,41 @@ pub fn none() -> Tally
     Tally { ran: 0, differ: 0 }
 }
 
-// A tally after one more vector.
-pub fn counted(t: Tally, differs: bool) -> Tally
+// A tally after one more vector. An unreadable one counts as one that differs.
+pub fn counted(t: Tally, outcome: Outcome) -> Tally
+    ensures { λ r. ⌜ r ≡ talliedOf t (not (agreed outcome)) ⌝ }
+{
+    tallied(t, !is_agreed(outcome))
+}
+
+// The same of vectors that are wrong on purpose, with how many were noticed: those that were read and differ.
+pub fn noticed(t: Tally, outcome: Outcome) -> Tally
+    ensures { λ r. ⌜ r ≡ talliedOf t (differed outcome) ⌝ }
+{
+    tallied(t, is_differing(outcome))
+}
+
+fn is_agreed(outcome: Outcome) -> bool
+    ensures { λ r. ⌜ r ≡ agreed outcome ⌝ }
+{
+    match outcome {
+        Outcome::Agrees => true,
+        Outcome::Differs => false,
+        Outcome::Unreadable => false,
+    }
+}
+
+fn is_differing(outcome: Outcome) -> bool
+    ensures { λ r. ⌜ r ≡ differed outcome ⌝ }
+{
+    match outcome {
+        Outcome::Agrees => false,
+        Outcome::Differs => true,
+        Outcome::Unreadable => false,
+    }
+}
+
+fn tallied(t: Tally, differs: bool) -> Tally
     ensures { λ r. ⌜ r ≡ talliedOf t differs ⌝ }
 {
     if differs {
@@ -57,16 +110,24 @@ pub fn print_wrong(t: Tally) {
     print::text(b" noticed\n");
 }
 
-// Names a vector that differs, by its line without a mark.
-pub fn print_differs(line: &[u8]) {
-    print::text(b"differs: ");
-    print_name(line);
-}
-
-// Names a vector that is wrong on purpose and was not noticed.
-pub fn print_unnoticed(line: &[u8]) {
-    print::text(b"not noticed: ");
-    print_name(line);
+// Names a vector that did not do what it is to do. One that is wrong on purpose is to differ.
+pub fn print_outcome(line: &[u8], outcome: Outcome) {
+    let is_wrong = is_wrong(line);
+    match outcome {
+        Outcome::Agrees => {
+            if is_wrong {
+                print::text(b"not noticed: ");
+                print_name(unmarked(line));
+            }
+        }
+        Outcome::Differs => {
+            if !is_wrong {
+                print::text(b"differs: ");
+                print_name(line);
+            }
+        }
+        Outcome::Unreadable => print_unreadable(line),
+    }
 }
 
 fn print_name(line: &[u8]) {
@@ -77,7 +138,7 @@ fn print_name(line: &[u8]) {
 }
 
 // Shows the first bytes of a line that cannot be decoded.
-pub fn print_unreadable(line: &[u8]) {
+fn print_unreadable(line: &[u8]) {
     print::text(b"unreadable: ");
     if line.len() < 60 {
         print::text(line);

@@ -2,7 +2,7 @@
 ghost use mathlib.Core.Path.{_≡_};
 ghost use Prim.Native.Nat.{_<_, _/_, _%_};
 ghost use lib.ListN.{length};
-ghost use Rattle.vectors.specs.Numbers.{wordIn, wordPut, patternAt, Patterned};
+ghost use Rattle.vectors.specs.Numbers.{wordIn, longIn, wordPut, patternAt, Patterned};
 use crate::bytes::byte;
 use crate::bytes::put;
 
@@ -14,6 +14,16 @@ pub fn word(s: &[u8], at: usize) -> u16
         return 0;
     }
     wide(byte(s, at)) * 256 + wide(byte(s, at + 1))
+}
+
+// The number that the four bytes from an index on write. Missing ones count as 0.
+pub fn long(s: &[u8], at: usize) -> u32
+    ensures { λ r. ⌜ r ≡ longIn (now (s .entry)) at ⌝ }
+{
+    if s.len() <= at {
+        return 0;
+    }
+    wider(word(s, at)) * 65536 + wider(word(s, at + 2))
 }
 
 // Stores the two bytes that write a word. What lies beyond the end is left out.
@@ -62,4 +72,11 @@ fn wide(b: u8) -> u16
     ensures { λ r. ⌜ r < 256 ⌝ }
 {
     b as u16
+}
+
+fn wider(w: u16) -> u32
+    ensures { λ r. ⌜ r ≡ w ⌝ }
+    ensures { λ r. ⌜ r < 65536 ⌝ }
+{
+    w as u32
 }

@@ -1,30 +1,17 @@
--- `vectors::counted` answers the tally after one more vector, by whether it differs. Assumes nothing.
-use Prim.Native.Nat.{ℕ}
+-- `vectors::counted` answers the tally after one more vector, which differs unless it agrees. Assumes nothing.
 use mathlib.Core.Path.{_≡_}
-use mathlib.Core.Bool.{Bool, true, false}
+use mathlib.Core.Bool.{Bool, not}
 use borrow.Author.Needs.{needs}
 use Rattle.vectors.specs.declared.tally.Tally.{Tally}
-use Rattle.vectors.specs.Tallies.{talliedOf, oneMore}
+use Rattle.vectors.specs.Tallies.{talliedOf}
 use Rattle.vectors.proofs.tally.counted.Statement.{statement}
 use Rattle.vectors.proofs.tally.counted.Tie as tie
 
-both : (t : Tally) (d : Bool) (a b : ℕ) → a ≡ oneMore (t .ran) → b ≡ oneMore (t .differ) → d ≡ true →
-    _≡_ {A = Tally} (record { ran = a; differ = b }) (talliedOf t d)
-both t true a b p q e = cc
-both t false a b p q e = cc
-
-one : (t : Tally) (d : Bool) (a : ℕ) → a ≡ oneMore (t .ran) → d ≡ false →
-    _≡_ {A = Tally} (record { ran = a; differ = t .differ }) (talliedOf t d)
-one t true a p e = cc
-one t false a p e = cc
+unless : (t r : Tally) (a b : Bool) → r ≡ talliedOf t (not a) → a ≡ b → r ≡ talliedOf t (not b)
+unless t r a b p q = cc
 
 returns : tie.Need-returns
-returns c = both _ _ _ _ (c .before .one-more .ensures) (c .one-more2 .ensures) (c .before .before .if1 .taken)
-
-returns-2 : tie.Need-returns-2
-returns-2 c = one _ _ _ (c .one-more3 .ensures) (c .before .if1 .left)
+returns c = unless _ _ _ _ (c .tallied .ensures) (c .before .is-agreed .ensures)
 
 pub counted-spec : {M : Type 1} → statement M
-counted-spec =
-    tie.close
-    (tie.spec (λ c κs. search needs) (λ c κs. search needs) returns (λ c κs. search needs) returns-2)
+counted-spec = tie.close (tie.spec (λ c κs. search needs) (λ c κs. search needs) returns)

@@ -1,0 +1,35 @@
+-- `conformance_area::unit_value::unit_of` is safe and ends: the measure is how many records are left. Assumes nothing.
+use Prim.Native.Nat.{_≤_, _-_}
+use borrow.Author.Needs.{needs}
+use Rattle.conformance_area.proofs.unit_value.unit_of.Statement.{statement}
+use Rattle.conformance_area.proofs.unit_value.unit_of.Tie as tie
+
+abbrev Inv-loop : tie.InvT-loop
+Inv-loop input records₀ i₀ records i = i ≤ 31
+
+abbrev μ-loop : tie.MeasureT-loop
+μ-loop input records₀ i₀ records i = 31 - i
+
+pub unit-of-spec : {M : Type 1} → statement M
+unit-of-spec =
+    tie.close
+    (tie.spec
+    Inv-loop
+    μ-loop
+    (λ c κs. search needs)
+    (λ c. search needs)
+    (λ c. search needs)
+    (λ c. search needs)
+    (λ c κs. search needs)
+    (λ c. search needs)
+    (λ c. search needs)
+    (λ c. search needs)
+    (λ c. search needs)
+    (λ c. search needs)
+    (λ c κs. search needs)
+    (λ c κs. search needs)
+    (λ c κs. search needs)
+    (λ c. search needs)
+    (λ c κs. search needs)
+    (λ c. search needs)
+    (λ c. search needs))
