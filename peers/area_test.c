@@ -260,6 +260,8 @@ static void show_fields(const struct job *job, const char *name)
             print_answer(&run.answers[k]);
         printf("\n");
     }
+    for (size_t i = 0; i < run.notes.n; i++)
+        printf("%-18s log: %s\n", name, run.notes.texts[i]);
 }
 
 /* ---- Reading on behind the end of a unit ---- */
