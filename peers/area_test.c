@@ -444,9 +444,11 @@ static void do_job(const struct job *job)
         fail("a line that cannot be read");
 }
 
-/* All frame pictures equal; or no captions at all, from a peer that does not know the carriage. */
+/* All frame pictures equal; or no captions at all, from a peer that does not know the carriage. Foreign units pass anyhow. */
 static bool all_equal(bool knows)
 {
+    if (peer_tells_afd && total.afd_equal != total.afd)
+        return false;
     if (!knows)
         return total.triples == 0;
     return total.lost == 0 && total.other_count == 0 && total.data_equal == total.records && total.type_equal == total.records;
@@ -466,9 +468,12 @@ int main(int argc, char **argv)
     printf("SUMMARY picture area, %s, %s: frame pictures %zu, records checked %zu, equal %zu, ", carriage, peer_name(), total.pictures,
            total.records, total.data_equal < total.type_equal ? total.data_equal : total.type_equal);
     if (knows)
-        printf("differences %zu\n", 2 * total.records - total.data_equal - total.type_equal + total.other_count);
+        printf("differences %zu", 2 * total.records - total.data_equal - total.type_equal + total.other_count);
     else
-        printf("no captions handed on\n");
+        printf("no captions handed on");
+    if (peer_tells_afd)
+        printf("; AFD checked %zu, equal %zu", total.afd, total.afd_equal);
+    printf("\n");
     printf("SUMMARY picture area, %s, %s: areas observed %zu, our answer as RULES has it %zu\n", carriage, peer_name(), cases, as_expected);
     return !all_equal(knows) || cases == 0 || as_expected != cases;
 }
