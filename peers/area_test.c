@@ -1,15 +1,95 @@
 /*
- * area_test STREAM..: puts areas that the library wrote behind the picture headers of each stream, and compares what a peer
- * hands on with the records. The first stream is also used for the defects: it has frame pictures, the top field first.
+ * area_test AREAS: the peer's side of the picture area. Puts the areas that make_areas printed behind the picture headers of
+ * streams, and compares what a peer hands on with what it should. The streams lie in the working directory.
+ *
+ *   carriage NAME                   which one, and the heading
+ *   equal REPLACED STREAM           the pictures behind it are a stream's; REPLACED is 1 where a foreign unit tells AFD 8
+ *   tally STREAM                    print what came of them
+ *   fields STREAM                   a stream's first pictures: show what comes out
+ *   mixed OURS STREAM WHAT          the same for units of both kinds; OURS is the number of the library, 0 where it reads all
+ *   stream STREAM                   the stream of all that follows
+ *   carried VALUE                   whether a unit with this value is taken for captions
+ *   taken NAME                      print with which values it was
+ *   past CARRIAGE                   a unit with cc_count 31 and one construct
+ *   plain                           the unit of all pictures around the special one
+ *   case NUMBER OURS RECORDS WHAT   a special area: the number of RULES, that of the library, its records (-1 for no unit)
+ *   picture AREA TRIPLES            one picture
  */
-#include "areas.h"
+#include "lines.h"
 #include "peer.h"
 
 #include <stdio.h>
 #include <stdlib.h>
 #include <string.h>
 
-enum { ROUNDS = 20, DEFECT_AT = 3, DEFECT_PICTURES = 8, SHOWN = 6 };
+enum { DEFECT_AT = 3, DEFECT_PICTURES = 8, SHOWN = 6, CARRIED = 256 };
+
+static void fail(const char *what)
+{
+    fprintf(stderr, "area_test: %s\n", what);
+    exit(2);
+}
+
+/* ---- The file of areas ---- */
+
+struct spot {
+    struct bytes area, triples;
+};
+
+/* A line that is no picture, and the pictures behind it. */
+struct job {
+    char head[200];
+    size_t n;
+    struct spot spots[MAX_PICTURES];
+};
+
+static void take_picture(struct job *job, const char *text)
+{
+    if (job->n == MAX_PICTURES)
+        fail("more pictures than a stream has");
+    struct spot *s = &job->spots[job->n++];
+    s->area = take_bytes(&text);
+    s->triples = take_bytes(&text);
+    if (*text || s->triples.len % 3)
+        fail("a picture line that cannot be read");
+}
+
+/* The next line and its pictures. The line behind the pictures is kept for the next call. */
+static bool next_job(FILE *file, struct job *job)
+{
+    static const char *line;
+    const char *rest;
+    job->n = 0;
+    if (!line && !(line = next_line(file)))
+        return false;
+    snprintf(job->head, sizeof job->head, "%s", line);
+    while ((line = next_line(file)) && begins(line, "picture", &rest))
+        take_picture(job, rest);
+    return true;
+}
+
+static void free_job(struct job *job)
+{
+    for (size_t k = 0; k < job->n; k++) {
+        free(job->spots[k].area.data);
+        free(job->spots[k].triples.data);
+    }
+}
+
+/* The stream of that name, which stays until another one is asked for. */
+static const struct stream *stream_of(const char *name)
+{
+    static struct stream s;
+    static char loaded[100];
+    if (strcmp(name, loaded) != 0) {
+        free(s.data);
+        s = stream_load(name);
+        snprintf(loaded, sizeof loaded, "%s", name);
+    }
+    return &s;
+}
+
+/* ---- Asking the peer ---- */
 
 struct run {
     struct bytes pictures[MAX_PICTURES];
@@ -20,9 +100,11 @@ struct run {
 
 static struct run run;
 
-static void prepare(const struct stream *s, size_t k, const struct area *a)
+static void prepare(const struct stream *s, size_t k, const struct bytes *area)
 {
-    run.pictures[k] = picture_with_area(s, k, a->data, a->len);
+    if (k >= s->n)
+        fail("more areas than pictures");
+    run.pictures[k] = picture_with_area(s, k, area->data, area->len);
     run.second[k] = k > 0 && s->pictures[k].structure != 3 && s->pictures[k - 1].structure != 3 && !run.second[k - 1];
 }
 
@@ -37,19 +119,11 @@ static void ask(size_t n)
         free(run.pictures[k].data);
 }
 
-/* The field of the frame that a display field is: 0 top, 1 bottom. Only here is one counting turned into the other. */
-static int field_of_frame(const struct picture *p, uint8_t display_field)
+static void ask_all(const struct stream *s, const struct job *job)
 {
-    if (p->structure != 3)
-        return p->structure - 1;
-    bool first = display_field != 2;
-    return first == p->top_field_first ? 0 : 1;
-}
-
-static const char *base_name(const char *path)
-{
-    const char *slash = strrchr(path, '/');
-    return slash ? slash + 1 : path;
+    for (size_t k = 0; k < job->n; k++)
+        prepare(s, k, &job->spots[k].area);
+    ask(job->n);
 }
 
 void note(struct notes *notes, const char *format, va_list args)
@@ -67,24 +141,27 @@ void note(struct notes *notes, const char *format, va_list args)
 
 /* ---- Legal values ---- */
 
+static char carriage[20];
+
 struct tally {
-    size_t pictures, lost, other_count, records, triples, data_equal, field_equal, afd, afd_equal;
+    size_t pictures, lost, other_count, records, triples, data_equal, type_equal, afd, afd_equal;
 };
 
+static struct tally tally; /* of one stream */
 static struct tally total; /* of the streams with frame pictures */
 
-static void compare(struct tally *t, const struct picture *p, const struct value *v, const struct answer *a)
+static void compare(struct tally *t, const struct bytes *expected, const struct answer *a)
 {
+    size_t n = expected->len / 3;
     t->pictures++;
     t->lost += !a->frame;
-    t->records += v->n;
+    t->records += n;
     t->triples += a->n;
-    t->other_count += a->n != v->n;
-    for (size_t i = 0; i < v->n && i < a->n; i++) {
-        const captions_record *r = &v->records[i];
-        const uint8_t *c = a->triples[i];
-        t->data_equal += (c[0] & 4) && c[1] == r->cc_data_1 && c[2] == r->cc_data_2;
-        t->field_equal += (c[0] & 4) && (c[0] & 3) == field_of_frame(p, r->field_number);
+    t->other_count += a->n != n;
+    for (size_t i = 0; i < n && i < a->n; i++) {
+        const uint8_t *e = expected->data + 3 * i, *c = a->triples[i];
+        t->data_equal += c[1] == e[1] && c[2] == e[2];
+        t->type_equal += (c[0] & 7) == e[0];
     }
 }
 
@@ -92,86 +169,61 @@ static void add(struct tally *to, const struct tally *t)
 {
     to->pictures += t->pictures, to->lost += t->lost, to->other_count += t->other_count;
     to->records += t->records, to->triples += t->triples;
-    to->data_equal += t->data_equal, to->field_equal += t->field_equal;
+    to->data_equal += t->data_equal, to->type_equal += t->type_equal;
     to->afd += t->afd, to->afd_equal += t->afd_equal;
 }
 
-static void print_tally(const char *name, const struct tally *t)
+static void equal_test(const struct job *job, const char *text)
 {
+    int replaced = take_number(&text);
+    ask_all(stream_of(text), job);
+    for (size_t k = 0; k < job->n; k++) {
+        if (run.second[k])
+            continue;
+        compare(&tally, &job->spots[k].triples, &run.answers[k]);
+        tally.afd += replaced;
+        tally.afd_equal += replaced && run.answers[k].afd == 8;
+    }
+}
+
+static void print_tally(const char *name)
+{
+    const struct tally *t = &tally;
     printf("%-18s pictures %zu, lost %zu, with another count %zu; records in %zu, triples out %zu, data equal %zu, field equal %zu",
-           name, t->pictures, t->lost, t->other_count, t->records, t->triples, t->data_equal, t->field_equal);
+           name, t->pictures, t->lost, t->other_count, t->records, t->triples, t->data_equal, t->type_equal);
     if (peer_tells_afd)
         printf("; AFD in %zu, equal %zu", t->afd, t->afd_equal);
     printf("\n");
+    if (stream_of(name)->pictures[0].structure == 3)
+        add(&total, t);
+    tally = (struct tally){ 0 };
 }
 
-/* The area of a picture: a unit alone, or put in the place of another unit, with a foreign one behind it that tells AFD 8. */
-static void make_area(struct area *a, const struct value *v, bool replace)
+/* ---- A number that is carried ---- */
+
+static bool taken[CARRIED];
+static size_t carried_values;
+
+static void carried_test(const struct stream *s, const struct job *job)
 {
-    static const char afd[10] = "\0\0\1\xB2" "DTG1\x41\xF8";
-    a->len = 0;
-    if (replace) {
-        struct value old = random_value(random_below(128), 3);
-        write_unit(a, &old);
-        memcpy(a->data + a->len, afd, sizeof afd);
-        a->len += sizeof afd;
-        replace_unit(a, v);
-    } else {
-        write_unit(a, v);
-    }
+    for (size_t k = 0; k < 4; k++)
+        prepare(s, k, &job->spots[0].area);
+    ask(4);
+    if (carried_values == CARRIED)
+        fail("more values than expected");
+    taken[carried_values++] = run.answers[2].n > 0;
 }
 
-static void compare_round(struct tally *t, const struct stream *s, bool replace)
+static void print_taken(const char *name)
 {
-    static struct value values[MAX_PICTURES];
-    static struct area a;
-    for (size_t k = 0; k < s->n; k++) {
-        values[k] = random_value(random_below(2) ? 64 : 0, s->pictures[k].structure == 3 ? 3 : 1);
-        make_area(&a, &values[k], replace);
-        prepare(s, k, &a);
-    }
-    ask(s->n);
-    for (size_t k = 0; k < s->n; k++) {
-        if (run.second[k])
-            continue;
-        compare(t, &s->pictures[k], &values[k], &run.answers[k]);
-        t->afd += replace;
-        t->afd_equal += replace && run.answers[k].afd == 8;
-    }
-}
-
-static void equal_test(const char *path)
-{
-    struct stream s = stream_load(path);
-    struct tally t = { 0 };
-    for (int round = 0; round < ROUNDS; round++)
-        compare_round(&t, &s, round % 2);
-    print_tally(base_name(path), &t);
-    if (s.pictures[0].structure == 3)
-        add(&total, &t);
-    free(s.data);
-}
-
-/* ---- Reserved bits ---- */
-
-static void reserved_test(const struct stream *s)
-{
-    size_t taken = 0;
-    printf("reserved values with which a unit is taken for captions:");
-    for (uint32_t reserved = 0; reserved < 128; reserved++) {
-        static struct area a;
-        struct value v = one_record(0x94, 0x2C);
-        v.reserved = reserved;
-        write_unit(&a, &v);
-        for (size_t k = 0; k < 4; k++)
-            prepare(s, k, &a);
-        ask(4);
-        if (run.answers[2].n > 0) {
-            printf(" %u", reserved);
-            taken++;
-        }
-    }
-    printf(" (%zu of 128)\n", taken);
+    size_t count = 0;
+    for (size_t value = 0; value < carried_values; value++)
+        count += taken[value];
+    printf("%s values with which a unit is taken for captions:", name);
+    for (size_t value = 0; value < carried_values && count < carried_values; value++)
+        if (taken[value])
+            printf(" %zu", value);
+    printf(" (%zu of %zu)\n", count, carried_values);
 }
 
 /* ---- What comes out ---- */
@@ -192,29 +244,24 @@ static void print_answer(const struct answer *a)
         printf("; AFD %d", a->afd);
 }
 
-/* Pictures with one pair of display field 1 each: 20 80, 21 80 and so on. It shows which field of the frame a peer takes that for. */
-static void show_fields(const char *path)
+/* One pair of field 1 in each picture. It shows with which picture it comes out, and which field of the frame a peer takes it for. */
+static void show_fields(const struct job *job, const char *name)
 {
     static const char *const structures[] = { "?", "top field", "bottom field", "frame" };
-    static struct area a;
-    struct stream s = stream_load(path);
-    size_t n = s.pictures[0].structure == 3 ? 2 : 6;
-    for (size_t k = 0; k < n; k++) {
-        struct value v = one_record((uint8_t)(0x20 + k), 0x80);
-        write_unit(&a, &v);
-        prepare(&s, k, &a);
-    }
-    ask(n);
-    for (size_t k = 0; k < n; k++) {
-        printf("%-18s picture %zu, %s, top_field_first %d: field 1 with %02zX 80 | peer: ", base_name(path), k,
-               structures[s.pictures[k].structure], s.pictures[k].top_field_first, 0x20 + k);
+    const struct stream *s = stream_of(name);
+    ask_all(s, job);
+    for (size_t k = 0; k < job->n; k++) {
+        const uint8_t *t = job->spots[k].triples.data;
+        printf("%-18s picture %zu, %s, top_field_first %d: field 1 with %02X %02X | peer: ", name, k,
+               structures[s->pictures[k].structure], s->pictures[k].top_field_first, t[1], t[2]);
         if (run.second[k] && !run.answers[k].frame)
             printf("no frame of its own");
         else
             print_answer(&run.answers[k]);
         printf("\n");
     }
-    free(s.data);
+    for (size_t i = 0; i < run.notes.n; i++)
+        printf("%-18s log: %s\n", name, run.notes.texts[i]);
 }
 
 /* ---- Reading on behind the end of a unit ---- */
@@ -235,8 +282,8 @@ static uint8_t reversed(uint32_t byte)
     return r;
 }
 
-/* Whether the triple is what a reader makes of 26 bits that it takes for a construct. */
-static bool made_of(const uint8_t *triple, const uint8_t *d, size_t at)
+/* Whether the triple is what a reader makes of 26 bits that it takes for a construct of SCTE 20. */
+static bool made_of_scte20(const uint8_t *triple, const uint8_t *d, size_t at)
 {
     uint32_t field = get_bits(d, at + 2, 2);
     if (field == 0)
@@ -245,56 +292,61 @@ static bool made_of(const uint8_t *triple, const uint8_t *d, size_t at)
            triple[2] == reversed(get_bits(d, at + 17, 8));
 }
 
-/* A unit with cc_count 31 and one construct: how many triples come out, and how many are made of the slices behind the unit. */
-static void past_end_test(const struct stream *s)
+static bool made_of_ga94(const uint8_t *triple, const uint8_t *d, size_t at)
 {
-    static struct area a;
-    struct value v = one_record(0x94, 0x2C);
+    return (triple[0] & 7) == get_bits(d, at + 5, 3) && triple[1] == get_bits(d, at + 8, 8) && triple[2] == get_bits(d, at + 16, 8);
+}
+
+/* How a construct lies: the first one's first bit in the unit, the bits of one, and what a triple is made of. */
+struct lie {
+    size_t first, bits;
+    bool (*made_of)(const uint8_t *triple, const uint8_t *d, size_t at);
+};
+static const struct lie lie_scte20 = { 8 * 6 + 5, 26, made_of_scte20 }, lie_ga94 = { 8 * 11, 24, made_of_ga94 };
+
+/* A unit with cc_count 31 and one construct: how many triples come out, and how many are made of the slices behind the unit. */
+static void past_end_test(const struct stream *s, const struct bytes *area)
+{
+    const struct lie *lie = strcmp(carriage, "GA94") == 0 ? &lie_ga94 : &lie_scte20;
     size_t made = 0, valid = 0;
-    write_unit(&a, &v);
-    a.data[6] = (uint8_t)(a.data[6] | 31 << 3); /* cc_count, the five bits behind 03 81 */
     for (size_t k = 0; k < 2; k++)
-        prepare(s, k, &a);
-    struct bytes b = picture_with_area(s, 1, a.data, a.len);
-    size_t first = 8 * (s->pictures[1].slice - s->pictures[1].start + 6) + 5; /* the first construct's first bit */
+        prepare(s, k, area);
+    struct bytes b = picture_with_area(s, 1, area->data, area->len);
+    size_t first = 8 * (s->pictures[1].slice - s->pictures[1].start) + lie->first;
     ask(2);
     const struct answer *got = &run.answers[1];
     for (size_t i = 1; i < got->n; i++) {
         valid += got->triples[i][0] >> 2 & 1;
-        made += first + 26 * (i + 1) <= 8 * b.len && made_of(got->triples[i], b.data, first + 26 * i);
+        made += first + lie->bits * (i + 1) <= 8 * b.len && lie->made_of(got->triples[i], b.data, first + lie->bits * i);
     }
-    printf("cc_count 31 with one construct | peer: %zu triples behind the first, %zu of them valid, %zu made of the bits behind the unit\n",
+    printf("cc_count 31 with one construct | peer: %zu triples behind the first, %zu of them valid, %zu made of the bits behind it\n",
            got->n ? got->n - 1 : 0, valid, made);
     free(b.data);
 }
 
-/* ---- Defects ---- */
+/* ---- Special areas ---- */
 
-static struct run plain_run; /* the answers where all pictures have the plain unit */
+static struct bytes plain;   /* the area of the pictures around the special one */
+static struct run plain_run; /* the answers where all pictures have it */
+static size_t cases, as_expected;
 
-static void plain_area(struct area *a)
+static void ask_with(const struct stream *s, const struct bytes *special)
 {
-    struct value v = one_record(0x80, 0x80);
-    write_unit(a, &v);
-}
-
-static void ask_with(const struct stream *s, const struct area *special)
-{
-    static struct area plain;
-    plain_area(&plain);
     for (size_t k = 0; k < DEFECT_PICTURES; k++)
         prepare(s, k, k == DEFECT_AT ? special : &plain);
     ask(DEFECT_PICTURES);
 }
 
-static void print_ours(captions_unit u)
+static void take_plain(const struct stream *s, const struct bytes *area)
 {
-    if (u.refusal.number)
-        printf("refused %d", u.refusal.number);
-    else if (!u.present)
-        printf("none");
-    else
-        printf("%zu record%s", u.n, u.n == 1 ? "" : "s");
+    plain = (struct bytes){ malloc(area->len), area->len };
+    if (!plain.data)
+        fail("no memory");
+    memcpy(plain.data, area->data, area->len);
+    ask_with(s, &plain);
+    plain_run = run;
+    for (size_t i = 0; i < run.notes.n; i++)
+        printf("log of a legal stream: %s\n", run.notes.texts[i]);
 }
 
 /* How many of the pictures around the special one came with another answer than without it. */
@@ -318,66 +370,110 @@ static void print_new_notes(void)
     }
 }
 
-static bool observe(const struct stream *s, const struct area_case *c)
+static void observe(const struct stream *s, const struct job *job, const char *text)
 {
-    static struct area area;
-    captions_record records[CAPTIONS_RECORDS];
-    area.len = 0;
-    c->make(&area);
-    captions_unit ours = captions_area_read(area.data, area.len, records);
-    ask_with(s, &area);
-    printf("%2d  %s | ours: ", c->number, c->what);
-    print_ours(ours);
+    int number = take_number(&text), ours = take_number(&text), records = take_number(&text);
+    ask_with(s, &job->spots[0].area);
+    printf("%2d  %s | ours: ", number, text);
+    if (ours)
+        printf("refused %d", ours);
+    else if (records < 0)
+        printf("none");
+    else
+        printf("%d record%s", records, records == 1 ? "" : "s");
     printf(" | peer: ");
     print_answer(&run.answers[DEFECT_AT]);
     if (others_changed())
         printf("; other pictures changed: %zu", others_changed());
     print_new_notes();
     printf("\n");
-    return ours.refusal.number == c->number;
+    cases++;
+    as_expected += ours == number;
 }
 
-static size_t observe_all(const struct stream *s)
+/* A stream whose pictures have units of both kinds, in one area or by turns. */
+static void show_mixed(const struct job *job, const char *text)
 {
-    static struct area plain;
-    size_t as_expected = 0;
-    plain_area(&plain);
-    ask_with(s, &plain);
-    plain_run = run;
-    for (size_t i = 0; i < run.notes.n; i++)
-        printf("log of a legal stream: %s\n", run.notes.texts[i]);
-    for (size_t i = 0; i < area_case_count; i++)
-        as_expected += observe(s, &area_cases[i]);
-    return as_expected;
+    char name[100];
+    int ours = take_number(&text);
+    size_t len = strcspn(text, " ");
+    snprintf(name, sizeof name, "%.*s", (int)len, text);
+    ask_all(stream_of(name), job);
+    printf(" 0 %s | ours: %s | peer: ", text + len, ours ? "refused" : "both");
+    for (size_t k = 0; k < job->n; k++) {
+        printf("%s", k ? " / " : "");
+        print_answer(&run.answers[k]);
+    }
+    printf("\n");
+    cases++;
+    as_expected += ours == 0;
 }
 
-/* All frame pictures equal; or no captions at all, from a peer that has no SCTE 20. */
-static bool all_equal(void)
+/* ---- All ---- */
+
+static void do_job(const struct job *job)
 {
-    if (!peer_reads_scte20)
+    static const struct stream *s;
+    const char *text;
+    if (begins(job->head, "carriage", &text)) {
+        snprintf(carriage, sizeof carriage, "%s", text);
+        printf("== Picture area, %s, read by %s\n", carriage, peer_name());
+    } else if (begins(job->head, "equal", &text))
+        equal_test(job, text);
+    else if (begins(job->head, "tally", &text))
+        print_tally(text);
+    else if (begins(job->head, "fields", &text))
+        show_fields(job, text);
+    else if (begins(job->head, "mixed", &text))
+        show_mixed(job, text);
+    else if (begins(job->head, "stream", &text))
+        s = stream_of(text);
+    else if (begins(job->head, "taken", &text))
+        print_taken(text);
+    else if (!s || job->n != 1)
+        fail("a line out of its place");
+    else if (begins(job->head, "carried", &text))
+        carried_test(s, job);
+    else if (begins(job->head, "past", &text))
+        past_end_test(s, &job->spots[0].area);
+    else if (begins(job->head, "plain", &text))
+        take_plain(s, &job->spots[0].area);
+    else if (begins(job->head, "case", &text))
+        observe(s, job, text);
+    else
+        fail("a line that cannot be read");
+}
+
+/* All frame pictures equal; or no captions at all, from a peer that does not know the carriage. Foreign units pass anyhow. */
+static bool all_equal(bool knows)
+{
+    if (peer_tells_afd && total.afd_equal != total.afd)
+        return false;
+    if (!knows)
         return total.triples == 0;
-    return total.lost == 0 && total.other_count == 0 && total.data_equal == total.records && total.field_equal == total.records;
+    return total.lost == 0 && total.other_count == 0 && total.data_equal == total.records && total.type_equal == total.records;
 }
 
 int main(int argc, char **argv)
 {
-    if (argc < 2)
-        return 2;
-    printf("== Picture area, read by %s\n", peer_name());
-    for (int i = 1; i < argc; i++)
-        equal_test(argv[i]);
-    for (int i = 1; i < argc; i++)
-        show_fields(argv[i]);
-    struct stream s = stream_load(argv[1]);
-    reserved_test(&s);
-    past_end_test(&s);
-    size_t as_expected = observe_all(&s);
-    printf("SUMMARY picture area, %s: frame pictures %zu, records checked %zu, equal %zu, ", peer_name(), total.pictures, total.records,
-           total.data_equal < total.field_equal ? total.data_equal : total.field_equal);
-    if (peer_reads_scte20)
-        printf("differences %zu\n", 2 * total.records - total.data_equal - total.field_equal + total.other_count);
+    static struct job job;
+    FILE *file = argc == 2 ? fopen(argv[1], "r") : NULL;
+    if (!file)
+        fail("no file of areas");
+    while (next_job(file, &job)) {
+        do_job(&job);
+        free_job(&job);
+    }
+    bool knows = peer_reads_scte20 || strcmp(carriage, "GA94") == 0;
+    printf("SUMMARY picture area, %s, %s: frame pictures %zu, records checked %zu, equal %zu, ", carriage, peer_name(), total.pictures,
+           total.records, total.data_equal < total.type_equal ? total.data_equal : total.type_equal);
+    if (knows)
+        printf("differences %zu", 2 * total.records - total.data_equal - total.type_equal + total.other_count);
     else
-        printf("no captions handed on\n");
-    printf("SUMMARY picture area, %s: areas observed %zu, our answer as RULES has it %zu\n", peer_name(), area_case_count, as_expected);
-    return !all_equal() || as_expected != area_case_count;
+        printf("no captions handed on");
+    if (peer_tells_afd)
+        printf("; AFD checked %zu, equal %zu", total.afd, total.afd_equal);
+    printf("\n");
+    printf("SUMMARY picture area, %s, %s: areas observed %zu, our answer as RULES has it %zu\n", carriage, peer_name(), cases, as_expected);
+    return !all_equal(knows) || cases == 0 || as_expected != cases;
 }

@@ -1,8 +1,9 @@
 /*
- * Subtitling packets that the library wrote, against GStreamer's ancillary encoder and parser and biTStream's functions for
- * SMPTE 291 and RDD 8; then packets with defects.
+ * packet_test PACKETS: the peers' side of the subtitling packet. Holds the packets that make_packets printed to GStreamer's
+ * ancillary encoder and parser and biTStream's functions for SMPTE 291 and RDD 8; then shows what these do with special ones.
  */
-#include <stdio.h>
+#include "lines.h"
+
 #include <stdlib.h>
 #include <string.h>
 
@@ -11,65 +12,57 @@
 #include <gst/gst.h>
 #include <gst/video/video.h>
 
-#include "captions.h"
+enum { LINE_WORDS = 3840, LINE_BYTES = 5120, MAX_WORDS = 300, FIRST_USER = 6, SLOTS = 5, ROW_BYTES = 42 };
 
-enum { PACKETS = 2000, LINE_WORDS = 3840, LINE_BYTES = 5120, MAX_WORDS = 300, FIRST_USER = 6 };
-
-static uint32_t random_below(uint32_t limit)
-{
-    static uint64_t state = 0x9E3779B97F4A7C15;
-    state ^= state << 13;
-    state ^= state >> 7;
-    state ^= state << 17;
-    return (uint32_t)(state >> 32) % limit;
-}
-
-/* ---- Values and packets ---- */
-
-struct value {
-    uint32_t counter;
-    captions_slot slots[CAPTIONS_SLOTS];
-    captions_row rows[CAPTIONS_SLOTS];
-};
+/* ---- The file of packets ---- */
 
 struct words {
     size_t len;
     uint16_t w[MAX_WORDS];
 };
 
-static void random_slot(struct value *v, size_t i)
+struct slot {
+    int full, line, field;
+    uint8_t row[ROW_BYTES];
+};
+
+/* What a packet was written from. */
+struct value {
+    int counter;
+    struct slot slots[SLOTS];
+};
+
+static void fail(const char *what)
 {
-    captions_slot *s = &v->slots[i];
-    s->full = 1;
-    s->line = (uint8_t)(random_below(8) ? 6 + random_below(17) : 0);
-    s->reserved = (uint8_t)random_below(4);
-    s->field = (uint8_t)random_below(2);
-    if (s->line == 0 && s->reserved == 0)
-        s->field = 1; /* a descriptor of 0 is an empty slot */
-    for (size_t j = 0; j < CAPTIONS_ROW_BYTES; j++)
-        v->rows[i].bytes[j] = (uint8_t)random_below(256);
+    fprintf(stderr, "packet_test: %s\n", what);
+    exit(2);
 }
 
-/* Packet n has a full slot where bit i of n is set, so that all 32 patterns of full and empty slots are met. */
-static struct value random_value(unsigned n)
-{
-    struct value v = { .counter = random_below(65536) };
-    for (size_t i = 0; i < CAPTIONS_SLOTS; i++)
-        if (n >> i & 1)
-            random_slot(&v, i);
-    return v;
-}
-
-static struct words write_packet(const struct value *v)
+static struct words take_words(const char **text)
 {
     struct words p = { 0 };
-    captions_written w = captions_packet_write(v->counter, v->slots, v->rows, p.w, MAX_WORDS);
-    if (w.refusal.number) {
-        fprintf(stderr, "the library refused a legal value: %d\n", w.refusal.number);
-        exit(2);
-    }
-    p.len = w.len;
+    struct bytes b = take_bytes(text);
+    if (b.len % 2 || b.len / 2 > MAX_WORDS)
+        fail("half a word, or too many");
+    for (; p.len < b.len / 2; p.len++)
+        p.w[p.len] = (uint16_t)(b.data[2 * p.len] << 8 | b.data[2 * p.len + 1]);
+    free(b.data);
     return p;
+}
+
+static void take_slot(struct slot *s, FILE *file)
+{
+    const char *line = next_line(file), *text;
+    if (!line || !begins(line, "slot", &text))
+        fail("a slot is missing");
+    s->full = take_number(&text);
+    s->line = take_number(&text);
+    s->field = take_number(&text);
+    struct bytes b = take_bytes(&text);
+    if (b.len != ROW_BYTES)
+        fail("a row of another length");
+    memcpy(s->row, b.data, ROW_BYTES);
+    free(b.data);
 }
 
 static size_t user_bytes(const struct words *p, uint8_t *bytes)
@@ -169,15 +162,15 @@ static bool bitstream_writes_equal(const struct words *p)
 
 static bool bitstream_slot_equal(const uint16_t *sdp, const struct value *v, size_t i)
 {
-    const captions_slot *s = &v->slots[i];
+    const struct slot *s = &v->slots[i];
     uint8_t a = rdd08sdp_get_a(sdp, (uint8_t)i);
     const uint16_t *b = rdd08sdp_get_b(sdp, (uint8_t)i);
     bool equal = (a != 0) == s->full && rdd08sdpa_get_line(a) == s->line && rdd08sdpa_get_field(a) == s->field;
     if (!s->full)
         return equal;
     equal = equal && b[0] == 0x255 && b[1] == 0x255 && b[2] == RDD08SDP_FRAMING_CODE;
-    for (size_t j = 0; j < CAPTIONS_ROW_BYTES; j++)
-        equal = equal && (b[3 + j] & 0xFF) == v->rows[i].bytes[j];
+    for (size_t j = 0; j < ROW_BYTES; j++)
+        equal = equal && (b[3 + j] & 0xFF) == s->row[j];
     return equal;
 }
 
@@ -188,200 +181,46 @@ static bool bitstream_reads_equal(const struct words *p, const struct value *v)
                  sdp[0] == RDD08SDP_IDENT1 && sdp[1] == RDD08SDP_IDENT2 && rdd08sdp_get_format(sdp) == RDD08SDP_FORMAT_WST &&
                  rdd08sdp_get_length(sdp) == s291_get_dc(p->w) && rdd08sdp_get_footer(sdp) == RDD08SDP_FOOTER &&
                  rdd08sdp_get_counter(sdp) == v->counter && rdd08sdp_check_cs(sdp) && rdd08sdp_validate(sdp);
-    for (size_t i = 0; i < CAPTIONS_SLOTS; i++)
+    for (size_t i = 0; i < SLOTS; i++)
         equal = equal && bitstream_slot_equal(sdp, v, i);
     return equal;
 }
 
 /* ---- Legal packets ---- */
 
-static bool equal_test(void)
+static struct {
+    size_t packets, words, encoded_hd, encoded_sd, parsed_hd, parsed_sd, written, read;
+} equal;
+
+static void equal_test(const char *text, FILE *file)
 {
-    size_t encoded_hd = 0, encoded_sd = 0, parsed_hd = 0, parsed_sd = 0, written = 0, read = 0, words = 0;
-    for (unsigned n = 0; n < PACKETS; n++) {
-        struct value v = random_value(n);
-        struct words p = write_packet(&v);
-        words += p.len;
-        encoded_hd += gstreamer_encodes_equal(&p, 1920);
-        encoded_sd += gstreamer_encodes_equal(&p, 720);
-        parsed_hd += gstreamer_parses_equal(&p, 1920);
-        parsed_sd += gstreamer_parses_equal(&p, 720);
-        written += bitstream_writes_equal(&p);
-        read += bitstream_reads_equal(&p, &v);
-    }
-    printf("packets checked: %d (%zu words), of all 32 patterns of full and empty slots\n", PACKETS, words);
-    printf("GStreamer encoder, v210: all words equal: %zu (HD line), %zu (SD line)\n", encoded_hd, encoded_sd);
-    printf("GStreamer parser, v210: DID, SDID, DC and all bytes equal: %zu (HD line), %zu (SD line)\n", parsed_hd, parsed_sd);
-    printf("biTStream s291: all words equal: %zu\n", written);
-    printf("biTStream s291, rdd08: checksums, counter, lines, fields and rows read back equal: %zu\n", read);
-    size_t equal = encoded_hd + encoded_sd + parsed_hd + parsed_sd + written + read;
-    printf("SUMMARY subtitling packet: comparisons %d, equal %zu, differences %zu\n", 6 * PACKETS, equal, 6 * PACKETS - equal);
-    return equal == 6 * PACKETS;
+    struct value v = { .counter = take_number(&text) };
+    struct words p = take_words(&text);
+    for (size_t i = 0; i < SLOTS; i++)
+        take_slot(&v.slots[i], file);
+    equal.packets++;
+    equal.words += p.len;
+    equal.encoded_hd += gstreamer_encodes_equal(&p, 1920);
+    equal.encoded_sd += gstreamer_encodes_equal(&p, 720);
+    equal.parsed_hd += gstreamer_parses_equal(&p, 1920);
+    equal.parsed_sd += gstreamer_parses_equal(&p, 720);
+    equal.written += bitstream_writes_equal(&p);
+    equal.read += bitstream_reads_equal(&p, &v);
 }
 
-/* ---- Defects ---- */
-
-struct defect {
-    int number;
-    const char *what;
-    struct words (*make)(void);
-};
-
-/* The packet that the defects start from: two full slots, on line 21 of the odd and of the even field, counter 4660. */
-static size_t base_bytes(uint8_t bytes[256])
+static bool print_equal(void)
 {
-    struct value v = { .counter = 4660 };
-    for (size_t i = 0; i < 2; i++) {
-        v.slots[i] = (captions_slot){ .full = 1, .line = 21, .field = i == 0 };
-        for (size_t j = 0; j < CAPTIONS_ROW_BYTES; j++)
-            v.rows[i].bytes[j] = (uint8_t)(0x20 + j);
-    }
-    struct words p = write_packet(&v);
-    return user_bytes(&p, bytes);
+    printf("packets checked: %zu (%zu words), of all 32 patterns of full and empty slots\n", equal.packets, equal.words);
+    printf("GStreamer encoder, v210: all words equal: %zu (HD line), %zu (SD line)\n", equal.encoded_hd, equal.encoded_sd);
+    printf("GStreamer parser, v210: DID, SDID, DC and all bytes equal: %zu (HD line), %zu (SD line)\n", equal.parsed_hd, equal.parsed_sd);
+    printf("biTStream s291: all words equal: %zu\n", equal.written);
+    printf("biTStream s291, rdd08: checksums, counter, lines, fields and rows read back equal: %zu\n", equal.read);
+    size_t all = equal.encoded_hd + equal.encoded_sd + equal.parsed_hd + equal.parsed_sd + equal.written + equal.read;
+    printf("SUMMARY subtitling packet: comparisons %zu, equal %zu, differences %zu\n", 6 * equal.packets, all, 6 * equal.packets - all);
+    return equal.packets > 0 && all == 6 * equal.packets;
 }
 
-static struct words base(void)
-{
-    uint8_t bytes[256];
-    size_t n = base_bytes(bytes);
-    return bitstream_packet(0x43, 0x02, bytes, n);
-}
-
-/* One byte other, with both checksums, the SDP's and CS, made right again, so that only this defect is left. */
-static struct words with_byte(size_t place, uint8_t byte)
-{
-    uint8_t bytes[256];
-    size_t n = base_bytes(bytes);
-    bytes[n - 1] = (uint8_t)(bytes[n - 1] + bytes[place] - byte);
-    bytes[place] = byte;
-    return bitstream_packet(0x43, 0x02, bytes, n);
-}
-
-/* One word other, and nothing made right. */
-static struct words with_word(size_t place, uint16_t word)
-{
-    struct words p = base();
-    p.w[place] = word;
-    return p;
-}
-
-/* One word other, with CS made right again. */
-static struct words with_word_and_cs(size_t place, uint16_t word)
-{
-    struct words p = with_word(place, word);
-    s291_set_cs(p.w);
-    return p;
-}
-
-static struct words legal(void) { return base(); }
-static struct words too_long(void)
-{
-    struct value v = random_value(31);
-    struct words p = write_packet(&v);
-    p.w[p.len++] = 0x040;
-    return p;
-}
-static struct words cut_short(void)
-{
-    struct words p = base();
-    p.len = 19;
-    return p;
-}
-static struct words flag_wrong(void) { return with_word(1, 0x3FE); }
-static struct words did_parity(void) { return with_word_and_cs(3, 0x243); }
-static struct words dc_parity(void) { return with_word_and_cs(5, base().w[5] ^ 0x300); }
-static struct words user_parity(void) { return with_word_and_cs(20, base().w[20] ^ 0x300); }
-static struct words user_b9(void) { return with_word(20, base().w[20] ^ 0x200); }
-static struct words above_1023(void) { return with_word(20, base().w[20] | 0x400); }
-static struct words cs_b9(void)
-{
-    struct words p = base();
-    p.w[p.len - 1] ^= 0x200;
-    return p;
-}
-static struct words other_did(void)
-{
-    uint8_t bytes[256];
-    size_t n = base_bytes(bytes);
-    return bitstream_packet(0x61, 0x02, bytes, n);
-}
-static struct words other_sdid(void)
-{
-    uint8_t bytes[256];
-    size_t n = base_bytes(bytes);
-    return bitstream_packet(0x43, 0x03, bytes, n);
-}
-static struct words identifier(void) { return with_byte(0, 0x52); }
-static struct words format(void) { return with_byte(3, 0x03); }
-static struct words run_in(void) { return with_byte(9, 0x54); }
-static struct words framing(void) { return with_byte(11, 0x26); }
-static struct words footer(void) { return with_byte(99, 0x75); }
-/* DC other than the words that are there; the word where CS is then looked for is left as it is. */
-static struct words dc_more(void)
-{
-    uint8_t dc = (uint8_t)(base().w[5] + 1);
-    return with_word(5, dc | s291_parity(dc));
-}
-static struct words dc_less(void)
-{
-    uint8_t dc = (uint8_t)(base().w[5] - 1);
-    return with_word(5, dc | s291_parity(dc));
-}
-static struct words length_other(void) { return with_byte(2, 102); }
-static struct words third_descriptor(void) { return with_byte(6, 0x95); }
-static struct words second_descriptor_0(void) { return with_byte(5, 0x00); }
-static struct words line_5(void) { return with_byte(4, 0x85); }
-static struct words line_23(void) { return with_byte(4, 0x97); }
-static struct words sdp_checksum(void)
-{
-    struct words p = base();
-    uint8_t byte = (uint8_t)(p.w[p.len - 2] + 1);
-    return with_word_and_cs(p.len - 2, byte | s291_parity(byte));
-}
-static struct words cs_wrong(void)
-{
-    struct words p = base();
-    uint16_t cs = (p.w[p.len - 1] + 1) & 0x1FF;
-    p.w[p.len - 1] = cs | (~cs & 0x100) << 1;
-    return p;
-}
-static struct words two_bits_flipped(void)
-{
-    struct words p = base();
-    p.w[20] ^= 0x003; /* the parity stays right, both checksums do not */
-    return p;
-}
-
-static const struct defect defects[] = {
-    { 0, "a legal packet of two slots (110 words)", legal },
-    { 1, "246 words: five slots and one word more", too_long },
-    { 2, "flag words 000 3FE 3FF", flag_wrong },
-    { 5, "19 words, cut", cut_short },
-    { 6, "DID 61", other_did },
-    { 6, "SDID 03", other_sdid },
-    { 6, "first identifier 52", identifier },
-    { 6, "format 03", format },
-    { 6, "run-in 54", run_in },
-    { 6, "framing code 26", framing },
-    { 6, "footer 75", footer },
-    { 7, "descriptor with line 5", line_5 },
-    { 7, "descriptor with line 23", line_23 },
-    { 11, "DID 243: both parity bits wrong, CS fits", did_parity },
-    { 11, "DC with both parity bits wrong, CS fits", dc_parity },
-    { 11, "a user word with both parity bits wrong, CS fits", user_parity },
-    { 11, "a user word with b9 equal to b8, CS fits", user_b9 },
-    { 11, "CS with b9 equal to b8", cs_b9 },
-    { 11, "a user word with b10 set (above 1023)", above_1023 },
-    { 12, "SDP checksum one more, CS fits", sdp_checksum },
-    { 12, "CS one more", cs_wrong },
-    { 12, "two bits of one user byte flipped", two_bits_flipped },
-    { 13, "DC one more than the words that are there", dc_more },
-    { 13, "DC one less", dc_less },
-    { 13, "LENGTH one less than DC", length_other },
-    { 13, "a third descriptor without a structure", third_descriptor },
-    { 13, "second descriptor 0, its structure there", second_descriptor_0 },
-};
-enum { DEFECTS = sizeof defects / sizeof defects[0] };
+/* ---- Special packets ---- */
 
 static bool same_bytes(const GstVideoAncillary *anc, const struct words *p)
 {
@@ -424,14 +263,14 @@ static void print_bitstream(const struct words *p)
            rdd08sdp_check_cs(sdp) ? "true" : "FALSE", rdd08sdp_validate(sdp) ? "true" : "FALSE");
 }
 
-static bool observe(const struct defect *d)
+/* Whether the library's number is that of RULES. */
+static bool observe(const char *text)
 {
-    captions_row rows[CAPTIONS_SLOTS];
-    struct words p = d->make();
-    captions_packet ours = captions_packet_read(p.w, p.len, rows);
-    printf("%2d  %s | ours: ", d->number, d->what);
-    if (ours.refusal.number)
-        printf("refused %d", ours.refusal.number);
+    int number = take_number(&text), ours = take_number(&text);
+    struct words p = take_words(&text);
+    printf("%2d  %s | ours: ", number, text);
+    if (ours)
+        printf("refused %d", ours);
     else
         printf("accepted");
     printf(" | GStreamer: ");
@@ -439,19 +278,31 @@ static bool observe(const struct defect *d)
     printf(" | biTStream: ");
     print_bitstream(&p);
     printf("\n");
-    return ours.refusal.number == d->number;
+    return ours == number;
 }
 
 int main(int argc, char **argv)
 {
-    size_t as_expected = 0;
+    size_t cases = 0, as_expected = 0;
     gst_init(&argc, &argv);
     gchar *version = gst_version_string();
     printf("== Subtitling packet, against libgstvideo of %s and the headers of biTStream\n", version);
     g_free(version);
-    bool equal = equal_test();
-    for (size_t i = 0; i < DEFECTS; i++)
-        as_expected += observe(&defects[i]);
-    printf("SUMMARY subtitling packet: packets observed %d, our answer as RULES has it %zu\n", DEFECTS, as_expected);
-    return !equal || as_expected != DEFECTS;
+    FILE *file = argc == 2 ? fopen(argv[1], "r") : NULL;
+    if (!file)
+        fail("no file of packets");
+    bool all_equal = false;
+    for (const char *line, *text; (line = next_line(file));) {
+        if (begins(line, "packet", &text)) {
+            equal_test(text, file);
+        } else if (begins(line, "case", &text)) {
+            if (cases++ == 0)
+                all_equal = print_equal();
+            as_expected += observe(text);
+        } else {
+            fail("a line that cannot be read");
+        }
+    }
+    printf("SUMMARY subtitling packet: packets observed %zu, our answer as RULES has it %zu\n", cases, as_expected);
+    return !all_equal || cases == 0 || as_expected != cases;
 }

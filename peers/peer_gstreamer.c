@@ -1,4 +1,4 @@
-/* GStreamer: the element mpegvideoparse, which puts captions on a buffer as GstVideoCaptionMeta. */
+/* GStreamer: the element mpegvideoparse, which puts captions on a buffer as GstVideoCaptionMeta of the type CEA708_RAW. */
 #include "peer.h"
 
 #include <stdio.h>
@@ -71,7 +71,7 @@ static void take_buffer(GstBuffer *b, struct answer *a)
     a->frame = true;
     if (afd)
         a->afd = afd->afd;
-    if (!cc)
+    if (!cc || cc->caption_type != GST_VIDEO_CAPTION_TYPE_CEA708_RAW)
         return;
     a->captions = true;
     for (size_t i = 0; i + 2 < cc->size && a->n < MAX_TRIPLES; i += 3)

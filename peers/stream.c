@@ -43,7 +43,7 @@ static void find_pictures(struct stream *s, const char *path)
         if (code == 0x00) {
             if (s->n == MAX_PICTURES)
                 fail(path, "more pictures than expected");
-            s->pictures[s->n++] = (struct picture){ .start = start, .end = s->len };
+            s->pictures[s->n++] = (struct picture){ .start = start, .header = at, .end = s->len };
             open = true;
         } else if (code == 0xB5 && open && s->data[at + 4] >> 4 == 8) {
             coding_extension(&s->pictures[s->n - 1], s->data + at);
@@ -70,6 +70,16 @@ struct stream stream_load(const char *path)
     if (s.n == 0)
         fail(path, "has no pictures");
     return s;
+}
+
+const uint8_t *area_of_picture(const struct stream *s, size_t k, size_t *len)
+{
+    const struct picture *p = &s->pictures[k];
+    size_t at = p->header;
+    while (at < p->slice && s->data[at + 3] != 0xB2)
+        at = next_code(s->data, s->len, at + 3);
+    *len = p->slice - at;
+    return s->data + at;
 }
 
 struct bytes picture_with_area(const struct stream *s, size_t k, const uint8_t *area, size_t len)

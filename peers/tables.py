@@ -22,13 +22,18 @@ def observations(lines):
 def short(cell):
     """A cell without the words that all rows have, and with the first message of the log only."""
     cell = cell.split(": ", 1)[1]
-    cell = re.sub(r"^\d triples?: ", "", cell)
+    cell = re.sub(r"(^|/ )\d triples?: ", r"\1", cell)
     cell = re.sub(r"(log: [^;]*);.*", r"\1", cell)
     cell = cell.replace("handed on:", "hands on").replace(" as they are", "").replace("no captions", "none")
     if "_cs " in cell:
         false = re.findall(r"(\w+) FALSE", cell)
         cell = " and ".join(false) + " false" if false else "all true"
     return cell
+
+
+def without_each(text, cases):
+    """The cases without a message that all units of their carriage bring."""
+    return [[re.sub("; log: " + text, "", cell) for cell in case] for case in cases]
 
 
 def rows(tables):
@@ -40,10 +45,11 @@ def rows(tables):
 
 def main():
     sections = observations(open(sys.argv[1]))
-    areas = [cases for name, cases in sections.items() if name.startswith("Picture area")]
-    packets = [cases for name, cases in sections.items() if name.startswith("Subtitling")]
-    payloads = [cases for name, cases in sections.items() if name.startswith("Line 21 payload, taken")]
-    table = [row for tables in (areas, packets, payloads) for row in rows(tables)]
+    starts = ["Picture area, SCTE 20", "Picture area, GA94", "Subtitling", "Line 21 payload, taken"]
+    scte20, ga94, packets, payloads = (
+        [cases for name, cases in sections.items() if name.startswith(start)] for start in starts)
+    ga94 = [without_each(r"CEA-708 closed captions, \d+ bytes", cases) for cases in ga94]
+    table = [row for tables in (scte20, ga94, packets, payloads) for row in rows(tables)]
     if len(sys.argv) < 3:
         print("\n".join(table))
         return

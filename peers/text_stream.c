@@ -1,9 +1,12 @@
-/* text_stream IN OUT: puts a pop-on caption of line 21 behind the picture headers of a stream, one pair a picture. */
-#include "areas.h"
-#include "stream.h"
+/*
+ * text_stream CARRIAGE IN OUT: puts a pop-on caption of line 21 behind the picture headers of a stream, one pair a picture.
+ * CARRIAGE is scte20 or ga94.
+ */
+#include "carriage.h"
 
 #include <stdio.h>
 #include <stdlib.h>
+#include <string.h>
 
 /* Load, erase what is hidden, row 15, the text, show it. Control codes come twice. The parity is put on later. */
 static const uint8_t pairs[][2] = {
@@ -20,20 +23,27 @@ static uint8_t odd_parity(uint8_t byte)
     return (uint8_t)((byte & 0x7F) | (ones % 2 ? 0 : 0x80));
 }
 
+static const uint8_t quiet[2] = { 0, 0 }, clear[2] = { 0x14, 0x2C };
+
+static const uint8_t *pair_of(size_t picture, size_t pictures)
+{
+    return picture < PAIRS ? pairs[picture] : picture + 2 >= pictures ? clear : quiet;
+}
+
 int main(int argc, char **argv)
 {
     static struct area a;
-    if (argc != 3)
+    static struct triples t;
+    if (argc != 4)
         return 2;
-    struct stream s = stream_load(argv[1]);
-    FILE *out = fopen(argv[2], "wb");
+    const struct carriage *carriage = strcmp(argv[1], "ga94") == 0 ? &ga94 : &scte20;
+    struct stream s = stream_load(argv[2]);
+    FILE *out = fopen(argv[3], "wb");
     if (!out)
         return 2;
     for (size_t k = 0; k < s.n; k++) {
-        struct value v = k < PAIRS ? one_record(odd_parity(pairs[k][0]), odd_parity(pairs[k][1]))
-                       : k + 2 >= s.n ? one_record(0x94, 0x2C) /* clear the screen */
-                       : one_record(0x80, 0x80);
-        write_unit(&a, &v);
+        const uint8_t *pair = pair_of(k, s.n);
+        carriage->one_pair(&a, &t, &s.pictures[k], odd_parity(pair[0]), odd_parity(pair[1]));
         struct bytes b = picture_with_area(&s, k, a.data, a.len);
         fwrite(b.data, 1, b.len, out);
         free(b.data);

@@ -1,20 +1,20 @@
-#include "areas.h"
+/* Areas with an SCTE 20 caption unit. */
+#include "carriage.h"
 
-#include <stdio.h>
-#include <stdlib.h>
 #include <string.h>
 
-uint32_t random_below(uint32_t limit)
-{
-    static uint64_t state = 0x2545F4914F6CDD1D;
-    state ^= state << 13;
-    state ^= state >> 7;
-    state ^= state << 17;
-    return (uint32_t)(state >> 32) % limit;
-}
+/* A unit's value. */
+struct value {
+    uint32_t reserved, flag;
+    size_t n, z;
+    captions_record records[CAPTIONS_RECORDS];
+};
 
-/* Chosen places of field and line in rising order, so that the records are legal; at most four of a field get priority 0. */
-struct value random_value(uint32_t reserved, uint32_t fields)
+/*
+ * A legal value with flag 1 and records of display fields 1 to `fields`. Places of field and line are chosen in rising order,
+ * and at most four of a field get priority 0.
+ */
+static struct value random_value(uint32_t reserved, uint32_t fields)
 {
     struct value v = { .reserved = reserved, .flag = 1, .z = random_below(4) };
     size_t want = random_below(CAPTIONS_RECORDS + 1);
@@ -34,22 +34,14 @@ struct value random_value(uint32_t reserved, uint32_t fields)
     return v;
 }
 
-static void must(captions_written w)
-{
-    if (w.refusal.number != 0) {
-        fprintf(stderr, "the library refused a legal value: %d\n", w.refusal.number);
-        exit(2);
-    }
-}
-
-void write_unit(struct area *a, const struct value *v)
+static void write_unit(struct area *a, const struct value *v)
 {
     captions_written w = captions_unit_write(v->reserved, v->flag, v->n, v->z, v->records, a->data, MAX_AREA);
     must(w);
     a->len = w.len;
 }
 
-void replace_unit(struct area *a, const struct value *v)
+static void replace_unit(struct area *a, const struct value *v)
 {
     static uint8_t out[MAX_AREA];
     captions_written w = captions_area_replace(a->data, a->len, v->reserved, v->flag, v->n, v->z, v->records, out, MAX_AREA);
@@ -63,11 +55,6 @@ static struct value value_of(size_t n, const captions_record *records)
     struct value v = { .reserved = 64, .flag = 1, .n = n };
     memcpy(v.records, records, n * sizeof *records);
     return v;
-}
-
-struct value one_record(uint8_t data_1, uint8_t data_2)
-{
-    return value_of(1, (captions_record[]){ { 0, 1, 11, data_1, data_2 } });
 }
 
 /* ---- Units that the library does not write, bit by bit ---- */
@@ -125,14 +112,6 @@ static void raw_records(struct area *a, size_t n, const captions_record *records
     raw_unit(a, (struct raw){ .count = (unsigned)n, .marker = 1 }, n, records);
 }
 
-static void append(struct area *a, const void *data, size_t len)
-{
-    memcpy(a->data + a->len, data, len);
-    a->len += len;
-}
-
-#define APPEND(a, text) append(a, text, sizeof(text) - 1)
-
 static const captions_record one[] = { { 0, 1, 11, 0x94, 0x2C } };
 static const captions_record two[] = { { 0, 1, 11, 0x94, 0x2C }, { 0, 2, 11, 0x15, 0xAD } };
 static const captions_record four[] = {
@@ -182,7 +161,7 @@ static void legal_foreign(struct area *a) { APPEND(a, "\0\0\1\xB2XYZ1\2\3"); }
 static void legal_beside_afd(struct area *a)
 {
     struct value v = value_of(1, one);
-    APPEND(a, "\0\0\1\xB2" "DTG1\x41\xF8");
+    append_afd(a);
     replace_unit(a, &v);
 }
 static void legal_beside_a53(struct area *a)
@@ -316,7 +295,7 @@ static void sampled_video(struct area *a)
     raw_unit(a, (struct raw){ .count = 1, .marker = 1, .video_count = 1 }, 1, one);
 }
 
-const struct area_case area_cases[] = {
+static const struct area_case cases[] = {
     { 0, "one record, field 1, line 11, 94 2C (case A)", legal_one },
     { 0, "two records, fields 1 and 2: 94 2C, 15 AD", legal_two },
     { 0, "three records, fields 1, 2, 3: 94 2C, 15 AD, 94 2F", legal_three },
@@ -356,4 +335,73 @@ const struct area_case area_cases[] = {
     { 9, "five of priority 0: 94 2C to 2F, 94 20", fifth_priority },
     { 10, "sampled video count 1, nothing behind it", sampled_video },
 };
-const size_t area_case_count = sizeof area_cases / sizeof area_cases[0];
+
+/* ---- The carriage ---- */
+
+/* The field of the frame that a display field is: 0 top, 1 bottom. Only here is one counting turned into the other. */
+static int field_of_frame(const struct picture *p, uint8_t display_field)
+{
+    if (p->structure != 3)
+        return p->structure - 1;
+    bool first = display_field != 2;
+    return first == p->top_field_first ? 0 : 1;
+}
+
+static void expect(struct triples *t, const struct picture *p, const struct value *v)
+{
+    t->n = v->n;
+    for (size_t i = 0; i < v->n; i++) {
+        t->of[i][0] = (uint8_t)(4 | field_of_frame(p, v->records[i].field_number));
+        t->of[i][1] = v->records[i].cc_data_1;
+        t->of[i][2] = v->records[i].cc_data_2;
+    }
+}
+
+static void random_area(struct area *a, struct triples *t, const struct picture *p, bool replace)
+{
+    struct value v = random_value(random_below(2) ? 64 : 0, p->structure == 3 ? 3 : 1);
+    expect(t, p, &v);
+    if (replace) {
+        struct value old = random_value(random_below(128), 3);
+        write_unit(a, &old);
+        append_afd(a);
+        replace_unit(a, &v);
+    } else {
+        write_unit(a, &v);
+    }
+}
+
+static void one_pair(struct area *a, struct triples *t, const struct picture *p, uint8_t data_1, uint8_t data_2)
+{
+    struct value v = value_of(1, (captions_record[]){ { 0, 1, 11, data_1, data_2 } });
+    expect(t, p, &v);
+    write_unit(a, &v);
+}
+
+static void put_pair(struct area *a, uint8_t data_1, uint8_t data_2)
+{
+    struct value v = value_of(1, (captions_record[]){ { 0, 1, 11, data_1, data_2 } });
+    replace_unit(a, &v);
+}
+
+static int read_area(const struct area *a, int *records)
+{
+    captions_record out[CAPTIONS_RECORDS];
+    captions_unit u = captions_area_read(a->data, a->len, out);
+    *records = u.present ? (int)u.n : -1;
+    return u.refusal.number;
+}
+
+const struct carriage scte20 = {
+    .name = "SCTE 20",
+    .random = random_area,
+    .one_pair = one_pair,
+    .put_pair = put_pair,
+    .carried = "reserved",
+    .carried_values = 128,
+    .with_carried = legal_reserved,
+    .count_31 = count_says_31,
+    .read = read_area,
+    .cases = cases,
+    .case_count = sizeof cases / sizeof cases[0],
+};
