@@ -4,6 +4,7 @@ pub mod Fields
 pub mod Turn
 pub mod Beyond
 pub mod Runs
+pub mod Quiet
 pub mod Windows
 pub mod Determined
 pub mod Theorems

@@ -1,5 +1,5 @@
 -- Lists of bits, 0 or 1 each, as the meaning of bytes. RULES, "Picture area": most significant bit first.
-use Prim.Native.Nat.{ℕ, zero, suc, _+_, _*_, _/_, _%_, _^_}
+use Prim.Native.Nat.{ℕ, zero, suc, _+_, _*_, _/_, _%_, _^_, max}
 use mathlib.Core.List.{List, [], _∷_, _++_, reverse}
 use lib.ListN.{length, take, drop}
 
@@ -36,3 +36,12 @@ abbrev pub zeros : List ℕ → ℕ
 zeros [] = 0
 zeros (zero ∷ bs) = suc (zeros bs)
 zeros (suc b ∷ bs) = 0
+
+-- the longest run of zeros among bits, with so many zeros just before them
+abbrev pub longestFrom : ℕ → List ℕ → ℕ
+longestFrom run [] = run
+longestFrom run (zero ∷ bs) = longestFrom (suc run) bs
+longestFrom run (suc b ∷ bs) = max run (longestFrom 0 bs)
+
+abbrev pub longest : List ℕ → ℕ
+longest bs = longestFrom 0 bs

@@ -3,12 +3,14 @@
 use Prim.Native.Nat.{ℕ, zero, suc, _+_, _-_, _*_, _≤_, _<_}
 use native.Mathlib.Nat.{mul-zero, mul-suc, mul-add}
 use native.Mathlib.Omega.{arith}
-use mathlib.Core.Path.{_≡_, _∙_, ap, ap₂, sym, refl}
+use native.Mathlib.Numerals.{add-one}
+use mathlib.Core.Path.{_≡_, _∙_, ap, ap₂, sym, subst, refl}
 use mathlib.Core.List.{List, [], _∷_, _++_, append-assoc, append-nil}
-use lib.ListN.{length, getD, take, drop, replicate, length-append, length-drop, replicate-append-replicate}
-use lib.Seq.{drop-drop, drop-at, take-add, length-take-le}
-use Rattle.lists.specs.Room.{filled}
+use lib.ListN.{length, getD, take, drop, replicate, length-append, length-drop, replicate-append-replicate, drop-of-length-le}
+use lib.Seq.{drop-drop, drop-at, take-add, take-suc, length-take-le}
+use Rattle.lists.specs.Room.{filled, over, overAt}
 use Rattle.lists.specs.Flat.{flat, taken}
+use Rattle.lists.proofs.Lay.{length-over, overAt-overAt, over-blank}
 
 module _ {A : Type 0} (from : List ℕ → A) (width : ℕ) where
   pub length-taken : (k : ℕ) (s : List ℕ) → length (taken from width k s) ≡ k
@@ -69,6 +71,43 @@ module _ {A : Type 0} (bytes : A → List ℕ) (width : ℕ) (wide : (x : A) →
       (ap from whole ∙ back x (flat bytes xs ++ rest))
       (ap (taken from width (length xs)) behind ∙ flat-taken from back xs rest)
 
+  -- all of them, where they fill the array
+  pub flat-whole : (from : List ℕ → A) → ((x : A) (rest : List ℕ) → from (bytes x ++ rest) ≡ x) → (xs : List A) (n : ℕ) → length xs ≡ n
+      → taken from width n (flat bytes xs) ≡ xs
+  flat-whole from back xs n e =
+      ap (taken from width n) (sym (append-nil (flat bytes xs)))
+      ∙ subst (λ (k : ℕ). taken from width k (flat bytes xs ++ []) ≡ xs) e (flat-taken from back xs [])
+
+  -- no more records than there are places have no more bytes
+  pub flat-few : (xs : List A) (n : ℕ) → length xs ≤ n → length (flat bytes xs) ≤ width * n
+  flat-few xs n h =
+      let rest = n - length xs in
+      let all : length xs + rest ≡ n = omega arith in
+      let product : width * n ≡ width * length xs + width * rest = ap (λ (k : ℕ). width * k) (sym all) ∙ mul-add width (length xs) rest in
+      omega (arith, product, length-flat xs)
+
+  -- records laid one behind the other over an array: the next one, where it comes,
+  pub flat-next : (d : A) (xs : List A) (s : List ℕ) (i : ℕ) → i < length xs
+      → overAt (width * i) (bytes (getD xs i d)) (over (flat bytes (take i xs)) s) ≡ over (flat bytes (take (i + 1) xs)) s
+  flat-next d xs s i h =
+      let front = take i xs in
+      let x = getD xs i d in
+      let count : length front ≡ i = length-take-le i xs (omega arith) in
+      let far : 0 + length (flat bytes front) ≡ width * i = omega (arith, length-flat front, ap (λ (k : ℕ). width * k) count) in
+      let more : take (i + 1) xs ≡ front ++ (x ∷ []) = ap (λ (k : ℕ). take k xs) (add-one i) ∙ take-suc xs i d h in
+      overAt-overAt 0 (flat bytes front) (bytes x) s (width * i) (omega arith) far
+      ∙ ap (λ (laid : List ℕ). over laid s) (sym (flat-more bytes front x) ∙ ap (flat bytes) (sym more))
+
+  -- it keeps its length,
+  pub flat-room : (xs : List A) (n : ℕ) (s : List ℕ) → length xs ≤ n → length s ≡ width * n → length (over (flat bytes xs) s) ≡ width * n
+  flat-room xs n s h e = length-over (flat bytes xs) s (omega (arith, flat-few xs n h)) ∙ e
+
+  -- and as many records as there are places are all of it
+  pub flat-all : (xs : List A) (n : ℕ) (s : List ℕ) → length xs ≡ n → length s ≡ width * n → over (flat bytes xs) s ≡ flat bytes xs
+  flat-all xs n s h e =
+      let short : length s ≤ length (flat bytes xs) = omega (arith, length-flat xs, ap (λ (k : ℕ). width * k) h) in
+      ap (λ (rest : List ℕ). flat bytes xs ++ rest) (drop-of-length-le s short) ∙ append-nil (flat bytes xs)
+
   -- blank records are zeros
   module _ (blank : A) (zeros : bytes blank ≡ replicate width 0) where
     blanks : (k : ℕ) → flat bytes (replicate k blank) ≡ replicate (width * k) 0
@@ -89,6 +128,10 @@ module _ {A : Type 0} (bytes : A → List ℕ) (width : ℕ) (wide : (x : A) →
         flat-append bytes xs (replicate rest blank)
         ∙ ap (λ (r : List ℕ). flat bytes xs ++ r) (blanks rest)
         ∙ ap (λ (k : ℕ). flat bytes xs ++ replicate {A = ℕ} k 0) left
+
+    -- records laid over an array of zeros
+    pub flat-over : (xs : List A) (n : ℕ) → length xs ≤ n → over (flat bytes xs) (replicate (width * n) 0) ≡ flat bytes (filled xs n blank)
+    flat-over xs n h = over-blank (flat bytes xs) (width * n) 0 (flat-few xs n h) ∙ sym (flat-filled xs n h)
 
   -- bytes from which records are taken are laid again by them: those of the first n of k records,
   module _ (from : List ℕ → A) (same : (s : List ℕ) → width ≤ length s → bytes (from s) ≡ take width s) where

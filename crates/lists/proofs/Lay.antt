@@ -5,9 +5,9 @@ use native.Mathlib.Omega.{arith}
 use mathlib.Core.Path.{_≡_, _∙_, ap, ap₂, sym}
 use mathlib.Core.List.{List, [], _∷_, _++_, append-assoc, append-nil}
 use borrow.Rule.Slice.PartMut.{putMid}
-use lib.ListN.{length, getD, take, drop, set, length-append, length-drop}
+use lib.ListN.{length, getD, take, drop, set, replicate, length-append, length-drop, length-replicate, replicate-append-replicate}
 use lib.Seq.{length-take-le, take-at, drop-at, take-length, drop-length, drop-drop, drop-cons, drop-append-add, set-at, drop-set-lt, sets, sets-eq}
-use Rattle.lists.specs.Room.{over, overAt}
+use Rattle.lists.specs.Room.{filled, over, overAt}
 
 module _ {A : Type 0} where
   pub length-over : (front out : List A) → length front ≤ length out → length (over front out) ≡ length out
@@ -69,6 +69,16 @@ module _ {A : Type 0} (front out : List A) where
       ∙ drop-append-add front (drop (length front) out) more
       ∙ drop-drop more (length front) out
       ∙ ap (λ (k : ℕ). drop k out) (sym sum))
+
+-- laid over an array of blanks
+pub over-blank : {A : Type 0} (front : List A) (n : ℕ) (blank : A) → length front ≤ n → over front (replicate n blank) ≡ filled front n blank
+over-blank front n blank h =
+    let k = length front in
+    let sum : n ≡ k + (n - k) = omega arith in
+    ap (λ (rest : List _). front ++ rest)
+    (ap (λ (m : ℕ). drop k (replicate m blank)) sum
+    ∙ ap (drop k) (sym (replicate-append-replicate k (n - k) blank))
+    ∙ drop-at (replicate k blank) (replicate (n - k) blank) k (length-replicate k blank))
 
 -- a piece stored in the part from a on, behind the front, is laid behind it
 pub laid-more : {A : Type 0} (front piece out xs part : List A) (a : ℕ) → xs ≡ over front out → length front ≡ a

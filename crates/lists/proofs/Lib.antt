@@ -5,3 +5,4 @@ pub mod Sum
 pub mod Part
 pub mod Flat
 pub mod Below
+pub mod Determined

@@ -1,22 +1,19 @@
 -- What functions promise each other on the way to an answer. A signer may pass it over.
-use Prim.Native.Nat.{ℕ, _≤_}
+use Prim.Native.Nat.{ℕ, _+_, _≤_}
 use mathlib.Core.Path.{_≡_}
 use mathlib.Core.List.{List}
 use lib.ListN.{length}
+use Rattle.lists.specs.Room.{over, overAt}
 use Rattle.refusal.specs.declared.Item.{Item}
 use Rattle.refusal.specs.declared.Item.the-variants.{Whole, Bit, Body, Word, Length}
-use Rattle.refusal.specs.declared.Written.{Written}
-use Rattle.refusal.specs.Answers.{Wrote}
+use Rattle.kind.specs.declared.Kind.{Kind}
 use Rattle.units.specs.declared.Found.{Found}
 use Rattle.units.specs.declared.Found.the-variants.{NotUnits, Nowhere, At, Many}
-use Rattle.scte20.specs.declared.CaptionUnit.{CaptionUnit}
-use Rattle.scte20.specs.Value.{held, Typed}
-use Rattle.scte20.specs.Writing.{writeVerdict}
+use Rattle.units.specs.Layout.{layoutUnit}
 use Rattle.picture.specs.declared.Spot.{Spot}
-use Rattle.picture.specs.declared.Old.{Old}
 use Rattle.picture.specs.Reading.{captionsIn}
-use Rattle.picture.specs.Lent.{ReadsInto}
-use Rattle.picture.specs.Writing.{unitBytes, exchanged}
+use Rattle.picture.specs.Lent.{Head, ReadsInto}
+use Rattle.picture.specs.Writing.{exchanged}
 
 -- an item that begins not far behind the end of a body, so that its bit in an area is a number that the code holds
 abbrev pub Near : Item → Type 0
@@ -31,16 +28,17 @@ abbrev pub spotOf : Found → ℕ → Spot
 spotOf (NotUnits reason item) len = record { start = len; end = len }
 spotOf Nowhere len = record { start = len; end = len }
 spotOf (At unit end) len = record { start = unit; end = end }
-spotOf (Many k) len = record { start = len; end = len }
+spotOf (Many n) len = record { start = len; end = len }
 
--- the promise of `read_old`: that of `read_into`, and the place of the new unit
-pub record ReadsOld (s lent : List ℕ) (r : Old) (exit : List ℕ) : Type 0 where
-  pub head : ReadsInto s lent (record { refusal = r .refusal; present = r .present; numbers = r .numbers }) exit
-  pub place : r .spot ≡ spotOf (captionsIn s) (length s)
+-- the promise of reading an area in which a unit is to be replaced: that of reading into a lent array, and the place of
+-- the new unit
+pub record ReadsOld {k : Kind} (s lent : List ℕ) (r : Head k) (spot : Spot) (exit : List ℕ) : Type 0 where
+  pub head : ReadsInto s lent r exit
+  pub place : spot ≡ spotOf (captionsIn k s) (length s)
 
--- what `exchange` answers and leaves: the new area is judged as a whole
-pub record Exchanges (s : List ℕ) (start end : ℕ) (u : CaptionUnit) (out : List ℕ) (r : Written) (exit : List ℕ) : Type 0 where
-  pub typed : Typed u
-  pub wrote :
-      let new = exchanged s start end (unitBytes (held u)) in
-      Wrote (writeVerdict u (length new) (length out)) new out r exit
+-- what `surround` leaves, in an output that holds a body at its place: the unit's start code before it, and around the
+-- unit what the area has before `start` and from `end` on
+abbrev pub Surrounds : List ℕ → ℕ → ℕ → ℕ → List ℕ → List ℕ → Type 0
+Surrounds s start end len out exit =
+    (body first : List ℕ) → length body ≡ len → out ≡ overAt (start + 4) body first
+    → exit ≡ over (exchanged s start end (layoutUnit body)) first

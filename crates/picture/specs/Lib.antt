@@ -1,6 +1,7 @@
+pub mod Kinds
 pub mod Value
 pub mod Reading
-pub mod Lent
 pub mod Writing
+pub mod Lent
 pub mod Inside
 pub mod Order

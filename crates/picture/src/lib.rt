@@ -1,6 +1,7 @@
-// A picture's user data area: foreign units, and at most one caption unit.
+// A picture's user data area: foreign units, and at most one caption unit of each kind.
 //
-// Normative references: docs/RULES.md, "Picture area"; document 001, 5.7.
+// Normative references: docs/RULES.md, "Picture area" and "GA94"; document 001, 5.7; document 003, Table 3.
+mod places;
 mod reading;
 
 pub use reading::read;
@@ -25,6 +26,13 @@ pub struct Head {
     pub numbers: Numbers,
 }
 
+// What `ga94_read_into` answers: the same for GA94.
+pub struct Ga94Head {
+    pub refusal: Refusal,
+    pub present: bool,
+    pub numbers: ga94::Numbers,
+}
+
 // Which bytes of an area give way to a new unit: those from `start` up to `end`.
 pub struct Spot {
     pub start: usize,
@@ -33,8 +41,12 @@ pub struct Spot {
 
 // What `read_old` answers: what `read_into` does, and where a new unit goes.
 pub struct Old {
-    pub refusal: Refusal,
-    pub present: bool,
-    pub numbers: Numbers,
+    pub head: Head,
+    pub spot: Spot,
+}
+
+// What `ga94_read_old` answers.
+pub struct Ga94Old {
+    pub head: Ga94Head,
     pub spot: Spot,
 }

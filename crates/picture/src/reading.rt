@@ -1,15 +1,15 @@
-// Reading an area.
+// Reading an area for SCTE 20.
 ghost use mathlib.Core.Path.{_≡_};
-ghost use Prim.Native.Nat.{_≤_};
 ghost use mathlib.Core.List.{[]};
+ghost use Rattle.kind.specs.declared.Kind.the-variants.{Scte20};
 ghost use Rattle.units.specs.declared.Found.the-variants.{At};
-ghost use Rattle.picture.specs.Reading.{answerOf, captionsIn, placedItem, Reads};
-ghost use Rattle.picture.specs.Lent.{headOf, ReadsInto};
-ghost use Rattle.picture.specs.Inside.{Near, spotOf, ReadsOld};
+ghost use Rattle.picture.specs.Reading.{answerOf, captionsIn, Reads};
+ghost use Rattle.picture.specs.Lent.{headOf, ReadsInto, answered, headed};
+ghost use Rattle.picture.specs.Inside.{ReadsOld};
 use crate::Answer;
 use crate::Head;
 use crate::Old;
-use crate::Spot;
+use crate::places;
 use kind::Kind;
 use refusal::Item;
 use refusal::Reason;
@@ -21,7 +21,7 @@ use units::START_BYTES;
 
 // Reads the caption unit of an area. The foreign units are not looked into.
 pub fn read(s: &[u8]) -> Answer
-    ensures { λ r. ⌜ Reads (now (s .entry)) r ⌝ }
+    ensures { λ r. ⌜ Reads (now (s .entry)) (answered r) ⌝ }
 {
     let mut records = [0; LENT_RECORDS];
     let head = read_into(s, &mut records);
@@ -37,48 +37,25 @@ pub fn read(s: &[u8]) -> Answer
 
 // The same with the records in a lent array, which a refusal leaves as it is. Without a caption unit it is cleared.
 pub fn read_into(s: &[u8], records: &mut [u8; LENT_RECORDS]) -> Head
-    ensures { λ r. ⌜ ReadsInto (now (s .entry)) (now (records .entry)) r (now (records .exit)) ⌝ }
+    ensures { λ r. ⌜ ReadsInto (now (s .entry)) (now (records .entry)) (headed r) (now (records .exit)) ⌝ }
 {
     head_of(s, units::scan(s, Kind::Scte20), records)
 }
 
 // Reads an area for one who puts another caption unit into it: the old unit's numbers as `read_into` answers them, and which bytes give way.
 pub fn read_old(s: &[u8], records: &mut [u8; LENT_RECORDS]) -> Old
-    ensures { λ r. ⌜ ReadsOld (now (s .entry)) (now (records .entry)) r (now (records .exit)) ⌝ }
+    ensures { λ r. ⌜ ReadsOld (now (s .entry)) (now (records .entry)) (headed (r .head)) (r .spot) (now (records .exit)) ⌝ }
 {
     let found = units::scan(s, Kind::Scte20);
     let head = head_of(s, found, records);
-    let spot = spot_of(found, s.len());
-    let refusal = head.refusal;
-    let numbers = head.numbers;
-    Old {
-        refusal,
-        present: head.present,
-        numbers,
-        spot,
-    }
-}
-
-// Where the new unit goes: in the place of the only one that was found, else behind the last byte.
-fn spot_of(found: Found, len: usize) -> Spot
-    ensures { λ r. ⌜ r ≡ spotOf found len ⌝ }
-{
-    let behind = Spot {
-        start: len,
-        end: len,
-    };
-    match found {
-        Found::At { unit, end } => Spot { start: unit, end },
-        Found::Nowhere => behind,
-        Found::NotUnits(_, _) => behind,
-        Found::Many(_) => behind,
-    }
+    let spot = places::spot_of(found, s.len());
+    Old { head, spot }
 }
 
 // The answer, from what the search for caption units found.
 fn head_of(s: &[u8], found: Found, records: &mut [u8; LENT_RECORDS]) -> Head
-    requires { ⌜ captionsIn (now s) ≡ found ⌝ }
-    ensures { λ r. ⌜ ReadsInto (now (s .entry)) (now (records .entry)) r (now (records .exit)) ⌝ }
+    requires { ⌜ captionsIn Scte20 (now s) ≡ found ⌝ }
+    ensures { λ r. ⌜ ReadsInto (now (s .entry)) (now (records .entry)) (headed r) (now (records .exit)) ⌝ }
 {
     match found {
         Found::NotUnits(reason, item) => nothing(Verdict::Refused(reason, item)),
@@ -93,14 +70,14 @@ fn head_of(s: &[u8], found: Found, records: &mut [u8; LENT_RECORDS]) -> Head
 
 // Reads the only caption unit, which stands from byte `unit` up to `end`.
 fn read_unit(s: &[u8], unit: usize, end: usize, records: &mut [u8; LENT_RECORDS]) -> Head
-    requires { ⌜ captionsIn (now s) ≡ At unit end ⌝ }
-    ensures { λ r. ⌜ ReadsInto (now (s .entry)) (now (records .entry)) r (now (records .exit)) ⌝ }
+    requires { ⌜ captionsIn Scte20 (now s) ≡ At unit end ⌝ }
+    ensures { λ r. ⌜ ReadsInto (now (s .entry)) (now (records .entry)) (headed r) (now (records .exit)) ⌝ }
 {
     let body = unit + START_BYTES;
     let content = scte20_reader::read_into(&s[body..end], records);
     let verdict = content.verdict;
     if let Verdict::Refused(reason, item) = verdict {
-        return nothing(Verdict::Refused(reason, placed(unit, item)));
+        return nothing(Verdict::Refused(reason, places::placed(unit, item)));
     }
     let numbers = content.numbers;
     Head {
@@ -110,27 +87,9 @@ fn read_unit(s: &[u8], unit: usize, end: usize, records: &mut [u8; LENT_RECORDS]
     }
 }
 
-// An item of the body of the unit at byte `unit`, as one of the area.
-fn placed(unit: usize, item: Item) -> Item
-    requires { ⌜ unit ≤ 16384 ⌝ }
-    requires { ⌜ Near item ⌝ }
-    ensures { λ r. ⌜ r ≡ placedItem unit item ⌝ }
-{
-    match item {
-        Item::Bit(bit) => Item::Body {
-            unit,
-            bit: 8 * (unit + START_BYTES) + bit,
-        },
-        Item::Whole => item,
-        Item::Body { unit: _, bit: _ } => item,
-        Item::Word(_) => item,
-        Item::Length(_) => item,
-    }
-}
-
 // An answer with no caption unit in it.
 fn nothing(verdict: Verdict) -> Head
-    ensures { λ r. ⌜ r ≡ headOf (answerOf verdict []) ⌝ }
+    ensures { λ r. ⌜ headed r ≡ headOf (answerOf Scte20 verdict []) ⌝ }
 {
     Head {
         refusal: refusal::told(verdict),

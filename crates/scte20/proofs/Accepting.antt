@@ -11,13 +11,13 @@ use Rattle.refusal.specs.declared.Item.{Item}
 use Rattle.refusal.specs.declared.Verdict.{Verdict}
 use Rattle.refusal.specs.declared.Verdict.the-variants.{Accepted, Refused}
 use Rattle.refusal.specs.Checks.{first}
-use Rattle.refusal.specs.Answers.{lentOf}
+use Rattle.refusal.specs.Answers.{lentOf, AtBit}
 use Rattle.scte20.specs.declared.Record.{Record}
 use Rattle.scte20.specs.declared.CaptionUnit.{CaptionUnit}
 use Rattle.scte20.specs.declared.Head.{Head}
 use Rattle.scte20.specs.Value.{Content, withData, LegalRecord, Legal, LegalCaptionUnit, Typed, none, stored, held}
 use Rattle.scte20.specs.Layout.{layout}
-use Rattle.scte20.specs.Reading.{contentVerdict, valueOf, AtBit}
+use Rattle.scte20.specs.Reading.{contentVerdict, valueOf}
 use Rattle.scte20.specs.Order.{readingChecks}
 use Rattle.scte20.specs.Lent.{recordsBytes, unitIn, numbersOf, headOf, ReadsInto}
 use Rattle.scte20.proofs.Contents.{accepted-content, value-legal, value-layout}

@@ -11,11 +11,9 @@ use lib.Seq.{drop-drop, length-take-le}
 use Rattle.lists.specs.Bytes.{Bytes}
 use Rattle.lists.specs.Each.{Each}
 use Rattle.lists.proofs.Part.{take-join}
-use Rattle.lists.proofs.Each.{each-same}
 use Rattle.lists.proofs.Each.{each-both}
 use Rattle.refusal.specs.declared.Verdict.the-variants.{Accepted}
 use Rattle.refusal.specs.declared.Reason.the-variants.{TooLong, Unfixed, SampledVideo}
-use Rattle.refusal.specs.declared.Fixed.{Fixed}
 use Rattle.refusal.specs.declared.Fixed.the-variants.{Alignment, Stuffing, Identifier}
 use Rattle.refusal.specs.declared.Item.the-variants.{Whole, Bit}
 use Rattle.refusal.specs.Checks.{refuseIf, first}
@@ -24,28 +22,17 @@ use Rattle.bits.specs.Bits.{bits, bitsOf, field}
 use Rattle.bits.proofs.Numbers.{AreBits}
 use Rattle.bits.proofs.Stream.{length-bitsOf, bitsOf-are, bitsOf-same}
 use Rattle.bits.proofs.Fields.{field-lt, field-bits}
+use Rattle.stuffing.specs.Zeros.{zeroVerdict}
+use Rattle.stuffing.proofs.Zeros.{accepted-zero}
 use Rattle.scte20.specs.declared.Record.{Record}
 use Rattle.scte20.specs.Value.{LegalRecord, Legal, fieldOf, Ranged}
 use Rattle.scte20.specs.Layout.{constructsBits, flaggedBits, itemBits, padding, layout}
-use Rattle.scte20.specs.Reading.{missing, zeroVerdict, constructsVerdict, recordsAt, sampledVerdict, restVerdict, headVerdict, flagIn, countIn, flagVerdict, contentVerdict, recordsIn, valueOf}
+use Rattle.scte20.specs.Reading.{missing, constructsVerdict, recordsAt, sampledVerdict, restVerdict, headVerdict, flagIn, countIn, flagVerdict, contentVerdict, recordsIn, valueOf}
 use Rattle.scte20.proofs.Fitting.{AllFit, fit-allowed, fit-order, fit-four}
 use Rattle.scte20.proofs.Constructs.{accepted-missing, length-records, records-ranged, constructs-fit, constructs-again}
 use Rattle.scte20.proofs.Sizes.{bitsIn, length-items, padded, padded-size, layout-bytes, bitsOf-layout}
 
 -- ---- zero bits
-
-each-zero : (which : Fixed) (at : ℕ) (bs : List ℕ) → zeroVerdict which at bs ≡ Accepted → Each (λ (b : ℕ). b ≡ 0) bs
-each-zero which at [] e = tt
-each-zero which at (b ∷ bs) e =
-    let both = accepted-andThen (refuseIf (not (eqb b 0)) (Unfixed which) (Bit at)) (zeroVerdict which (suc at) bs) e in
-    (accepted-equal b 0 (Unfixed which) (Bit at) (both .0), each-zero which (suc at) bs (both .1))
-
-pub accepted-zero : (which : Fixed) (at : ℕ) (bs : List ℕ) → zeroVerdict which at bs ≡ Accepted → bs ≡ replicate (length bs) 0
-accepted-zero which at bs e = each-same 0 bs (each-zero which at bs e)
-
-pub zero-accepted : (which : Fixed) (at n : ℕ) → zeroVerdict which at (replicate n 0) ≡ Accepted
-zero-accepted which at zero = refl
-zero-accepted which at (suc n) = zero-accepted which (suc at) n
 
 -- what stands behind the items, which end before bit `at`: zeros
 pub accepted-rest : (at : ℕ) (xs : List ℕ) → restVerdict at xs ≡ Accepted → at + padding at ≤ length xs

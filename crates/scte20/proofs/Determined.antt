@@ -4,13 +4,13 @@ use Prim.Native.Nat.{ℕ, min}
 use mathlib.Core.Path.{_≡_, _∙_, sym}
 use mathlib.Core.List.{List, []}
 use lib.ListN.{getD}
+use Rattle.refusal.specs.declared.Laid.{Laid}
 use Rattle.refusal.specs.declared.Verdict.{Verdict}
 use Rattle.scte20.specs.declared.Record.{Record}
 use Rattle.scte20.specs.declared.Last.{Last}
 use Rattle.scte20.specs.declared.Numbers.{Numbers}
 use Rattle.scte20.specs.declared.CaptionUnit.{CaptionUnit}
 use Rattle.scte20.specs.declared.Head.{Head}
-use Rattle.scte20.specs.declared.Laid.{Laid}
 use Rattle.scte20.specs.Value.{blank, none, stored}
 use Rattle.scte20.specs.Writing.{valueVerdict, Writes}
 use Rattle.scte20.specs.Lent.{recordsBytes, lentRecords, storedAt, unitIn, numbersOf, ReadsInto}

@@ -20,14 +20,15 @@ use Rattle.refusal.specs.Checks.{refuseIf, andThen, first}
 use Rattle.refusal.proofs.Checks.{andThen-accepted, refuseIf-accepted}
 use Rattle.bits.specs.Bits.{bits, num, bitsOf, field}
 use Rattle.bits.proofs.Numbers.{num-bits-small}
+use Rattle.stuffing.specs.Zeros.{zeroVerdict}
+use Rattle.stuffing.proofs.Zeros.{zero-accepted}
 use Rattle.scte20.specs.declared.Record.{Record}
 use Rattle.scte20.specs.Value.{Content, LegalRecord, Legal, fieldOf}
 use Rattle.scte20.specs.Layout.{constructsBits, flaggedBits, itemBits, padding, layout, sizeIn}
-use Rattle.scte20.specs.Reading.{missing, zeroVerdict, constructsVerdict, recordsAt, sampledVerdict, restVerdict, headVerdict, flagIn, countIn, flagVerdict, contentVerdict, recordsIn, valueOf}
+use Rattle.scte20.specs.Reading.{missing, constructsVerdict, recordsAt, sampledVerdict, restVerdict, headVerdict, flagIn, countIn, flagVerdict, contentVerdict, recordsIn, valueOf}
 use Rattle.scte20.proofs.Fitting.{AllFit, legal-fit}
 use Rattle.scte20.proofs.Constructs.{length-constructs, missing-accepted, long-enough, constructs-accepted, records-back}
 use Rattle.scte20.proofs.Sizes.{bitsIn, length-items, bitsOf-layout, length-layout}
-use Rattle.scte20.proofs.Contents.{zero-accepted}
 
 -- the zeros behind n bits: the alignment, then stuffing
 abbrev pub zerosAt : ℕ → ℕ → List ℕ

@@ -1,21 +1,19 @@
 -- Records as bytes in a lent array: what is laid is told again, and an array of bytes tells a struct as the code's types hold it.
 -- Assumes nothing.
-use Prim.Native.Nat.{ℕ, _+_, _-_, _*_, _≤_, _<_}
+use Prim.Native.Nat.{ℕ, _+_, _*_, _≤_, _<_}
 use native.Mathlib.Nat.{add-zero}
 use native.Mathlib.Omega.{arith}
-use native.Mathlib.Numerals.{add-one}
 use mathlib.Core.Path.{_≡_, _∙_, ap, sym, subst, refl}
 use mathlib.Core.Bool.{Bool}
-use mathlib.Core.List.{List, [], _∷_, _++_, append-nil}
+use mathlib.Core.List.{List, [], _∷_, _++_}
 use borrow.Author.Tests.{lt-ltb}
-use lib.ListN.{length, getD, take, drop, replicate, length-replicate, replicate-append-replicate, drop-of-length-le}
-use lib.Seq.{drop-at, getD-drop, length-take-le, take-suc}
+use lib.ListN.{length, getD, take, drop, replicate}
+use lib.Seq.{getD-drop, length-take-le}
 use Rattle.lists.specs.Bytes.{Bytes}
-use Rattle.lists.specs.Flat.{taken}
 use Rattle.lists.specs.Room.{filled, over, overAt}
 use Rattle.lists.proofs.Each.{each-of, each-at}
-use Rattle.lists.proofs.Flat.{length-taken, getD-taken, flat-more, length-flat, flat-taken, flat-filled, flat-front}
-use Rattle.lists.proofs.Lay.{length-over, sets-overAt, overAt-overAt}
+use Rattle.lists.proofs.Flat.{length-taken, getD-taken, length-flat, flat-whole, flat-next, flat-room, flat-all, flat-filled, flat-over, flat-front}
+use Rattle.lists.proofs.Lay.{sets-overAt}
 use Rattle.scte20.specs.declared.Record.{Record}
 use Rattle.scte20.specs.declared.Numbers.{Numbers}
 use Rattle.scte20.specs.declared.CaptionUnit.{CaptionUnit}
@@ -63,9 +61,7 @@ length-lent rs = length-flat recordBytes 5 length-record rs
 -- ---- records that fill the array are told again
 
 pub lent-records : (rs : List Record) → length rs ≡ 31 → lentRecords (recordsBytes rs) ≡ rs
-lent-records rs e =
-    ap lentRecords (sym (append-nil (recordsBytes rs)))
-    ∙ subst (λ (n : ℕ). taken recordIn 5 n (recordsBytes rs ++ []) ≡ rs) e (flat-taken recordBytes 5 length-record recordIn record-back rs [])
+lent-records rs e = flat-whole recordBytes 5 length-record recordIn record-back rs 31 e
 
 pub lent-unit : (u : CaptionUnit) → length (u .records) ≡ 31 → unitIn (numbersOf u) (recordsBytes (u .records)) ≡ u
 lent-unit u e =
@@ -118,18 +114,9 @@ lent-typed v s h e =
 pub lent-filled : (rs : List Record) → length rs ≤ 31 → recordsBytes (filled rs 31 blank) ≡ filled (recordsBytes rs) 155 0
 lent-filled rs h = flat-filled recordBytes 5 length-record blank refl rs 31 h
 
-over-blank : (front : List ℕ) (n : ℕ) → length front ≤ n → over front (replicate n 0) ≡ filled front n 0
-over-blank front n h =
-    let k = length front in
-    let sum : n ≡ k + (n - k) = omega arith in
-    ap (λ (rest : List ℕ). front ++ rest)
-    (ap (λ (m : ℕ). drop k (replicate {A = ℕ} m 0)) sum
-    ∙ ap (drop k) (sym (replicate-append-replicate {A = ℕ} k (n - k) 0))
-    ∙ drop-at (replicate k 0) (replicate (n - k) 0) k (length-replicate {A = ℕ} k 0))
-
 -- records laid over an array of zeros
 pub lent-over : (rs : List Record) → length rs ≤ 31 → over (recordsBytes rs) (replicate 155 0) ≡ recordsBytes (filled rs 31 blank)
-lent-over rs h = over-blank (recordsBytes rs) 155 (omega (arith, length-lent rs)) ∙ sym (lent-filled rs h)
+lent-over rs h = flat-over recordBytes 5 length-record blank refl rs 31 h
 
 -- ---- records laid one behind the other over an array of 155 bytes
 
@@ -137,20 +124,12 @@ module _ (rs : List Record) (s : List ℕ) where
   -- the next one, where it comes
   pub lent-next : (i : ℕ) → i < length rs
       → overAt (5 * i) (recordBytes (getD rs i blank)) (over (recordsBytes (take i rs)) s) ≡ over (recordsBytes (take (i + 1) rs)) s
-  lent-next i h =
-      let front = take i rs in
-      let r = getD rs i blank in
-      let far : 0 + length (recordsBytes front) ≡ 5 * i = omega (arith, length-lent front, length-take-le i rs (omega arith)) in
-      let more : take (i + 1) rs ≡ front ++ (r ∷ []) = ap (λ (k : ℕ). take k rs) (add-one i) ∙ take-suc rs i blank h in
-      overAt-overAt 0 (recordsBytes front) (recordBytes r) s (5 * i) (omega arith) far
-      ∙ ap (λ (bytes : List ℕ). over bytes s) (sym (flat-more recordBytes front r) ∙ ap recordsBytes (sym more))
+  lent-next i h = flat-next recordBytes 5 length-record blank rs s i h
 
   -- it keeps its length
   pub lent-room : length rs ≤ 31 → length s ≡ 155 → length (over (recordsBytes rs) s) ≡ 155
-  lent-room h e = length-over (recordsBytes rs) s (omega (arith, length-lent rs)) ∙ e
+  lent-room h e = flat-room recordBytes 5 length-record rs 31 s h e
 
   -- and 31 records are all of it
   pub lent-all : length rs ≡ 31 → length s ≡ 155 → over (recordsBytes rs) s ≡ recordsBytes rs
-  lent-all h e =
-      let short : length s ≤ length (recordsBytes rs) = omega (arith, length-lent rs) in
-      ap (λ (rest : List ℕ). recordsBytes rs ++ rest) (drop-of-length-le s short) ∙ append-nil (recordsBytes rs)
+  lent-all h e = flat-all recordBytes 5 length-record rs 31 s h e

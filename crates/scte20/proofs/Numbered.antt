@@ -2,15 +2,14 @@
 -- Assumes nothing.
 use Prim.Native.Nat.{ℕ, zero, suc, _+_, _-_, _*_, _≤_, _<_}
 use native.Mathlib.Omega.{arith}
-use mathlib.Core.Path.{_≡_, _∙_, ap, subst, sym, refl}
+use mathlib.Core.Path.{_≡_, _∙_, ap, subst, sym}
 use borrow.Author.Tests.{le-ltb}
-use mathlib.Core.Bool.{Bool, true, false, not, _&&_}
+use mathlib.Core.Bool.{Bool, not, _&&_}
 use mathlib.Core.List.{List, [], _∷_}
 use lib.Dec.{eqb, ltb}
 use lib.ListN.{length, take, drop, length-take, length-drop}
 use Rattle.refusal.specs.declared.Reason.{Reason}
 use Rattle.refusal.specs.declared.Reason.the-variants.{TooLong, Ends, Unfixed, FieldNumberZero, FieldFalls, LineDoesNotRise, FifthPriority, SampledVideo}
-use Rattle.refusal.specs.declared.Fixed.{Fixed}
 use Rattle.refusal.specs.declared.Fixed.the-variants.{Marker, Alignment, Stuffing, Identifier}
 use Rattle.refusal.specs.declared.Item.{Item}
 use Rattle.refusal.specs.declared.Item.the-variants.{Whole, Bit}
@@ -18,40 +17,18 @@ use Rattle.refusal.specs.declared.Verdict.{Verdict}
 use Rattle.refusal.specs.declared.Verdict.the-variants.{Accepted, Refused}
 use Rattle.refusal.specs.Numbers.{numberOf}
 use Rattle.refusal.specs.Checks.{refuseIf, andThen, first}
+use Rattle.refusal.specs.Answers.{AtBit}
 use Rattle.refusal.proofs.Checks.{accepted-andThen, andThen-assoc}
+use Rattle.refusal.proofs.Only.{Only, accepted-only, andThen-only, bit-only}
 use Rattle.bits.specs.Bits.{bitsOf, field}
 use Rattle.bits.proofs.Stream.{length-bitsOf}
+use Rattle.stuffing.proofs.Numbered.{zero-only}
 use Rattle.scte20.specs.declared.Record.{Record}
 use Rattle.scte20.specs.Value.{fieldOf, urgent}
 use Rattle.scte20.specs.Layout.{padding}
 use Rattle.scte20.specs.Rules.{falls, notRising, recordVerdict}
-use Rattle.scte20.specs.Reading.{missing, zeroVerdict, constructAt, markerVerdict, constructsVerdict, sampledVerdict, restVerdict, headVerdict, flagIn, countIn, flagVerdict, contentVerdict, AtBit}
+use Rattle.scte20.specs.Reading.{missing, constructAt, markerVerdict, constructsVerdict, sampledVerdict, restVerdict, headVerdict, flagIn, countIn, flagVerdict, contentVerdict}
 use Rattle.scte20.proofs.Constructs.{accepted-missing, constructs-within}
-
-module _ (P : Reason → Item → Type 0) where
-  -- a verdict that refuses only where P holds of the reason and the item
-  abbrev pub Only : Verdict → Type 0
-  Only verdict = (reason : Reason) (item : Item) → verdict ≡ Refused reason item → P reason item
-
-  abbrev Keeps : Verdict → Type 0
-  Keeps Accepted = Unit {0}
-  Keeps (Refused reason item) = P reason item
-
-  accepted-only : Only Accepted
-  accepted-only reason item e = subst Keeps e tt
-
-  refuseIf-only : (fault : Bool) (reason : Reason) (item : Item) → P reason item → Only (refuseIf fault reason item)
-  refuseIf-only true reason item p r i e = subst Keeps e p
-  refuseIf-only false reason item p r i e = accepted-only r i e
-
-  -- a check is reached only where those before it accept
-  andThen-only : (check next : Verdict) → Only check → (check ≡ Accepted → Only next) → Only (andThen check next)
-  andThen-only Accepted next p q = q refl
-  andThen-only (Refused reason item) next p q = p
-
-module _ (low high limit : ℕ) where
-  bit-only : (fault : Bool) (reason : Reason) (b : ℕ) → b ≤ limit → low ≤ numberOf reason → numberOf reason ≤ high → Only (AtBit low high limit) (refuseIf fault reason (Bit b))
-  bit-only fault reason b h l m = refuseIf-only (AtBit low high limit) fault reason (Bit b) (record { bit = b; here = refl; within = h; least = l; most = m })
 
 -- a record's own checks
 pub record-only : (low high limit at : ℕ) (before : List Record) (r : Record) → low ≤ 7 → 9 ≤ high → at + 4 ≤ limit → Only (AtBit low high limit) (recordVerdict at before r)
@@ -80,23 +57,14 @@ module _ (xs : List ℕ) where
   unfolding missing
   missing-only at w h = check-only (ltb (length xs) (at + w)) Ends at h (omega arith) (omega arith)
 
-  zero-only : (which : Fixed) (at : ℕ) (bs : List ℕ) → (0 < length bs → at + length bs ≤ length xs) → Only InBits (zeroVerdict which at bs)
-  zero-only which at [] h = accepted-only InBits
-  zero-only which at (b ∷ bs) h =
-      let some : 0 < length (b ∷ bs) = omega arith in
-      let all : at + length (b ∷ bs) ≤ length xs = h some in
-      let here : at ≤ length xs = omega arith in
-      let next : suc at + length bs ≤ length xs = omega arith in
-      andThen-only InBits _ _ (check-only (not (eqb b 0)) (Unfixed which) at here (omega arith) (omega arith)) (λ e. zero-only which (suc at) bs (λ z. next))
-
   rest-only : (at : ℕ) → at ≤ length xs → Only InBits (restVerdict at xs)
   unfolding restVerdict
   rest-only at h =
       let short : length (take (padding at) (drop at xs)) ≤ length xs - at = rw (length-take, length-drop) (omega arith) in
       let aligned : at + length (take (padding at) (drop at xs)) ≤ length xs = omega (arith, short) in
       let stuffed : 0 < length (drop (at + padding at) xs) → at + padding at + length (drop (at + padding at) xs) ≤ length xs = λ some. omega (arith, length-drop (at + padding at) xs) in
-      andThen-only InBits _ _ (zero-only Alignment at (take (padding at) (drop at xs)) (λ some. aligned)) (λ e.
-      andThen-only InBits _ _ (zero-only Stuffing (at + padding at) (drop (at + padding at) xs) stuffed) (λ e.
+      andThen-only InBits _ _ (zero-only 5 10 (length xs) (omega arith) (omega arith) Alignment at (take (padding at) (drop at xs)) (λ some. aligned)) (λ e.
+      andThen-only InBits _ _ (zero-only 5 10 (length xs) (omega arith) (omega arith) Stuffing (at + padding at) (drop (at + padding at) xs) stuffed) (λ e.
       accepted-only InBits))
 
   marker-only : (at : ℕ) → at + 25 ≤ length xs → Only InBits (markerVerdict at xs)

@@ -3,16 +3,16 @@
 use Prim.Native.Nat.{ℕ, zero, suc, _+_}
 use mathlib.Core.Path.{_≡_, refl}
 use mathlib.Core.List.{List, [], _∷_}
-use Rattle.refusal.specs.declared.Fixed.{Fixed}
 use Rattle.refusal.specs.Checks.{first}
 use Rattle.refusal.proofs.Checks.{andThen-assoc, andThen-last}
 use Rattle.refusal.proofs.Sequence.{first-append}
+use Rattle.stuffing.proofs.Zeros.{zero-order}
 use Rattle.scte20.specs.declared.Record.{Record}
 use Rattle.scte20.specs.declared.CaptionUnit.{CaptionUnit}
 use Rattle.scte20.specs.Rules.{recordVerdict}
-use Rattle.scte20.specs.Reading.{missing, zeroVerdict, constructAt, markerVerdict, constructsVerdict, sampledVerdict, restVerdict, headVerdict, flagVerdict, contentVerdict}
+use Rattle.scte20.specs.Reading.{missing, constructAt, markerVerdict, constructsVerdict, sampledVerdict, restVerdict, headVerdict, flagVerdict, contentVerdict}
 use Rattle.scte20.specs.Writing.{wholeVerdict, rangeVerdict, recordsVerdict, valueVerdict, writeVerdict}
-use Rattle.scte20.specs.Order.{constructsChecks, zeroChecks, restChecks, flagChecks, readingChecks, recordsChecks, writingChecks}
+use Rattle.scte20.specs.Order.{constructsChecks, restChecks, flagChecks, readingChecks, recordsChecks, writingChecks}
 
 -- READING
 
@@ -20,10 +20,6 @@ constructs-order : (before : List Record) (k at : ℕ) (xs : List ℕ) → const
 unfolding missing recordVerdict markerVerdict
 constructs-order before zero at xs = refl
 constructs-order before (suc k) at xs = simp (constructs-order (constructAt at xs ∷ before) k (at + 26) xs, andThen-assoc, andThen-last)
-
-zero-order : (which : Fixed) (at : ℕ) (bs : List ℕ) → zeroVerdict which at bs ≡ first (zeroChecks which at bs)
-zero-order which at [] = refl
-zero-order which at (b ∷ bs) = simp (zero-order which (suc at) bs)
 
 rest-order : (at : ℕ) (xs : List ℕ) → restVerdict at xs ≡ first (restChecks at xs)
 unfolding restVerdict

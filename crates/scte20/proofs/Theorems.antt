@@ -20,18 +20,20 @@ use Rattle.refusal.specs.declared.Reason.{Reason}
 use Rattle.refusal.specs.declared.Item.{Item}
 use Rattle.refusal.specs.declared.Verdict.{Verdict}
 use Rattle.refusal.specs.declared.Verdict.the-variants.{Accepted, Refused}
+use Rattle.refusal.specs.declared.Laid.{Laid}
 use Rattle.refusal.specs.Checks.{first}
+use Rattle.refusal.specs.Answers.{AtBit}
+use Rattle.bits.specs.Bits.{longest}
 use Rattle.scte20.specs.declared.Record.{Record}
 use Rattle.scte20.specs.declared.Last.{Last}
 use Rattle.scte20.specs.declared.Numbers.{Numbers}
 use Rattle.scte20.specs.declared.CaptionUnit.{CaptionUnit}
 use Rattle.scte20.specs.declared.Head.{Head}
-use Rattle.scte20.specs.declared.Laid.{Laid}
 use Rattle.scte20.specs.Value.{Content, withData, LegalRecord}
 use Rattle.scte20.specs.Value.{Legal, LegalCaptionUnit, Typed, blank, none, stored, held}
-use Rattle.scte20.specs.Layout.{contentBits, contentBytes, layout, sizeIn, longest}
+use Rattle.scte20.specs.Layout.{contentBits, contentBytes, layout, sizeIn}
 use Rattle.scte20.specs.Rules.{recordVerdict}
-use Rattle.scte20.specs.Reading.{contentVerdict, AtBit}
+use Rattle.scte20.specs.Reading.{contentVerdict}
 use Rattle.scte20.specs.Writing.{valueVerdict, writeVerdict, bodyVerdict, Writes}
 use Rattle.scte20.specs.Order.{readingChecks, writingChecks}
 use Rattle.scte20.specs.Lent.{recordsBytes, lentRecords, storedAt, unitIn, numbersOf, ReadsInto}

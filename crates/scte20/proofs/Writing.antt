@@ -7,14 +7,15 @@ use mathlib.Core.Logic.{_↔_}
 use mathlib.Core.List.{List}
 use lib.ListN.{length}
 use Rattle.lists.specs.Room.{overAt}
+use Rattle.refusal.specs.declared.Laid.{Laid}
 use Rattle.refusal.specs.declared.Verdict.{Verdict}
 use Rattle.refusal.specs.declared.Verdict.the-variants.{Accepted, Refused}
 use Rattle.refusal.specs.Checks.{first}
+use Rattle.refusal.specs.Answers.{laidOf, bodyLeft}
 use Rattle.scte20.specs.declared.CaptionUnit.{CaptionUnit}
-use Rattle.scte20.specs.declared.Laid.{Laid}
 use Rattle.scte20.specs.Value.{LegalCaptionUnit, held}
 use Rattle.scte20.specs.Layout.{layout}
-use Rattle.scte20.specs.Writing.{bodyVerdict, laidOf, bodyLeft, Writes}
+use Rattle.scte20.specs.Writing.{bodyVerdict, Writes}
 use Rattle.scte20.specs.Order.{writingChecks}
 use Rattle.scte20.proofs.Writable.{accepted-write, write-accepted}
 use Rattle.scte20.proofs.Sequence.{writing-order}

@@ -8,30 +8,11 @@ use mathlib.Core.List.{List, [], _∷_, _++_, append-assoc}
 use lib.Dec.{eqb}
 use lib.ListN.{length, replicate, length-replicate}
 use Rattle.lists.specs.Each.{Each}
-use Rattle.bits.specs.Bits.{bits, reversed}
+use Rattle.bits.specs.Bits.{bits, reversed, longestFrom, longest}
+use Rattle.bits.proofs.Quiet.{longest-length, longest-one, longest-after}
 use Rattle.scte20.specs.declared.Record.{Record}
 use Rattle.scte20.specs.Value.{Content, fieldOf, countIf, urgent, LegalRecord, Legal}
-use Rattle.scte20.specs.Layout.{constructsBits, flaggedBits, itemBits, padding, contentBits, longestFrom, longest}
-
--- a run is no longer than the bits there are
-pub longest-length : (run : ℕ) (xs : List ℕ) → longestFrom run xs ≤ run + length xs
-longest-length run [] = omega arith
-longest-length run (zero ∷ xs) = omega (arith, longest-length (suc run) xs)
-longest-length run (suc b ∷ xs) = omega (arith, longest-length 0 xs)
-
-module _ (n : ℕ) where
-  -- a run that begins before xs, or in it, ends at the 1 behind it
-  pub longest-one : (run : ℕ) (xs rest : List ℕ) → run + length xs ≤ n → longestFrom 0 rest ≤ n → longestFrom run (xs ++ (1 ∷ rest)) ≤ n
-  longest-one run [] rest h g = omega arith
-  longest-one run (zero ∷ xs) rest h g = longest-one (suc run) xs rest (omega arith) g
-  longest-one run (suc b ∷ xs) rest h g = omega (arith, longest-one 0 xs rest (omega arith) g)
-
-  -- a run of at most k goes on behind xs
-  pub longest-after : (k : ℕ) → k ≤ n → (run : ℕ) (xs rest : List ℕ) → run + length xs ≤ k → ((j : ℕ) → j ≤ k → longestFrom j rest ≤ n)
-      → longestFrom run (xs ++ rest) ≤ n
-  longest-after k small run [] rest h g = g run (omega arith)
-  longest-after k small run (zero ∷ xs) rest h g = longest-after k small (suc run) xs rest (omega arith) g
-  longest-after k small run (suc b ∷ xs) rest h g = omega (arith, longest-after k small 0 xs rest (omega arith) g)
+use Rattle.scte20.specs.Layout.{constructsBits, flaggedBits, itemBits, padding, contentBits}
 
 -- line_offset and the data: 21 bits
 abbrev lineBits : Record → List ℕ

@@ -1,6 +1,6 @@
 -- The bytes of a caption unit's body, from its value alone. RULES, "Picture area"; document 001, 5.4 to 5.8. Most
 -- significant bit first.
-use Prim.Native.Nat.{ℕ, zero, suc, _+_, _-_, _*_, _/_, _%_, max}
+use Prim.Native.Nat.{ℕ, zero, suc, _+_, _-_, _*_, _/_, _%_}
 use mathlib.Core.List.{List, [], _∷_, _++_}
 use lib.ListN.{length, replicate}
 use Rattle.bits.specs.Bits.{bits, bytesOf, reversed}
@@ -46,12 +46,3 @@ layout c = contentBytes c ++ replicate (c .z) 0
 abbrev pub sizeIn : ℕ → ℕ → ℕ
 sizeIn zero n = 2
 sizeIn (suc f) n = (25 + 26 * n + 7) / 8
-
--- the longest run of zeros among bits, with so many zeros just before them
-abbrev pub longestFrom : ℕ → List ℕ → ℕ
-longestFrom run [] = run
-longestFrom run (zero ∷ bs) = longestFrom (suc run) bs
-longestFrom run (suc b ∷ bs) = max run (longestFrom 0 bs)
-
-abbrev pub longest : List ℕ → ℕ
-longest bs = longestFrom 0 bs

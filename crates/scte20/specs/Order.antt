@@ -7,12 +7,12 @@ use lib.Dec.{eqb, ltb}
 use lib.ListN.{length, take, drop}
 use Rattle.refusal.specs.declared.Verdict.{Verdict}
 use Rattle.refusal.specs.declared.Reason.the-variants.{TooLong, Ends, Unfixed, FieldNumberZero, FieldFalls, LineDoesNotRise, FifthPriority, SampledVideo, NoRoom, Unholdable}
-use Rattle.refusal.specs.declared.Fixed.{Fixed}
 use Rattle.refusal.specs.declared.Fixed.the-variants.{Marker, Alignment, Stuffing, Identifier}
 use Rattle.refusal.specs.declared.Excess.the-variants as excess
 use Rattle.refusal.specs.declared.Item.the-variants.{Whole, Bit}
 use Rattle.refusal.specs.Checks.{refuseIf}
 use Rattle.bits.specs.Bits.{bitsOf, field}
+use Rattle.stuffing.specs.Zeros.{zeroChecks}
 use Rattle.scte20.specs.declared.Record.{Record}
 use Rattle.scte20.specs.declared.CaptionUnit.{CaptionUnit}
 use Rattle.scte20.specs.Value.{fieldOf, urgent, held}
@@ -50,11 +50,6 @@ constructsChecks before (suc k) at xs =
     -- 6: the marker
     ++ (refuseIf (not (eqb (field xs (at + 25) 1) 1)) (Unfixed Marker) (Bit (at + 25))
     ∷ constructsChecks (constructAt at xs ∷ before) k (at + 26) xs))
-
--- 6: each bit, of which the first is bit `at`, is 0
-abbrev pub zeroChecks : Fixed → ℕ → List ℕ → List Verdict
-zeroChecks which at [] = []
-zeroChecks which at (b ∷ bs) = refuseIf (not (eqb b 0)) (Unfixed which) (Bit at) ∷ zeroChecks which (suc at) bs
 
 -- 6: alignment bits, from bit `at` up to a whole byte, then stuffing
 abbrev pub restChecks : ℕ → List ℕ → List Verdict

@@ -2,23 +2,19 @@
 -- from the first bit to the last, and whether an item is all there comes before what it holds.
 --
 -- A refusal has the bit of the body at which the failing item begins.
-use Prim.Native.Nat.{ℕ, zero, suc, _+_, _-_, _*_, _≤_}
-use mathlib.Core.Path.{_≡_}
+use Prim.Native.Nat.{ℕ, zero, suc, _+_, _-_, _*_}
 use mathlib.Core.Bool.{not}
 use mathlib.Core.List.{List, [], _∷_}
 use lib.Dec.{eqb, ltb}
 use lib.ListN.{length, take, drop}
 use Rattle.refusal.specs.declared.Verdict.{Verdict}
 use Rattle.refusal.specs.declared.Verdict.the-variants.{Accepted}
-use Rattle.refusal.specs.declared.Reason.{Reason}
 use Rattle.refusal.specs.declared.Reason.the-variants.{TooLong, Ends, Unfixed, SampledVideo}
-use Rattle.refusal.specs.declared.Fixed.{Fixed}
 use Rattle.refusal.specs.declared.Fixed.the-variants.{Marker, Alignment, Stuffing, Identifier}
-use Rattle.refusal.specs.declared.Item.{Item}
 use Rattle.refusal.specs.declared.Item.the-variants.{Whole, Bit}
-use Rattle.refusal.specs.Numbers.{numberOf}
 use Rattle.refusal.specs.Checks.{refuseIf, andThen, first}
 use Rattle.bits.specs.Bits.{bitsOf, field, reversed}
+use Rattle.stuffing.specs.Zeros.{zeroVerdict}
 use Rattle.scte20.specs.declared.Record.{Record}
 use Rattle.scte20.specs.Value.{Content}
 use Rattle.scte20.specs.Layout.{padding, sizeIn}
@@ -27,12 +23,6 @@ use Rattle.scte20.specs.Rules.{recordVerdict}
 -- 5: fewer than w bits are left at bit `at`
 unfoldable pub missing : ℕ → ℕ → List ℕ → Verdict
 missing at w xs = refuseIf (ltb (length xs) (at + w)) Ends (Bit at)
-
--- 6: the bits, of which the first is bit `at`, are all zero, or the first that is not is refused
-abbrev pub zeroVerdict : Fixed → ℕ → List ℕ → Verdict
-zeroVerdict which at [] = Accepted
-zeroVerdict which at (b ∷ bs) =
-    andThen (refuseIf (not (eqb b 0)) (Unfixed which) (Bit at)) (zeroVerdict which (suc at) bs)
 
 -- the construct that begins at bit `at`, and its marker
 unfoldable pub constructAt : ℕ → List ℕ → Record
@@ -120,11 +110,3 @@ valueOf body =
       records = recordsIn (flagIn (bitsOf body)) (bitsOf body);
       z = length body - sizeIn (flagIn (bitsOf body)) (countIn (bitsOf body));
     }
-
--- a refusal at a bit that is at most `limit`, of a number from `low` to `high`
-pub record AtBit (low high limit : ℕ) (reason : Reason) (item : Item) : Type 0 where
-  pub bit : ℕ
-  pub here : item ≡ Bit bit
-  pub within : bit ≤ limit
-  pub least : low ≤ numberOf reason
-  pub most : numberOf reason ≤ high

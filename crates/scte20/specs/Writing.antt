@@ -7,18 +7,17 @@ use mathlib.Core.Logic.{_⊎_}
 use mathlib.Core.List.{List, [], _∷_}
 use lib.Dec.{eqb, ltb}
 use lib.ListN.{length}
-use Rattle.lists.specs.Room.{overAt}
 use Rattle.refusal.specs.declared.Refusal.{Refusal}
+use Rattle.refusal.specs.declared.Laid.{Laid}
 use Rattle.refusal.specs.declared.Verdict.{Verdict}
-use Rattle.refusal.specs.declared.Verdict.the-variants.{Accepted, Refused}
+use Rattle.refusal.specs.declared.Verdict.the-variants.{Accepted}
 use Rattle.refusal.specs.declared.Reason.the-variants.{Unholdable}
 use Rattle.refusal.specs.declared.Excess.the-variants.{Count, Reserved, Flag, Stuffing, FlagWithRecords, Priority, FieldNumber, LineOffset}
 use Rattle.refusal.specs.declared.Item.the-variants.{Whole, Bit}
 use Rattle.refusal.specs.Checks.{refuseIf, andThen, first, fitVerdict}
-use Rattle.refusal.specs.Answers.{refused}
+use Rattle.refusal.specs.Answers.{refused, laidOf, bodyLeft}
 use Rattle.scte20.specs.declared.Record.{Record}
 use Rattle.scte20.specs.declared.CaptionUnit.{CaptionUnit}
-use Rattle.scte20.specs.declared.Laid.{Laid}
 use Rattle.scte20.specs.Value.{fieldOf, held, Typed}
 use Rattle.scte20.specs.Layout.{layout}
 use Rattle.scte20.specs.Rules.{recordVerdict}
@@ -68,15 +67,6 @@ writeVerdict u size room = andThen (valueVerdict u) (fitVerdict 16384 size room)
 -- the same where the result is the body with so many bytes before and after it
 abbrev pub bodyVerdict : CaptionUnit → ℕ → ℕ → ℕ → Verdict
 bodyVerdict u before after room = writeVerdict u (before + length (layout (held u)) + after) room
-
--- a refusal counts nothing and leaves the output as it was
-abbrev pub laidOf : Verdict → List ℕ → Laid
-laidOf Accepted laid = record { verdict = Accepted; len = length laid }
-laidOf (Refused reason item) laid = record { verdict = Refused reason item; len = 0 }
-
-abbrev pub bodyLeft : Verdict → ℕ → List ℕ → List ℕ → List ℕ
-bodyLeft Accepted at laid out = overAt at laid out
-bodyLeft (Refused reason item) at laid out = out
 
 -- the promise of `write_from`, of the struct that it is told by numbers and a lent array (`unitIn`). By its type the
 -- data bytes are bytes and there are 31 places; the code shows that too

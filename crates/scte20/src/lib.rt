@@ -66,12 +66,6 @@ pub struct Head {
     pub numbers: Numbers,
 }
 
-// What writing answers: the verdict, and how many bytes the body has, 0 where it refuses.
-pub struct Laid {
-    pub verdict: Verdict,
-    pub len: usize,
-}
-
 // What the rules need of the records before one: the latest's field and line, and how many records of that
 // field have priority 0, no more than four of them counted.
 pub struct Last {

@@ -3,23 +3,20 @@
 // Normative references: docs/RULES.md, "Picture area" and "Order of checks"; document 001, 5.4 to 5.8.
 ghost use mathlib.Core.Path.{_≡_};
 ghost use Prim.Native.Nat.{_+_, _≤_, _<_, _^_};
-ghost use lib.ListN.{length, replicate};
+ghost use lib.ListN.{length};
 ghost use Rattle.lists.specs.Room.{overAt};
 ghost use Rattle.refusal.specs.declared.Verdict.the-variants.{Accepted};
-ghost use Rattle.refusal.specs.Checks.{fitVerdict};
 ghost use Rattle.bits.specs.Bits.{num};
 ghost use Rattle.scte20.specs.Value.{held, Ranged};
 ghost use Rattle.scte20.specs.Layout.{constructBits, layout, sizeIn};
 ghost use Rattle.scte20.specs.Lent.{unitIn};
 ghost use Rattle.scte20.specs.Writing.{valueVerdict, Writes};
 ghost use Rattle.scte20_writer.specs.Inside.{countedBytes, countedSize, Pushes};
-use refusal::Item;
-use refusal::Reason;
+use refusal::Laid;
 use refusal::Verdict;
 use scte20::CONSTRUCT_BITS;
 use scte20::CONSTRUCTS;
 use scte20::LENT_RECORDS;
-use scte20::Laid;
 use scte20::MAX_BYTES;
 use scte20::Numbers;
 use scte20::Record;
@@ -53,7 +50,7 @@ pub fn write_from(
         };
     }
     let len = size(v);
-    let fit = judge_fit(before, len, after, out.len());
+    let fit = refusal::judge_fit(MAX_BYTES, before, len, after, out.len());
     if let Verdict::Refused(_, _) = fit {
         return Laid {
             verdict: fit,
@@ -62,26 +59,6 @@ pub fn write_from(
     }
     put(v, records, &mut out[before..before + len]);
     Laid { verdict: fit, len }
-}
-
-// 1 and 14 of a result that has the body's bytes, and those before and after it.
-fn judge_fit(before: usize, body: usize, after: usize, room: usize) -> Verdict
-    ensures { λ r. ⌜ r ≡ fitVerdict 16384 (before + body + after) room ⌝ }
-{
-    // Each is compared with what is left of the limit, so that no sum is too large to hold.
-    if MAX_BYTES < before {
-        return Verdict::Refused(Reason::TooLong, Item::Whole);
-    }
-    if MAX_BYTES - before < body {
-        return Verdict::Refused(Reason::TooLong, Item::Whole);
-    }
-    if MAX_BYTES - before - body < after {
-        return Verdict::Refused(Reason::TooLong, Item::Whole);
-    }
-    if room < before + body + after {
-        return Verdict::Refused(Reason::NoRoom, Item::Whole);
-    }
-    Verdict::Accepted
 }
 
 // How many bytes the body of a value has.
@@ -106,11 +83,11 @@ fn put(v: Numbers, records: &[u8; LENT_RECORDS], out: &mut [u8])
     out[1] = v.reserved * 2 + v.vbi_data_flag;
     // What follows is zeros: the sampled video count, the alignment bits, the stuffing.
     if v.vbi_data_flag == 0 {
-        clear(&mut out[2..]);
+        lists::clear(&mut out[2..]);
         return;
     }
     let end = put_constructs(v, records, out);
-    clear(&mut out[end..]);
+    lists::clear(&mut out[end..]);
 }
 
 // cc_count and the constructs, behind the first two bytes. Answers the first index behind them.
@@ -173,16 +150,5 @@ fn push(pen: Pen, construct: u32, out: &mut [u8]) -> Pen
         at: at + 4,
         width: width - 32,
         bits: bits % (1u64 << (width - 32)),
-    }
-}
-
-// Fills a part with zeros.
-fn clear(out: &mut [u8])
-    ensures { λ _. ⌜ now (out .exit) ≡ replicate (length (now (out .entry))) 0 ⌝ }
-{
-    let mut i = 0;
-    while i < out.len() {
-        out[i] = 0;
-        i += 1;
     }
 }

@@ -21,7 +21,8 @@ use Rattle.bits.proofs.Stream.{bitsOf-are}
 use Rattle.bits.proofs.Fields.{field-lt}
 use Rattle.bits.proofs.Beyond.{peek-inside}
 use Rattle.scte20.specs.Layout.{padding}
-use Rattle.scte20.specs.Reading.{zeroVerdict, restVerdict}
+use Rattle.stuffing.specs.Zeros.{zeroVerdict}
+use Rattle.scte20.specs.Reading.{restVerdict}
 use Rattle.scte20.proofs.Trailing.{padding-lt, padding-fits, moved-lt, alignment-none, alignment-some, stuffing-none, stuffing-some}
 use Rattle.scte20_reader.proofs.judge_rest.Statement.{statement}
 use Rattle.scte20_reader.proofs.judge_rest.Tie as tie

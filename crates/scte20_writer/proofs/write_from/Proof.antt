@@ -16,12 +16,13 @@ use Rattle.refusal.specs.declared.Item.{Item}
 use Rattle.refusal.specs.declared.Verdict.{Verdict}
 use Rattle.refusal.specs.declared.Verdict.the-variants.{Accepted, Refused}
 use Rattle.refusal.specs.Checks.{fitVerdict}
+use Rattle.refusal.specs.Answers.{laidOf, bodyLeft}
 use Rattle.refusal.proofs.Checks.{refused-first, accepted-first, accepted-fit}
 use Rattle.scte20.specs.declared.CaptionUnit.{CaptionUnit}
 use Rattle.scte20.specs.Value.{held, Typed}
 use Rattle.scte20.specs.Lent.{unitIn}
 use Rattle.scte20.specs.Layout.{layout}
-use Rattle.scte20.specs.Writing.{valueVerdict, bodyVerdict, laidOf, bodyLeft, Writes}
+use Rattle.scte20.specs.Writing.{valueVerdict, bodyVerdict, Writes}
 use Rattle.scte20.proofs.Lending.{lent-typed}
 use Rattle.scte20.proofs.Holding.{Whole, value-whole, length-layout-held}
 use Rattle.scte20_writer.proofs.write_from.Statement.{statement}

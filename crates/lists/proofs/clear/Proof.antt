@@ -1,4 +1,4 @@
--- `scte20_writer::clear` meets its contract. The loop's invariant: the first i places are zero.
+-- `lists::clear` meets its contract. The loop's invariant: the first i places are zero.
 -- Assumes nothing.
 use Prim.Native.Nat.{ℕ, _+_, _-_, _≤_, _<_}
 use native.Mathlib.Omega.{arith}
@@ -8,10 +8,10 @@ use borrow.Author.Needs.{needs}
 use denote.Ref.{now}
 use lib.ListN.{length, drop, set, replicate, length-replicate, replicate-append-replicate}
 use lib.Seq.{drop-length}
 use Rattle.lists.specs.Room.{over}
 use Rattle.lists.proofs.Lay.{length-over, store-next}
-use Rattle.scte20_writer.proofs.clear.Statement.{statement}
-use Rattle.scte20_writer.proofs.clear.Tie as tie
+use Rattle.lists.proofs.clear.Statement.{statement}
+use Rattle.lists.proofs.clear.Tie as tie
 
 abbrev Inv-loop : tie.InvT-loop
 Inv-loop out₀ i₀ out i = (i ≤ length out₀) × (out ≡ over (replicate i 0) out₀)
