@@ -4,22 +4,24 @@ use Prim.Native.Nat.{ℕ, _*_, _≤_, _<_}
 use native.Mathlib.Omega.{arith}
 use mathlib.Core.Path.{_≡_, _∙_, ap, sym, subst, refl}
 use mathlib.Core.Bool.{true, false, true≢false}
-use mathlib.Core.List.{List}
+use mathlib.Core.List.{List, [], _∷_}
 use lib.ListN.{length, take, length-map}
 use Rattle.lists.specs.Flat.{flat}
 use Rattle.lists.specs.Room.{filled, over}
+use Rattle.refusal.specs.declared.Verdict.the-variants.{Accepted}
 use Rattle.refusal.specs.declared.Written.{Written}
 use Rattle.refusal.specs.Answers.{accepted, written}
+use Rattle.kind.specs.declared.Kind.the-variants.{Scte20}
 use Rattle.scte20.specs.declared.Numbers.{Numbers}
 use Rattle.scte20.specs.Value.{Content}
 use Rattle.scte20.specs.Lent.{unitIn}
-use Rattle.picture.specs.declared.Answer as picture-answer
-use Rattle.picture.specs.declared.Head.{Head}
+use Rattle.picture.specs.Lent.{Head}
 use Rattle.picture.specs.Value.{Area, uncaptioned, captioned}
 use Rattle.picture.specs.Value as area
 use Rattle.picture.specs.Reading as areas
 use Rattle.picture.specs.Writing.{unitBytes, Writes, Replaces}
-use Rattle.picture.proofs.LentBack.{into-bytes}
+use Rattle.picture.proofs.Areas.{legal-read}
+use Rattle.picture.specs.Lent as lent-area
 use Rattle.picture.proofs.Theorems as picture
 use Rattle.sdp.specs.declared.Packet.{Packet}
 use Rattle.sdp.specs.Value.{SlotRow, numbersOf}
@@ -39,66 +41,70 @@ use Rattle.captions.proofs.Succeeding.{flags-byte}
 
 -- THE PICTURE AREA
 
-abbrev headWith : Numbers → Head
+abbrev headWith : Numbers → Head Scte20
 headWith v = record { refusal = accepted; present = true; numbers = v }
 
 pub unit-written-read : (reserved flag n z : ℕ) (records out : List ℕ) (w : Written) (end : List ℕ)
-    → Writes (unitIn (numbersIn reserved flag n z) records) out w end
+    → Writes Scte20 (unitIn (numbersIn reserved flag n z) records) out w end
     → w .refusal .number ≡ 0 → length records ≡ 155 → (lent : List ℕ) (r : UnitHead) (exit : List ℕ)
     → AreaReads (take (w .len) end) lent r exit
     → (r ≡ apart (headWith (plain reserved flag n z))) × (exit ≡ filled (take (5 * n) records) 155 0)
 unit-written-read reserved flag n z records out w end wrote e long lent r exit read =
     let v = numbersIn reserved flag n z in
-    let same = legal-same reserved flag n z records (picture.writes-exactly (unitIn v records) out w end wrote .0 e .0) in
-    let back = picture.written-read-into (plain reserved flag n z) records out w end (subst (λ (x : Numbers). Writes (unitIn x records) out w end) same wrote) e long lent (headIn r) exit read in
+    let same = legal-same reserved flag n z records (picture.writes-exactly Scte20 (unitIn v records) out w end wrote .0 e .0) in
+    let back = picture.written-read-into Scte20 (plain reserved flag n z) records out w end (subst (λ (x : Numbers). Writes Scte20 (unitIn x records) out w end) same wrote) e long lent (headIn r) exit read in
     (ap apart (back .0), back .1)
 
-pub area-replaced-read : (x : Area) → area.Legal x
+pub area-replaced-read : (x : Area Scte20) → area.Legal Scte20 x
     → (reserved flag n z : ℕ) (records out : List ℕ) (w : Written) (end : List ℕ)
-    → Replaces (area.layout x) (unitIn (numbersIn reserved flag n z) records) out w end → w .refusal .number ≡ 0
+    → Replaces Scte20 (area.layout Scte20 x) (unitIn (numbersIn reserved flag n z) records) out w end → w .refusal .number ≡ 0
     → length records ≡ 155
     → (lent : List ℕ) (r : UnitHead) (exit : List ℕ) → AreaReads (take (w .len) end) lent r exit
     → (r ≡ apart (headWith (plain reserved flag n z))) × (exit ≡ filled (take (5 * n) records) 155 0)
 area-replaced-read x h reserved flag n z records out w end p e long lent r exit read =
     let v = numbersIn reserved flag n z in
-    let same = legal-same reserved flag n z records (picture.replaces-exactly (area.layout x) (unitIn v records) out w end p .0 e .3) in
-    let back = picture.replaced-read-into x h (plain reserved flag n z) records out w end (subst (λ (y : Numbers). Replaces (area.layout x) (unitIn y records) out w end) same p) e long lent (headIn r) exit read in
+    let same = legal-same reserved flag n z records (picture.replaces-exactly Scte20 (area.layout Scte20 x) (unitIn v records) out w end p .0 e .3) in
+    let back = picture.replaced-read-into Scte20 x h (plain reserved flag n z) records out w end (subst (λ (y : Numbers). Replaces Scte20 (area.layout Scte20 x) (unitIn y records) out w end) same p) e long lent (headIn r) exit read in
     (ap apart (back .0), back .1)
 
--- the numbers that an area's caption unit was read as are passed on as they are
-module _ (before : List (List ℕ)) (c : Content) (after : List (List ℕ)) (h : area.Legal (captioned before c after))
-    (lent : List ℕ) (a : UnitHead) (kept : List ℕ) (read : AreaReads (area.layout (captioned before c after)) lent a kept) where
+-- the numbers that an area's caption unit was read as are bytes, and are passed on as they are
+module _ (before : List (List ℕ)) (c : Content) (after : List (List ℕ)) (h : area.Legal Scte20 (captioned before c after))
+    (lent : List ℕ) (a : UnitHead) (kept : List ℕ) (read : AreaReads (area.layout Scte20 (captioned before c after)) lent a kept) where
+  shown-head : headIn a ≡ lent-area.headOf Scte20 (areas.answerOf Scte20 Accepted (c ∷ []))
+  shown-head = read .answer ∙ ap (lent-area.headOf Scte20) (legal-read Scte20 (captioned before c after) h)
+
   passed-told : passed a ≡ headIn a .numbers
   passed-told =
-      let small = into-bytes before c after h lent (headIn a) kept read in
-      numbers-told (a .reserved) (a .«vbi_data_flag») (a .n) (a .z) (small .0) (small .1)
+      let reserved : a .reserved < 256 = omega (arith, ap (λ (x : Head Scte20). x .numbers .reserved) shown-head, h .units .1 .reserved) in
+      let flag : a .«vbi_data_flag» < 256 = omega (arith, ap (λ (x : Head Scte20). x .numbers .«vbi_data_flag») shown-head, h .units .1 .flag) in
+      numbers-told (a .reserved) (a .«vbi_data_flag») (a .n) (a .z) reserved flag
 
-  pub area-read-written : (out : List ℕ) (r : Written) (exit : List ℕ) → Writes (unitIn (passed a) kept) out r exit
-      → length (unitBytes c) ≤ length out → (r ≡ written (length (unitBytes c))) × (exit ≡ over (unitBytes c) out)
+  pub area-read-written : (out : List ℕ) (r : Written) (exit : List ℕ) → Writes Scte20 (unitIn (passed a) kept) out r exit
+      → length (unitBytes Scte20 c) ≤ length out → (r ≡ written (length (unitBytes Scte20 c))) × (exit ≡ over (unitBytes Scte20 c) out)
   area-read-written out r exit w =
-      picture.read-into-written before c after h lent (headIn a) kept read out r exit
-      (subst (λ (x : Numbers). Writes (unitIn x kept) out r exit) passed-told w)
+      picture.read-into-written Scte20 before c after h lent (headIn a) kept read out r exit
+      (subst (λ (x : Numbers). Writes Scte20 (unitIn x kept) out r exit) passed-told w)
 
 -- an area without one answers "none"
-none-absent : (us : List (List ℕ)) → area.Legal (uncaptioned us)
-    → (lent : List ℕ) (a : UnitHead) (kept : List ℕ) → AreaReads (area.layout (uncaptioned us)) lent a kept → a .present ≡ false
+none-absent : (us : List (List ℕ)) → area.Legal Scte20 (uncaptioned us)
+    → (lent : List ℕ) (a : UnitHead) (kept : List ℕ) → AreaReads (area.layout Scte20 (uncaptioned us)) lent a kept → a .present ≡ false
 none-absent us h lent a kept read =
-    let s = area.layout (uncaptioned us) in
-    let reads : areas.Reads s (areas.readOf s) = record { bytes = read .bytes; answer = refl } in
-    ap (λ (x : Head). x .present) (picture.read-into-as-read s lent (headIn a) kept read (areas.readOf s) reads .0)
-    ∙ ap (λ (x : picture-answer.Answer). x .present) (picture.the-answer (uncaptioned us) h (areas.readOf s) reads)
+    let s = area.layout Scte20 (uncaptioned us) in
+    let reads : areas.Reads Scte20 s (areas.readOf Scte20 s) = record { bytes = read .bytes; answer = refl } in
+    ap (λ (x : Head Scte20). x .present) (picture.read-into-as-read Scte20 s lent (headIn a) kept read (areas.readOf Scte20 s) reads .0)
+    ∙ ap (λ (x : areas.Answer Scte20). x .present) (picture.the-answer Scte20 (uncaptioned us) h (areas.readOf Scte20 s) reads)
 
-pub area-put-back : (x : Area) → area.Legal x
-    → (lent : List ℕ) (a : UnitHead) (kept : List ℕ) → AreaReads (area.layout x) lent a kept → a .present ≡ true
+pub area-put-back : (x : Area Scte20) → area.Legal Scte20 x
+    → (lent : List ℕ) (a : UnitHead) (kept : List ℕ) → AreaReads (area.layout Scte20 x) lent a kept → a .present ≡ true
     → (reserved flag n z : ℕ) (records out : List ℕ) (r : Written) (exit : List ℕ)
-    → Replaces (area.layout x) (unitIn (numbersIn reserved flag n z) records) out r exit → r .refusal .number ≡ 0
-    → (room : List ℕ) (again : Written) (end : List ℕ) → Replaces (take (r .len) exit) (unitIn (passed a) kept) room again end
-    → length (area.layout x) ≤ length room
-    → (again ≡ written (length (area.layout x))) × (end ≡ over (area.layout x) room)
+    → Replaces Scte20 (area.layout Scte20 x) (unitIn (numbersIn reserved flag n z) records) out r exit → r .refusal .number ≡ 0
+    → (room : List ℕ) (again : Written) (end : List ℕ) → Replaces Scte20 (take (r .len) exit) (unitIn (passed a) kept) room again end
+    → length (area.layout Scte20 x) ≤ length room
+    → (again ≡ written (length (area.layout Scte20 x))) × (end ≡ over (area.layout Scte20 x) room)
 area-put-back (captioned before c after) h lent a kept read there reserved flag n z records out r exit p e room again end q =
-    picture.put-back-into (captioned before c after) h lent (headIn a) kept read there (unitIn (numbersIn reserved flag n z) records)
+    picture.put-back-into Scte20 (captioned before c after) h lent (headIn a) kept read there (unitIn (numbersIn reserved flag n z) records)
     out r exit p e room again end
-    (subst (λ (x : Numbers). Replaces (take (r .len) exit) (unitIn x kept) room again end) (passed-told before c after h lent a kept read) q)
+    (subst (λ (x : Numbers). Replaces Scte20 (take (r .len) exit) (unitIn x kept) room again end) (passed-told before c after h lent a kept read) q)
 area-put-back (uncaptioned us) h lent a kept read there reserved flag n z records out r exit p e room again end q =
     absurd (true≢false (sym there ∙ none-absent us h lent a kept read))
 

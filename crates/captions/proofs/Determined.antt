@@ -6,6 +6,7 @@ use mathlib.Core.Logic.{⊎-elim}
 use mathlib.Core.List.{List}
 use Rattle.refusal.specs.declared.Written.{Written}
 use Rattle.refusal.proofs.Outputs.{wrote-determined}
+use Rattle.kind.specs.declared.Kind.the-variants.{Scte20}
 use Rattle.scte20.specs.declared.Numbers.{Numbers}
 use Rattle.scte20.specs.Lent.{unitIn}
 use Rattle.picture.specs.Writing.{Writes, Replaces}
@@ -21,16 +22,16 @@ use Rattle.captions.proofs.Numbers.{apart, byte-or-wide}
 pub area-read-determined : (s lent : List ℕ) (a : UnitHead) (exit : List ℕ) (b : UnitHead) (end : List ℕ)
     → AreaReads s lent a exit → AreaReads s lent b end → (a ≡ b) × (exit ≡ end)
 area-read-determined s lent a exit b end p q =
-    let same = picture.read-into-determined s lent (headIn a) exit (headIn b) end p q in
+    let same = picture.read-into-determined Scte20 s lent (headIn a) exit (headIn b) end p q in
     (ap apart (same .0), same .1)
 
 pub unit-write-determined : (v : Numbers) (lent out : List ℕ) (a : Written) (exit : List ℕ) (b : Written) (end : List ℕ)
-    → Writes (unitIn v lent) out a exit → Writes (unitIn v lent) out b end → (a ≡ b) × (exit ≡ end)
-unit-write-determined v lent = picture.write-determined (unitIn v lent)
+    → Writes Scte20 (unitIn v lent) out a exit → Writes Scte20 (unitIn v lent) out b end → (a ≡ b) × (exit ≡ end)
+unit-write-determined v lent = picture.write-determined Scte20 (unitIn v lent)
 
 pub area-replace-determined : (s : List ℕ) (v : Numbers) (lent out : List ℕ) (a : Written) (exit : List ℕ) (b : Written) (end : List ℕ)
-    → Replaces s (unitIn v lent) out a exit → Replaces s (unitIn v lent) out b end → (a ≡ b) × (exit ≡ end)
-area-replace-determined s v lent = picture.replace-determined s (unitIn v lent)
+    → Replaces Scte20 s (unitIn v lent) out a exit → Replaces Scte20 s (unitIn v lent) out b end → (a ≡ b) × (exit ≡ end)
+area-replace-determined s v lent = picture.replace-determined Scte20 s (unitIn v lent)
 
 pub packet-write-determined : (counter : ℕ) (lent : List ℕ) (rows : List (List ℕ)) (out : List ℕ) (a : Written) (exit : List ℕ) (b : Written) (end : List ℕ)
     → packets.Writes (packetIn counter lent) rows out a exit → packets.Writes (packetIn counter lent) rows out b end

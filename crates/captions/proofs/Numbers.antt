@@ -10,10 +10,11 @@ use lib.ListN.{length, take}
 use lib.Seq.{take-all}
 use Rattle.lists.specs.Flat.{flat, taken}
 use Rattle.lists.proofs.Flat.{length-taken, flat-taken, taken-flat}
+use Rattle.kind.specs.declared.Kind.the-variants.{Scte20}
 use Rattle.scte20.specs.declared.Numbers.{Numbers}
 use Rattle.scte20.specs.Value.{LegalCaptionUnit}
 use Rattle.scte20.specs.Lent.{unitIn}
-use Rattle.picture.specs.declared.Head.{Head}
+use Rattle.picture.specs.Lent.{Head}
 use Rattle.sdp.specs.declared.Slot.{Slot}
 use Rattle.sdp.specs.declared.Packet.{Packet}
 use Rattle.captions.specs.declared.UnitHead.{UnitHead}
@@ -23,7 +24,7 @@ use Rattle.captions.specs.Arguments.{plain, slotBytes}
 -- A UNIT'S NUMBERS
 
 -- an answer of an area, with its numbers in it
-abbrev pub apart : Head → UnitHead
+abbrev pub apart : Head Scte20 → UnitHead
 apart h =
     record {
       refusal = h .refusal;

@@ -8,6 +8,7 @@ use mathlib.Core.List.{List}
 use Rattle.refusal.specs.declared.Verdict.the-variants.{Accepted}
 use Rattle.refusal.specs.declared.Written.{Written}
 use Rattle.refusal.specs.Answers.{refused}
+use Rattle.kind.specs.declared.Kind.the-variants.{Scte20}
 use Rattle.scte20.specs.declared.Numbers.{Numbers}
 use Rattle.scte20.specs.Lent.{unitIn}
 use Rattle.scte20.specs.Writing.{wholeVerdict}
@@ -20,9 +21,9 @@ use Rattle.captions.specs.Calls.{numbersIn, PayloadWrites}
 use Rattle.captions.proofs.Numbers.{numbers-wide}
 
 pub wide-refused : (reserved flag n z : ℕ) (lent out : List ℕ) (r : Written) (exit : List ℕ)
-    → Writes (unitIn (numbersIn reserved flag n z) lent) out r exit
+    → Writes Scte20 (unitIn (numbersIn reserved flag n z) lent) out r exit
     → (127 < reserved) ⊎ (1 < flag) → r .refusal ≡ refused 15 0
-wide-refused reserved flag n z lent out r exit w wide = picture.write-15 (unitIn v lent) out r exit w (λ e. ⊎-elim (high e) (set e) wide)
+wide-refused reserved flag n z lent out r exit w wide = picture.write-15 Scte20 (unitIn v lent) out r exit w (λ e. ⊎-elim (high e) (set e) wide)
   where
     v : Numbers
     v = numbersIn reserved flag n z

@@ -6,6 +6,7 @@ use mathlib.Core.Path.{_≡_, ap}
 use mathlib.Core.Logic.{_↔_, ⊎-elim}
 use mathlib.Core.List.{List}
 use Rattle.refusal.specs.declared.Written.{Written}
+use Rattle.kind.specs.declared.Kind.the-variants.{Scte20}
 use Rattle.scte20.specs.Lent.{unitIn}
 use Rattle.picture.specs.Value.{Area}
 use Rattle.picture.specs.Value as area
@@ -23,22 +24,22 @@ use Rattle.captions.proofs.Numbers.{plain-exactly, byte-or-wide}
 -- THE PICTURE AREA
 
 pub area-read-exactly : (s lent : List ℕ) (r : UnitHead) (exit : List ℕ) → AreaReads s lent r exit
-    → r .refusal .number ≡ 0 ↔ ((v : Area) × area.Legal v × (area.layout v ≡ s))
-area-read-exactly s lent r exit p = picture.into-exactly s lent (headIn r) exit p
+    → r .refusal .number ≡ 0 ↔ ((v : Area Scte20) × area.Legal Scte20 v × (area.layout Scte20 v ≡ s))
+area-read-exactly s lent r exit p = picture.into-exactly Scte20 s lent (headIn r) exit p
 
 pub unit-write-exactly : (reserved flag n z : ℕ) (records out : List ℕ) (r : Written) (exit : List ℕ)
-    → Writes (unitIn (numbersIn reserved flag n z) records) out r exit
-    → r .refusal .number ≡ 0 ↔ Fits records out (plain reserved flag n z)
+    → Writes Scte20 (unitIn (numbersIn reserved flag n z) records) out r exit
+    → r .refusal .number ≡ 0 ↔ Fits Scte20 records out (plain reserved flag n z)
 unit-write-exactly reserved flag n z records out r exit w =
-    plain-exactly reserved flag n z records (Fits records out) (λ v fits. fits .0)
-    (picture.writes-exactly (unitIn (numbersIn reserved flag n z) records) out r exit w)
+    plain-exactly reserved flag n z records (Fits Scte20 records out) (λ v fits. fits .0)
+    (picture.writes-exactly Scte20 (unitIn (numbersIn reserved flag n z) records) out r exit w)
 
 pub area-replace-exactly : (s : List ℕ) (reserved flag n z : ℕ) (records out : List ℕ) (r : Written) (exit : List ℕ)
-    → Replaces s (unitIn (numbersIn reserved flag n z) records) out r exit
-    → r .refusal .number ≡ 0 ↔ FitsIn s records out (plain reserved flag n z)
+    → Replaces Scte20 s (unitIn (numbersIn reserved flag n z) records) out r exit
+    → r .refusal .number ≡ 0 ↔ FitsIn Scte20 s records out (plain reserved flag n z)
 area-replace-exactly s reserved flag n z records out r exit p =
-    plain-exactly reserved flag n z records (FitsIn s records out) (λ v fits. fits .3)
-    (picture.replaces-exactly s (unitIn (numbersIn reserved flag n z) records) out r exit p)
+    plain-exactly reserved flag n z records (FitsIn Scte20 s records out) (λ v fits. fits .3)
+    (picture.replaces-exactly Scte20 s (unitIn (numbersIn reserved flag n z) records) out r exit p)
 
 -- THE SUBTITLING PACKET
 

@@ -18,6 +18,7 @@ use Rattle.lists.specs.Flat.{flat}
 use Rattle.lists.specs.Room.{filled, over}
 use Rattle.refusal.specs.declared.Written.{Written}
 use Rattle.refusal.specs.Answers.{accepted, refused, written}
+use Rattle.kind.specs.declared.Kind.the-variants.{Scte20}
 use Rattle.scte20.specs.declared.Numbers.{Numbers}
 use Rattle.scte20.specs.Value.{Content}
 use Rattle.scte20.specs.Lent.{unitIn}
@@ -64,7 +65,7 @@ numbers-wide = numbers.numbers-wide
 
 -- So it is refused with 15, whatever the records and the output are.
 pub wide-refused : (reserved flag n z : ℕ) (lent out : List ℕ) (r : Written) (exit : List ℕ)
-    → Writes (unitIn (numbersIn reserved flag n z) lent) out r exit
+    → Writes Scte20 (unitIn (numbersIn reserved flag n z) lent) out r exit
     → (127 < reserved) ⊎ (1 < flag) → r .refusal ≡ refused 15 0
 wide-refused = refusing.wide-refused
 
@@ -90,7 +91,7 @@ flags-refused = refusing.flags-refused
 
 -- A read call accepts exactly what is the layout of a legal value.
 pub area-read-exactly : (s lent : List ℕ) (r : UnitHead) (exit : List ℕ) → AreaReads s lent r exit
-    → r .refusal .number ≡ 0 ↔ ((v : Area) × area.Legal v × (area.layout v ≡ s))
+    → r .refusal .number ≡ 0 ↔ ((v : Area Scte20) × area.Legal Scte20 v × (area.layout Scte20 v ≡ s))
 area-read-exactly = succeeding.area-read-exactly
 
 pub packet-read-exactly : (s : List ℕ) (lent : List (List ℕ)) (r : Answer) (exit : List (List ℕ))
@@ -105,14 +106,14 @@ payload-read-exactly = payloads.into-exactly
 -- A write call succeeds exactly when the value that its numbers and bytes tell is legal, and the result fits limit and
 -- buffer: the numbers as they are passed (`plain`), not as a byte would cut them.
 pub unit-write-exactly : (reserved flag n z : ℕ) (records out : List ℕ) (r : Written) (exit : List ℕ)
-    → Writes (unitIn (numbersIn reserved flag n z) records) out r exit
-    → r .refusal .number ≡ 0 ↔ Fits records out (plain reserved flag n z)
+    → Writes Scte20 (unitIn (numbersIn reserved flag n z) records) out r exit
+    → r .refusal .number ≡ 0 ↔ Fits Scte20 records out (plain reserved flag n z)
 unit-write-exactly = succeeding.unit-write-exactly
 
 -- So does the one that replaces, when the area is accepted too, and the whole new area fits.
 pub area-replace-exactly : (s : List ℕ) (reserved flag n z : ℕ) (records out : List ℕ) (r : Written) (exit : List ℕ)
-    → Replaces s (unitIn (numbersIn reserved flag n z) records) out r exit
-    → r .refusal .number ≡ 0 ↔ FitsIn s records out (plain reserved flag n z)
+    → Replaces Scte20 s (unitIn (numbersIn reserved flag n z) records) out r exit
+    → r .refusal .number ≡ 0 ↔ FitsIn Scte20 s records out (plain reserved flag n z)
 area-replace-exactly = succeeding.area-replace-exactly
 
 pub packet-write-exactly : (counter : ℕ) (slots : List ℕ) (rows : List (List ℕ))
@@ -129,16 +130,16 @@ payload-write-exactly = succeeding.payload-write-exactly
 -- Reading what was written gives the same numbers and the same bytes. The lent array has zeros beyond the n records or
 -- m units. An array that is passed has its length by its type.
 pub unit-written-read : (reserved flag n z : ℕ) (records out : List ℕ) (w : Written) (end : List ℕ)
-    → Writes (unitIn (numbersIn reserved flag n z) records) out w end
+    → Writes Scte20 (unitIn (numbersIn reserved flag n z) records) out w end
     → w .refusal .number ≡ 0 → length records ≡ 155
     → (lent : List ℕ) (r : UnitHead) (exit : List ℕ) → AreaReads (take (w .len) end) lent r exit
     → (r ≡ record { refusal = accepted; present = true; reserved = reserved; «vbi_data_flag» = flag; n = n; z = z })
     × (exit ≡ filled (take (5 * n) records) 155 0)
 unit-written-read = both-ways.unit-written-read
 
-pub area-replaced-read : (x : Area) → area.Legal x
+pub area-replaced-read : (x : Area Scte20) → area.Legal Scte20 x
     → (reserved flag n z : ℕ) (records out : List ℕ) (w : Written) (end : List ℕ)
-    → Replaces (area.layout x) (unitIn (numbersIn reserved flag n z) records) out w end
+    → Replaces Scte20 (area.layout Scte20 x) (unitIn (numbersIn reserved flag n z) records) out w end
     → w .refusal .number ≡ 0 → length records ≡ 155
     → (lent : List ℕ) (r : UnitHead) (exit : List ℕ) → AreaReads (take (w .len) end) lent r exit
     → (r ≡ record { refusal = accepted; present = true; reserved = reserved; «vbi_data_flag» = flag; n = n; z = z })
@@ -162,21 +163,21 @@ payload-written-read = both-ways.payload-written-read
 
 -- Writing what was read gives the input back: of an area the unit's bytes,
 pub area-read-written : (before : List (List ℕ)) (c : Content) (after : List (List ℕ))
-    → area.Legal (captioned before c after)
-    → (lent : List ℕ) (a : UnitHead) (kept : List ℕ) → AreaReads (area.layout (captioned before c after)) lent a kept
-    → (out : List ℕ) (r : Written) (exit : List ℕ) → Writes (unitIn (passed a) kept) out r exit
-    → length (unitBytes c) ≤ length out → (r ≡ written (length (unitBytes c))) × (exit ≡ over (unitBytes c) out)
+    → area.Legal Scte20 (captioned before c after)
+    → (lent : List ℕ) (a : UnitHead) (kept : List ℕ) → AreaReads (area.layout Scte20 (captioned before c after)) lent a kept
+    → (out : List ℕ) (r : Written) (exit : List ℕ) → Writes Scte20 (unitIn (passed a) kept) out r exit
+    → length (unitBytes Scte20 c) ≤ length out → (r ≡ written (length (unitBytes Scte20 c))) × (exit ≡ over (unitBytes Scte20 c) out)
 area-read-written = both-ways.area-read-written
 
 -- and, put back where another unit replaced it, the area byte for byte;
-pub area-put-back : (x : Area) → area.Legal x
-    → (lent : List ℕ) (a : UnitHead) (kept : List ℕ) → AreaReads (area.layout x) lent a kept → a .present ≡ true
+pub area-put-back : (x : Area Scte20) → area.Legal Scte20 x
+    → (lent : List ℕ) (a : UnitHead) (kept : List ℕ) → AreaReads (area.layout Scte20 x) lent a kept → a .present ≡ true
     → (reserved flag n z : ℕ) (records out : List ℕ) (r : Written) (exit : List ℕ)
-    → Replaces (area.layout x) (unitIn (numbersIn reserved flag n z) records) out r exit → r .refusal .number ≡ 0
+    → Replaces Scte20 (area.layout Scte20 x) (unitIn (numbersIn reserved flag n z) records) out r exit → r .refusal .number ≡ 0
     → (room : List ℕ) (again : Written) (end : List ℕ)
-    → Replaces (take (r .len) exit) (unitIn (passed a) kept) room again end
-    → length (area.layout x) ≤ length room
-    → (again ≡ written (length (area.layout x))) × (end ≡ over (area.layout x) room)
+    → Replaces Scte20 (take (r .len) exit) (unitIn (passed a) kept) room again end
+    → length (area.layout Scte20 x) ≤ length room
+    → (again ≡ written (length (area.layout Scte20 x))) × (end ≡ over (area.layout Scte20 x) room)
 area-put-back = both-ways.area-put-back
 
 -- of a packet its words,
@@ -202,12 +203,12 @@ pub area-read-determined : (s lent : List ℕ) (a : UnitHead) (exit : List ℕ) 
 area-read-determined = determined.area-read-determined
 
 pub unit-write-determined : (v : Numbers) (lent out : List ℕ) (a : Written) (exit : List ℕ)
-    → (b : Written) (end : List ℕ) → Writes (unitIn v lent) out a exit → Writes (unitIn v lent) out b end
+    → (b : Written) (end : List ℕ) → Writes Scte20 (unitIn v lent) out a exit → Writes Scte20 (unitIn v lent) out b end
     → (a ≡ b) × (exit ≡ end)
 unit-write-determined = determined.unit-write-determined
 
 pub area-replace-determined : (s : List ℕ) (v : Numbers) (lent out : List ℕ) (a : Written) (exit : List ℕ)
-    → (b : Written) (end : List ℕ) → Replaces s (unitIn v lent) out a exit → Replaces s (unitIn v lent) out b end
+    → (b : Written) (end : List ℕ) → Replaces Scte20 s (unitIn v lent) out a exit → Replaces Scte20 s (unitIn v lent) out b end
     → (a ≡ b) × (exit ≡ end)
 area-replace-determined = determined.area-replace-determined
 

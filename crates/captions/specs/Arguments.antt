@@ -3,10 +3,11 @@ use Prim.Native.Nat.{ℕ, _≤_}
 use mathlib.Core.Path.{_≡_}
 use mathlib.Core.List.{List, [], _∷_}
 use lib.ListN.{length}
+use Rattle.kind.specs.declared.Kind.{Kind}
 use Rattle.scte20.specs.declared.Numbers.{Numbers}
-use Rattle.scte20.specs.Value.{LegalCaptionUnit}
-use Rattle.scte20.specs.Value as scte20
-use Rattle.scte20.specs.Lent.{unitIn}
+use Rattle.ga94.specs.declared.Numbers as ga94
+use Rattle.picture.specs.Kinds as kinds
+use Rattle.picture.specs.Kinds.{LegalCaptionUnit, held, unitIn}
 use Rattle.picture.specs.Value.{Area, replaced}
 use Rattle.picture.specs.Value as area
 use Rattle.picture.specs.Writing.{unitBytes}
@@ -18,7 +19,8 @@ use Rattle.line21.specs.Value as line21
 use Rattle.line21.specs.Layout as payload
 use Rattle.line21.specs.Lent.{payloadIn}
 use Rattle.captions.specs.declared.UnitHead.{UnitHead}
-use Rattle.captions.specs.Calls.{numbersIn}
+use Rattle.captions.specs.declared.Ga94Head.{Ga94Head}
+use Rattle.captions.specs.Calls.{numbersIn, ga94NumbersIn}
 
 -- THE PICTURE AREA
 
@@ -30,20 +32,26 @@ plain reserved flag n z = record { reserved = reserved; «vbi_data_flag» = flag
 abbrev pub passed : UnitHead → Numbers
 passed a = numbersIn (a .reserved) (a .«vbi_data_flag») (a .n) (a .z)
 
--- numbers and the bytes of records: the value is legal, and its unit fits limit and buffer
-abbrev pub Fits : List ℕ → List ℕ → Numbers → Type 0
-Fits records out v =
-    LegalCaptionUnit (unitIn v records)
-    × (length (unitBytes (scte20.held (unitIn v records))) ≤ 16384)
-    × (length (unitBytes (scte20.held (unitIn v records))) ≤ length out)
+-- the same of GA94
+abbrev pub ga94Passed : Ga94Head → ga94.Numbers
+ga94Passed a =
+    ga94NumbersIn (a .«process_em_data_flag») (a .«process_cc_data_flag») (a .«additional_data_flag») (a .«em_data») (a .n)
+    (a .z)
+
+-- numbers and the bytes of records, of either kind: the value is legal, and its unit fits limit and buffer
+abbrev pub Fits : (k : Kind) → List ℕ → List ℕ → kinds.Numbers k → Type 0
+Fits k records out v =
+    LegalCaptionUnit k (unitIn k v records)
+    × (length (unitBytes k (held k (unitIn k v records))) ≤ 16384)
+    × (length (unitBytes k (held k (unitIn k v records))) ≤ length out)
 
 -- and in an area: the area is a legal value's, and the whole new area fits
-abbrev pub FitsIn : List ℕ → List ℕ → List ℕ → Numbers → Type 0
-FitsIn s records out v =
-    (x : Area) × area.Legal x × (area.layout x ≡ s)
-    × LegalCaptionUnit (unitIn v records)
-    × (length (area.layout (replaced x (scte20.held (unitIn v records)))) ≤ 16384)
-    × (length (area.layout (replaced x (scte20.held (unitIn v records)))) ≤ length out)
+abbrev pub FitsIn : (k : Kind) → List ℕ → List ℕ → List ℕ → kinds.Numbers k → Type 0
+FitsIn k s records out v =
+    (x : Area k) × area.Legal k x × (area.layout k x ≡ s)
+    × LegalCaptionUnit k (unitIn k v records)
+    × (length (area.layout k (replaced k x (held k (unitIn k v records)))) ≤ 16384)
+    × (length (area.layout k (replaced k x (held k (unitIn k v records)))) ≤ length out)
 
 -- THE SUBTITLING PACKET
 

@@ -10,19 +10,21 @@ use Rattle.refusal.specs.declared.Excess.the-variants.{FlagsByte}
 use Rattle.refusal.specs.declared.Item.the-variants.{Whole}
 use Rattle.refusal.specs.declared.Written.{Written}
 use Rattle.refusal.specs.Answers.{Wrote}
+use Rattle.kind.specs.declared.Kind.the-variants.{Scte20, Ga94}
 use Rattle.scte20.specs.declared.Numbers.{Numbers}
-use Rattle.picture.specs.declared.Head.{Head}
-use Rattle.picture.specs.Lent.{ReadsInto}
+use Rattle.ga94.specs.declared.Numbers as ga94
+use Rattle.picture.specs.Lent.{Head, ReadsInto}
 use Rattle.sdp.specs.declared.Slot.{Slot}
 use Rattle.sdp.specs.declared.Packet.{Packet}
 use Rattle.line21.specs.Lent.{payloadIn}
 use Rattle.line21.specs.Writing.{Writes}
 use Rattle.captions.specs.declared.UnitHead.{UnitHead}
+use Rattle.captions.specs.declared.Ga94Head.{Ga94Head}
 
 -- THE PICTURE AREA
 
 -- the same answer with the numbers apart
-abbrev pub headIn : UnitHead → Head
+abbrev pub headIn : UnitHead → Head Scte20
 headIn r =
     record {
       refusal = r .refusal;
@@ -32,12 +34,46 @@ headIn r =
 
 -- the promise of `captions_area_read`
 abbrev pub AreaReads : List ℕ → List ℕ → UnitHead → List ℕ → Type 0
-AreaReads s lent r exit = ReadsInto s lent (headIn r) exit
+AreaReads s lent r exit = ReadsInto Scte20 s lent (headIn r) exit
 
 -- a unit's numbers. One that a byte cannot hold is 255, which no reserved bits and no flag are: it is refused with 15,
 -- in its place in the order of RULES
 unfoldable pub numbersIn : ℕ → ℕ → ℕ → ℕ → Numbers
 numbersIn reserved flag n z = record { reserved = min reserved 255; «vbi_data_flag» = min flag 255; n = n; z = z }
+
+-- GA94
+
+-- the same answer with the numbers apart
+abbrev pub ga94HeadIn : Ga94Head → Head Ga94
+ga94HeadIn r =
+    record {
+      refusal = r .refusal;
+      present = r .present;
+      numbers = record {
+        «process_em_data_flag» = r .«process_em_data_flag»;
+        «process_cc_data_flag» = r .«process_cc_data_flag»;
+        «additional_data_flag» = r .«additional_data_flag»;
+        «em_data» = r .«em_data»;
+        n = r .n;
+        z = r .z;
+      };
+    }
+
+-- the promise of `captions_ga94_read`
+abbrev pub Ga94Reads : List ℕ → List ℕ → Ga94Head → List ℕ → Type 0
+Ga94Reads s lent r exit = ReadsInto Ga94 s lent (ga94HeadIn r) exit
+
+-- a unit's numbers, as they are passed: the value holds each of them
+abbrev pub ga94NumbersIn : ℕ → ℕ → ℕ → ℕ → ℕ → ℕ → ga94.Numbers
+ga94NumbersIn «process_em_data_flag» «process_cc_data_flag» «additional_data_flag» «em_data» n z =
+    record {
+      «process_em_data_flag» = «process_em_data_flag»;
+      «process_cc_data_flag» = «process_cc_data_flag»;
+      «additional_data_flag» = «additional_data_flag»;
+      «em_data» = «em_data»;
+      n = n;
+      z = z;
+    }
 
 -- THE SUBTITLING PACKET
 

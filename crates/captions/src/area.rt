@@ -1,5 +1,6 @@
-// The picture area.
+// The picture area, for SCTE 20.
 ghost use mathlib.Core.Path.{_≡_};
+ghost use Rattle.kind.specs.declared.Kind.the-variants.{Scte20};
 ghost use Rattle.scte20.specs.Lent.{unitIn};
 ghost use Rattle.picture.specs.Writing.{Writes, Replaces};
 ghost use Rattle.captions.specs.Calls.{numbersIn, AreaReads};
@@ -36,7 +37,7 @@ pub extern "C" fn captions_unit_write(
     records: &[u8; LENT_RECORDS],
     out: &mut [u8],
 ) -> Written
-    ensures { λ r. ⌜ Writes (unitIn (numbersIn reserved «vbi_data_flag» n z) (now (records .entry))) (now (out .entry)) r (now (out .exit)) ⌝ }
+    ensures { λ r. ⌜ Writes Scte20 (unitIn (numbersIn reserved «vbi_data_flag» n z) (now (records .entry))) (now (out .entry)) r (now (out .exit)) ⌝ }
 {
     picture_writer::write_from(numbers_of(reserved, vbi_data_flag, n, z), records, out)
 }
@@ -52,7 +53,7 @@ pub extern "C" fn captions_area_replace(
     records: &[u8; LENT_RECORDS],
     out: &mut [u8],
 ) -> Written
-    ensures { λ r. ⌜ Replaces (now (area .entry)) (unitIn (numbersIn reserved «vbi_data_flag» n z) (now (records .entry))) (now (out .entry)) r (now (out .exit)) ⌝ }
+    ensures { λ r. ⌜ Replaces Scte20 (now (area .entry)) (unitIn (numbersIn reserved «vbi_data_flag» n z) (now (records .entry))) (now (out .entry)) r (now (out .exit)) ⌝ }
 {
     picture_writer::replace_from(
         area,

@@ -2,12 +2,16 @@
 //
 // Normative references: docs/RULES.md.
 mod area;
+mod atsc;
 mod packet;
 mod payload;
 
 pub use area::captions_area_read;
 pub use area::captions_area_replace;
 pub use area::captions_unit_write;
+pub use atsc::captions_ga94_read;
+pub use atsc::captions_ga94_replace;
+pub use atsc::captions_ga94_write;
 pub use packet::captions_packet_read;
 pub use packet::captions_packet_write;
 pub use payload::captions_payload_read;
@@ -21,6 +25,19 @@ pub struct UnitHead {
     pub present: bool,
     pub reserved: u8,
     pub vbi_data_flag: u8,
+    pub n: usize,
+    pub z: usize,
+}
+
+// What `captions_ga94_read` answers, in the layout of `captions_ga94_unit` in the header.
+#[repr(C)]
+pub struct Ga94Head {
+    pub refusal: Refusal,
+    pub present: bool,
+    pub process_em_data_flag: u32,
+    pub process_cc_data_flag: u32,
+    pub additional_data_flag: u32,
+    pub em_data: u32,
     pub n: usize,
     pub z: usize,
 }
