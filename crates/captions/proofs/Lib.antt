@@ -3,4 +3,5 @@ pub mod Refusing
 pub mod Succeeding
 pub mod BothWays
 pub mod Determined
+pub mod Ga94
 pub mod Theorems

@@ -1,11 +1,11 @@
 -- The theorems of the C interface (docs/RULES.md, "Demands"; c/captions.h). Each call's contract is a promise of its
 -- carriage, of the value that plain numbers and lent memory tell (specs/Calls), so that the theorems of the carriages
 -- speak of every call: those of `picture` for `captions_area_read` (`AreaReads` is its `ReadsInto`),
--- `captions_unit_write` (`Writes`) and `captions_area_replace` (`Replaces`); those of `subtitling` for
--- `captions_packet_read` and `captions_packet_write`; those of `line21` for `captions_payload_read` and, by
--- `as-written`, for `captions_payload_write`. Here stands what the boundary adds and, for the seven calls, of plain
--- numbers and lent bytes: when each succeeds, both round trips, and that two answers are equal. When a value fits is
--- said in specs/Arguments.
+-- `captions_unit_write` (`Writes`), `captions_area_replace` (`Replaces`) and, for GA94, `captions_ga94_read`
+-- (`Ga94Reads`), `captions_ga94_write` and `captions_ga94_replace`; those of `subtitling` for `captions_packet_read`
+-- and `captions_packet_write`; those of `line21` for `captions_payload_read` and, by `as-written`, for
+-- `captions_payload_write`. Here stands what the boundary adds and, for the ten calls, of plain numbers and lent bytes:
+-- when each succeeds, both round trips, and that two answers are equal. When a value fits is said in specs/Arguments.
 -- How to read it: docs/NOTATION.md.
 -- Assumes nothing.
 use Prim.Native.Nat.{ℕ, _*_, _≤_, _<_}
@@ -18,10 +18,13 @@ use Rattle.lists.specs.Flat.{flat}
 use Rattle.lists.specs.Room.{filled, over}
 use Rattle.refusal.specs.declared.Written.{Written}
 use Rattle.refusal.specs.Answers.{accepted, refused, written}
-use Rattle.kind.specs.declared.Kind.the-variants.{Scte20}
+use Rattle.kind.specs.declared.Kind.the-variants.{Scte20, Ga94}
 use Rattle.scte20.specs.declared.Numbers.{Numbers}
 use Rattle.scte20.specs.Value.{Content}
 use Rattle.scte20.specs.Lent.{unitIn}
+use Rattle.ga94.specs.declared.Numbers as ga94
+use Rattle.ga94.specs.Value as ga94-value
+use Rattle.ga94.specs.Lent as ga94-lent
 use Rattle.picture.specs.Value.{Area, captioned}
 use Rattle.picture.specs.Value as area
 use Rattle.picture.specs.Writing.{unitBytes, Writes, Replaces}
@@ -42,12 +45,14 @@ use Rattle.line21.specs.Lent as payload-reading
 use Rattle.line21.specs.Writing as payload-writing
 use Rattle.line21.proofs.Theorems as payloads
 use Rattle.captions.specs.declared.UnitHead.{UnitHead}
-use Rattle.captions.specs.Calls.{AreaReads, numbersIn, packetIn, PayloadWrites}
-use Rattle.captions.specs.Arguments.{plain, passed, Fits, FitsIn, slotBytes, FitsPacket, FitsPayload}
+use Rattle.captions.specs.declared.Ga94Head.{Ga94Head}
+use Rattle.captions.specs.Calls.{AreaReads, numbersIn, ga94HeadIn, Ga94Reads, packetIn, PayloadWrites}
+use Rattle.captions.specs.Arguments.{plain, passed, ga94Passed, Fits, FitsIn, slotBytes, FitsPacket, FitsPayload}
 use Rattle.captions.proofs.Numbers as numbers
 use Rattle.captions.proofs.Refusing as refusing
 use Rattle.captions.proofs.Succeeding as succeeding
 use Rattle.captions.proofs.BothWays as both-ways
+use Rattle.captions.proofs.Ga94 as atsc
 use Rattle.captions.proofs.Determined as determined
 
 -- NUMBERS
@@ -103,6 +108,10 @@ pub payload-read-exactly : (s lent : List ℕ) (r : Head) (exit : List ℕ) → 
     → r .refusal .number ≡ 0 ↔ ((v : Line21) × line21.Legal v × (payload-layout.layout v ≡ s))
 payload-read-exactly = payloads.into-exactly
 
+pub ga94-read-exactly : (s lent : List ℕ) (r : Ga94Head) (exit : List ℕ) → Ga94Reads s lent r exit
+    → r .refusal .number ≡ 0 ↔ ((v : Area Ga94) × area.Legal Ga94 v × (area.layout Ga94 v ≡ s))
+ga94-read-exactly = atsc.ga94-read-exactly
+
 -- A write call succeeds exactly when the value that its numbers and bytes tell is legal, and the result fits limit and
 -- buffer: the numbers as they are passed (`plain`), not as a byte would cut them.
 pub unit-write-exactly : (reserved flag n z : ℕ) (records out : List ℕ) (r : Written) (exit : List ℕ)
@@ -110,11 +119,21 @@ pub unit-write-exactly : (reserved flag n z : ℕ) (records out : List ℕ) (r :
     → r .refusal .number ≡ 0 ↔ Fits Scte20 records out (plain reserved flag n z)
 unit-write-exactly = succeeding.unit-write-exactly
 
+-- GA94's numbers are told as they are passed (`ga94NumbersIn`): v has them all.
+pub ga94-write-exactly : (v : ga94.Numbers) (records out : List ℕ) (r : Written) (exit : List ℕ)
+    → Writes Ga94 (ga94-lent.unitIn v records) out r exit → r .refusal .number ≡ 0 ↔ Fits Ga94 records out v
+ga94-write-exactly = atsc.ga94-write-exactly
+
 -- So does the one that replaces, when the area is accepted too, and the whole new area fits.
 pub area-replace-exactly : (s : List ℕ) (reserved flag n z : ℕ) (records out : List ℕ) (r : Written) (exit : List ℕ)
     → Replaces Scte20 s (unitIn (numbersIn reserved flag n z) records) out r exit
     → r .refusal .number ≡ 0 ↔ FitsIn Scte20 s records out (plain reserved flag n z)
 area-replace-exactly = succeeding.area-replace-exactly
+
+pub ga94-replace-exactly : (s : List ℕ) (v : ga94.Numbers) (records out : List ℕ) (r : Written) (exit : List ℕ)
+    → Replaces Ga94 s (ga94-lent.unitIn v records) out r exit
+    → r .refusal .number ≡ 0 ↔ FitsIn Ga94 s records out v
+ga94-replace-exactly = atsc.ga94-replace-exactly
 
 pub packet-write-exactly : (counter : ℕ) (slots : List ℕ) (rows : List (List ℕ))
     → (out : List ℕ) (r : Written) (exit : List ℕ) → packet-writing.Writes (packetIn counter slots) rows out r exit
@@ -146,6 +165,22 @@ pub area-replaced-read : (x : Area Scte20) → area.Legal Scte20 x
     × (exit ≡ filled (take (5 * n) records) 155 0)
 area-replaced-read = both-ways.area-replaced-read
 
+pub ga94-written-read : (v : ga94.Numbers) (records out : List ℕ) (w : Written) (end : List ℕ)
+    → Writes Ga94 (ga94-lent.unitIn v records) out w end → w .refusal .number ≡ 0 → length records ≡ 124
+    → (lent : List ℕ) (r : Ga94Head) (exit : List ℕ) → Ga94Reads (take (w .len) end) lent r exit
+    → (ga94HeadIn r ≡ record { refusal = accepted; present = true; numbers = v })
+    × (exit ≡ filled (take (4 * v .n) records) 124 0)
+ga94-written-read = atsc.ga94-written-read
+
+pub ga94-replaced-read : (x : Area Ga94) → area.Legal Ga94 x
+    → (v : ga94.Numbers) (records out : List ℕ) (w : Written) (end : List ℕ)
+    → Replaces Ga94 (area.layout Ga94 x) (ga94-lent.unitIn v records) out w end
+    → w .refusal .number ≡ 0 → length records ≡ 124
+    → (lent : List ℕ) (r : Ga94Head) (exit : List ℕ) → Ga94Reads (take (w .len) end) lent r exit
+    → (ga94HeadIn r ≡ record { refusal = accepted; present = true; numbers = v })
+    × (exit ≡ filled (take (4 * v .n) records) 124 0)
+ga94-replaced-read = atsc.ga94-replaced-read
+
 pub packet-written-read : (counter : ℕ) (slots : List ℕ) (rows : List (List ℕ))
     → (out : List ℕ) (w : Written) (end : List ℕ) → packet-writing.Writes (packetIn counter slots) rows out w end
     → w .refusal .number ≡ 0 → length slots ≡ 20
@@ -164,21 +199,43 @@ payload-written-read = both-ways.payload-written-read
 -- Writing what was read gives the input back: of an area the unit's bytes,
 pub area-read-written : (before : List (List ℕ)) (c : Content) (after : List (List ℕ))
     → area.Legal Scte20 (captioned before c after)
-    → (lent : List ℕ) (a : UnitHead) (kept : List ℕ) → AreaReads (area.layout Scte20 (captioned before c after)) lent a kept
+    → (lent : List ℕ) (a : UnitHead) (kept : List ℕ)
+    → AreaReads (area.layout Scte20 (captioned before c after)) lent a kept
     → (out : List ℕ) (r : Written) (exit : List ℕ) → Writes Scte20 (unitIn (passed a) kept) out r exit
-    → length (unitBytes Scte20 c) ≤ length out → (r ≡ written (length (unitBytes Scte20 c))) × (exit ≡ over (unitBytes Scte20 c) out)
+    → length (unitBytes Scte20 c) ≤ length out
+    → (r ≡ written (length (unitBytes Scte20 c))) × (exit ≡ over (unitBytes Scte20 c) out)
 area-read-written = both-ways.area-read-written
+
+pub ga94-read-written : (before : List (List ℕ)) (c : ga94-value.Content) (after : List (List ℕ))
+    → area.Legal Ga94 (captioned before c after)
+    → (lent : List ℕ) (a : Ga94Head) (kept : List ℕ)
+    → Ga94Reads (area.layout Ga94 (captioned before c after)) lent a kept
+    → (out : List ℕ) (r : Written) (exit : List ℕ) → Writes Ga94 (ga94-lent.unitIn (ga94Passed a) kept) out r exit
+    → length (unitBytes Ga94 c) ≤ length out
+    → (r ≡ written (length (unitBytes Ga94 c))) × (exit ≡ over (unitBytes Ga94 c) out)
+ga94-read-written = atsc.ga94-read-written
 
 -- and, put back where another unit replaced it, the area byte for byte;
 pub area-put-back : (x : Area Scte20) → area.Legal Scte20 x
     → (lent : List ℕ) (a : UnitHead) (kept : List ℕ) → AreaReads (area.layout Scte20 x) lent a kept → a .present ≡ true
     → (reserved flag n z : ℕ) (records out : List ℕ) (r : Written) (exit : List ℕ)
-    → Replaces Scte20 (area.layout Scte20 x) (unitIn (numbersIn reserved flag n z) records) out r exit → r .refusal .number ≡ 0
+    → Replaces Scte20 (area.layout Scte20 x) (unitIn (numbersIn reserved flag n z) records) out r exit
+    → r .refusal .number ≡ 0
     → (room : List ℕ) (again : Written) (end : List ℕ)
     → Replaces Scte20 (take (r .len) exit) (unitIn (passed a) kept) room again end
     → length (area.layout Scte20 x) ≤ length room
     → (again ≡ written (length (area.layout Scte20 x))) × (end ≡ over (area.layout Scte20 x) room)
 area-put-back = both-ways.area-put-back
+
+pub ga94-put-back : (x : Area Ga94) → area.Legal Ga94 x
+    → (lent : List ℕ) (a : Ga94Head) (kept : List ℕ) → Ga94Reads (area.layout Ga94 x) lent a kept → a .present ≡ true
+    → (v : ga94.Numbers) (records out : List ℕ) (r : Written) (exit : List ℕ)
+    → Replaces Ga94 (area.layout Ga94 x) (ga94-lent.unitIn v records) out r exit → r .refusal .number ≡ 0
+    → (room : List ℕ) (again : Written) (end : List ℕ)
+    → Replaces Ga94 (take (r .len) exit) (ga94-lent.unitIn (ga94Passed a) kept) room again end
+    → length (area.layout Ga94 x) ≤ length room
+    → (again ≡ written (length (area.layout Ga94 x))) × (end ≡ over (area.layout Ga94 x) room)
+ga94-put-back = atsc.ga94-put-back
 
 -- of a packet its words,
 pub packet-read-written : (s : List ℕ) (lent : List (List ℕ)) (a : Answer) (kept : List (List ℕ))
@@ -208,9 +265,26 @@ pub unit-write-determined : (v : Numbers) (lent out : List ℕ) (a : Written) (e
 unit-write-determined = determined.unit-write-determined
 
 pub area-replace-determined : (s : List ℕ) (v : Numbers) (lent out : List ℕ) (a : Written) (exit : List ℕ)
-    → (b : Written) (end : List ℕ) → Replaces Scte20 s (unitIn v lent) out a exit → Replaces Scte20 s (unitIn v lent) out b end
+    → (b : Written) (end : List ℕ)
+    → Replaces Scte20 s (unitIn v lent) out a exit → Replaces Scte20 s (unitIn v lent) out b end
     → (a ≡ b) × (exit ≡ end)
 area-replace-determined = determined.area-replace-determined
+
+pub ga94-read-determined : (s lent : List ℕ) (a : Ga94Head) (exit : List ℕ) (b : Ga94Head) (end : List ℕ)
+    → Ga94Reads s lent a exit → Ga94Reads s lent b end → (a ≡ b) × (exit ≡ end)
+ga94-read-determined = atsc.ga94-read-determined
+
+pub ga94-write-determined : (v : ga94.Numbers) (lent out : List ℕ) (a : Written) (exit : List ℕ)
+    → (b : Written) (end : List ℕ)
+    → Writes Ga94 (ga94-lent.unitIn v lent) out a exit → Writes Ga94 (ga94-lent.unitIn v lent) out b end
+    → (a ≡ b) × (exit ≡ end)
+ga94-write-determined = atsc.ga94-write-determined
+
+pub ga94-replace-determined : (s : List ℕ) (v : ga94.Numbers) (lent out : List ℕ) (a : Written) (exit : List ℕ)
+    → (b : Written) (end : List ℕ)
+    → Replaces Ga94 s (ga94-lent.unitIn v lent) out a exit → Replaces Ga94 s (ga94-lent.unitIn v lent) out b end
+    → (a ≡ b) × (exit ≡ end)
+ga94-replace-determined = atsc.ga94-replace-determined
 
 pub packet-read-determined : (s : List ℕ) (lent : List (List ℕ)) (a : Answer) (exit : List (List ℕ))
     → (b : Answer) (end : List (List ℕ))
