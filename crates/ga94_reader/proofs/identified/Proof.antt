@@ -1,7 +1,7 @@
 -- `ga94_reader::identified` meets its contract: at each return the tests that led there tell what `identifierIn` is.
 -- Assumes nothing.
 use native.Mathlib.Omega.{arith}
-use mathlib.Core.Path.{_≡_, sym}
+use mathlib.Core.Path.{sym}
 use borrow.Author.Tests.{eq-eqb, ne-eqb}
 use denote.Ref.{now}
 use lib.ListN.{getD}
