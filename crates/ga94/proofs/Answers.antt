@@ -2,10 +2,9 @@
 -- Assumes nothing.
 use Prim.Native.Nat.{ℕ, zero, suc, _+_, _-_, _*_, _≤_, _<_}
 use native.Mathlib.Omega.{arith}
-use native.Mathlib.Nat.{add-zero}
-use mathlib.Core.Path.{_≡_, _∙_, ap, ap₂, sym, refl}
+use mathlib.Core.Path.{_≡_, _∙_, ap, sym}
 use mathlib.Core.List.{List, [], _∷_}
-use lib.ListN.{length, getD}
+use lib.ListN.{getD}
 use Rattle.lists.specs.Bytes.{Bytes}
 use Rattle.refusal.specs.declared.Reason.{Reason}
 use Rattle.refusal.specs.declared.Item.{Item}
@@ -14,7 +13,6 @@ use Rattle.refusal.specs.declared.Verdict.the-variants.{Accepted, Refused}
 use Rattle.refusal.specs.Checks.{andThen, first}
 use Rattle.refusal.specs.Answers.{lentOf}
 use Rattle.refusal.proofs.Checks.{andThen-last}
-use Rattle.ga94.specs.declared.Record.{Record}
 use Rattle.ga94.specs.Value.{none, stored, blank}
 use Rattle.ga94.specs.Reading.{missing, constructAt, markerVerdict, countIn, headVerdict, constructsVerdict, recordsAt, closingVerdict, contentVerdict, valueOf}
 use Rattle.ga94.specs.Lent.{recordsBytes, numbersOf, headOf, ReadsInto}

@@ -2,8 +2,8 @@
 -- Assumes nothing.
 use Prim.Native.Nat.{ℕ, suc, _+_, _-_, _*_, _/_, _%_, _≤_, _<_}
 use native.Mathlib.Omega.{arith}
-use mathlib.Core.Path.{_≡_, _∙_, ap, ap₂, sym, refl}
-use mathlib.Core.Bool.{Bool, true, not, _&&_, and-eq-true-iff}
+use mathlib.Core.Path.{_≡_, _∙_, ap, ap₂, sym}
+use mathlib.Core.Bool.{true, not, and-eq-true-iff}
 use mathlib.Core.List.{List, [], _∷_, _++_, append-assoc}
 use borrow.Author.Tests.{eqb-true, not-false}
 use lib.Dec.{eqb, ltb, eqb→eq}
@@ -17,7 +17,7 @@ use Rattle.refusal.specs.declared.Verdict.the-variants.{Accepted}
 use Rattle.refusal.specs.declared.Reason.the-variants.{TooLong, Unfixed, AdditionalData}
 use Rattle.refusal.specs.declared.Fixed.the-variants.{Marker, Stuffing, Identifier}
 use Rattle.refusal.specs.declared.Item.the-variants.{Whole, Bit}
-use Rattle.refusal.specs.Checks.{refuseIf, first}
+use Rattle.refusal.specs.Checks.{refuseIf}
 use Rattle.refusal.proofs.Checks.{accepted-andThen, accepted-refuseIf, accepted-equal, accepted-within}
 use Rattle.bits.specs.Bits.{bitsOf}
 use Rattle.stuffing.specs.Zeros.{zeroVerdict}
@@ -25,7 +25,7 @@ use Rattle.stuffing.proofs.Zeros.{accepted-zeros}
 use Rattle.ga94.specs.Value.{Legal}
 use Rattle.ga94.specs.Layout.{constructBytes, layout}
 use Rattle.ga94.specs.Reading.{missing, identifierIn, additionalIn, countIn, headVerdict, constructsVerdict, recordsAt, closingVerdict, contentVerdict, valueOf}
-use Rattle.ga94.proofs.Constructs.{accepted-missing, length-records, constructs-again, constructs-within, records-legal}
+use Rattle.ga94.proofs.Constructs.{accepted-missing, length-records, constructs-again, records-legal}
 
 -- ---- what stands before the constructs
 

@@ -1,29 +1,27 @@
 -- What writing lays out: the bytes of a legal value are accepted, and read as that value.
 -- Assumes nothing.
-use Prim.Native.Nat.{ℕ, suc, _+_, _-_, _*_, _/_, _%_, _≤_, _<_}
+use Prim.Native.Nat.{ℕ, _+_, _-_, _*_, _≤_}
 use native.Mathlib.Nat.{add-zero}
 use native.Mathlib.Omega.{arith}
 use mathlib.Core.Path.{_≡_, _∙_, ap, sym, refl}
 use mathlib.Core.Bool.{not}
 use mathlib.Core.List.{List, [], _∷_, _++_, append-assoc}
 use borrow.Author.Tests.{eq-eqb, le-ltb}
-use lib.Dec.{eqb, ltb}
+use lib.Dec.{eqb}
 use lib.ListN.{length, getD, drop, replicate, length-drop}
 use lib.Seq.{drop-drop, getD-drop}
 use Rattle.lists.specs.Flat.{flat}
-use Rattle.refusal.specs.declared.Verdict.{Verdict}
 use Rattle.refusal.specs.declared.Verdict.the-variants.{Accepted}
-use Rattle.refusal.specs.declared.Reason.the-variants.{TooLong, Unfixed, AdditionalData}
-use Rattle.refusal.specs.declared.Fixed.the-variants.{Marker, Stuffing, Identifier}
-use Rattle.refusal.specs.declared.Item.the-variants.{Whole, Bit}
+use Rattle.refusal.specs.declared.Reason.the-variants.{Unfixed}
+use Rattle.refusal.specs.declared.Fixed.the-variants.{Marker, Stuffing}
+use Rattle.refusal.specs.declared.Item.the-variants.{Bit}
 use Rattle.refusal.specs.Checks.{refuseIf, first}
 use Rattle.refusal.proofs.Checks.{andThen-accepted, refuseIf-accepted}
 use Rattle.bits.specs.Bits.{bitsOf}
 use Rattle.stuffing.specs.Zeros.{zeroVerdict}
 use Rattle.stuffing.proofs.Zeros.{zeros-accepted}
-use Rattle.ga94.specs.declared.Record.{Record}
 use Rattle.ga94.specs.Value.{Content, Legal}
-use Rattle.ga94.specs.Layout.{constructBytes, flagsByte, layout}
+use Rattle.ga94.specs.Layout.{constructBytes, layout}
 use Rattle.ga94.specs.Reading.{missing, emFlagIn, ccFlagIn, additionalIn, countIn, headVerdict, constructsVerdict, recordsAt, closingVerdict, contentVerdict, valueOf}
 use Rattle.ga94.proofs.Constructs.{missing-none, records-back, constructs-accepted, constructs-behind}
 use Rattle.ga94.proofs.Sizes.{length-layout}

@@ -1,6 +1,6 @@
 -- Which refusals reading a body within the limit can give: 5, 6 or 16, at a bit of the body or at its end.
 -- Assumes nothing.
-use Prim.Native.Nat.{ℕ, zero, suc, _+_, _-_, _*_, _/_, _≤_, _<_}
+use Prim.Native.Nat.{ℕ, zero, suc, _+_, _*_, _/_, _≤_, _<_}
 use native.Mathlib.Omega.{arith}
 use mathlib.Core.Path.{_≡_, _∙_, ap, sym, refl}
 use mathlib.Core.Logic.{_⊎_, inl, inr}

@@ -56,3 +56,8 @@ layout-bytes c legal =
 pub bitsOf-layout : (c : Content) → bitsOf (layout c) ≡ bitsOf (contentBytes c) ++ replicate (8 * c .z) 0
 bitsOf-layout c =
     bitsOf-append (contentBytes c) (replicate (c .z) 0) ∙ ap (λ (xs : List ℕ). bitsOf (contentBytes c) ++ xs) (bitsOf-zeros (c .z))
+
+-- a layout begins with ATSC_identifier and user_data_type_code
+pub begins : (c : Content) → (rest : List ℕ) × (layout c ≡ 0x47 ∷ 0x41 ∷ 0x39 ∷ 0x34 ∷ 0x03 ∷ rest)
+begins c =
+    (flagsByte c ∷ c .«em_data» ∷ ((flat constructBytes (c .records) ++ (0xFF ∷ [])) ++ replicate (c .z) 0), refl)

@@ -11,7 +11,7 @@ use Rattle.bits.specs.Bits.{bits, bitsOf}
 use Rattle.bits.proofs.Numbers.{bits-add, bits-mod}
 use Rattle.ga94.specs.declared.Record.{Record}
 use Rattle.ga94.specs.Value.{Content, LegalRecord, Legal}
-use Rattle.ga94.specs.Layout.{constructBytes, flagsByte, contentBytes, constructBits, itemBits}
+use Rattle.ga94.specs.Layout.{constructBytes, contentBytes, constructBits, itemBits}
 
 -- marker_bits, cc_valid and cc_type share a byte
 head-bits : (v t : ℕ) → v < 2 → t < 4 → bits 8 (0xF8 + 4 * v + t) ≡ bits 5 31 ++ (bits 1 v ++ bits 2 t)

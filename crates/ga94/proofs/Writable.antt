@@ -4,7 +4,7 @@ use Prim.Native.Nat.{ℕ, _+_, _≤_, _<_}
 use native.Mathlib.Omega.{arith}
 use mathlib.Core.Path.{_≡_, _∙_, ap, refl}
 use mathlib.Core.Logic.{inl, inr}
-use mathlib.Core.Bool.{Bool, not}
+use mathlib.Core.Bool.{not}
 use mathlib.Core.List.{List, [], _∷_}
 use borrow.Author.Tests.{ne-eqb}
 use lib.Dec.{eqb, ltb}
@@ -18,7 +18,7 @@ use Rattle.refusal.specs.declared.Reason.the-variants.{TooLong, NoRoom, Unholda
 use Rattle.refusal.specs.declared.Excess.the-variants.{Count, Flag, EmData, Stuffing, CcValid, CcType}
 use Rattle.refusal.specs.declared.Item.the-variants.{Whole, Bit}
 use Rattle.refusal.specs.Numbers.{refusalOf}
-use Rattle.refusal.specs.Checks.{refuseIf, andThen, first, fitVerdict}
+use Rattle.refusal.specs.Checks.{andThen, first, fitVerdict}
 use Rattle.refusal.specs.Answers.{refused}
 use Rattle.refusal.proofs.Checks.{accepted-andThen, andThen-accepted, andThen-assoc, accepted-fit, fit-accepted, fit-long, fit-no-room}
 use Rattle.refusal.proofs.Gives.{Gives, refuseIf-gives, andThen-gives, refused-gives}

@@ -6,7 +6,7 @@ ghost use Prim.Native.Nat.{_+_, _*_, _/_, _%_, _≤_};
 ghost use lib.ListN.{length};
 ghost use Rattle.lists.specs.Room.{filled};
 ghost use Rattle.ga94.specs.Value.{blank, none, stored};
-ghost use Rattle.ga94.specs.Reading.{headVerdict, constructsVerdict, closingVerdict, contentVerdict, recordsAt};
+ghost use Rattle.ga94.specs.Reading.{identifierIn, headVerdict, constructsVerdict, closingVerdict, contentVerdict, recordsAt};
 ghost use Rattle.ga94.specs.Lent.{recordsBytes, numbersOf, ReadsInto};
 use ga94::CONSTRUCT_BYTES;
 use ga94::CONSTRUCTS;
@@ -76,16 +76,7 @@ fn judge_head(body: &[u8]) -> Verdict
     if body.len() < 4 {
         return Verdict::Refused(Reason::Ends, Item::Bit(0));
     }
-    if body[0] != 0x47 {
-        return Verdict::Refused(Reason::Unfixed(Fixed::Identifier), Item::Bit(0));
-    }
-    if body[1] != 0x41 {
-        return Verdict::Refused(Reason::Unfixed(Fixed::Identifier), Item::Bit(0));
-    }
-    if body[2] != 0x39 {
-        return Verdict::Refused(Reason::Unfixed(Fixed::Identifier), Item::Bit(0));
-    }
-    if body[3] != 0x34 {
+    if !identified(body) {
         return Verdict::Refused(Reason::Unfixed(Fixed::Identifier), Item::Bit(0));
     }
     if body.len() < 5 {
@@ -104,6 +95,23 @@ fn judge_head(body: &[u8]) -> Verdict
         return Verdict::Refused(Reason::Ends, Item::Bit(48));
     }
     Verdict::Accepted
+}
+
+// Whether ATSC_identifier stands at the front.
+fn identified(body: &[u8]) -> bool
+    requires { ⌜ 4 ≤ length (now body) ⌝ }
+    ensures { λ r. ⌜ r ≡ identifierIn (now (body .entry)) ⌝ }
+{
+    if body[0] != 0x47 {
+        return false;
+    }
+    if body[1] != 0x41 {
+        return false;
+    }
+    if body[2] != 0x39 {
+        return false;
+    }
+    body[3] == 0x34
 }
 
 // The n constructs: each is all there, and begins with five ones.

@@ -2,7 +2,7 @@
 -- Assumes nothing.
 use Prim.Native.Nat.{ℕ, _+_, _-_, _*_, _≤_, _<_}
 use native.Mathlib.Omega.{arith}
-use mathlib.Core.Path.{_≡_, _∙_, ap, ap₂, sym, refl}
+use mathlib.Core.Path.{_≡_, _∙_, ap, ap₂, refl}
 use mathlib.Core.List.{List, [], _∷_, _++_}
 use borrow.Rule.Slice.PartMut.{putMid}
 use lib.ListN.{length, take, drop, set, replicate, length-append}
@@ -11,7 +11,7 @@ use Rattle.lists.specs.Room.{over, overAt}
 use Rattle.lists.proofs.Lay.{length-over, take-over, store-next, overAt-overAt, cleared}
 use Rattle.refusal.specs.declared.Verdict.the-variants.{Accepted}
 use Rattle.ga94.specs.Value.{CaptionUnit, held}
-use Rattle.ga94.specs.Layout.{constructBytes, flagsByte, contentBytes, layout}
+use Rattle.ga94.specs.Layout.{constructBytes, flagsByte, layout}
 use Rattle.ga94.specs.Writing.{valueVerdict}
 use Rattle.ga94.proofs.Sizes.{length-constructs}
 use Rattle.ga94.proofs.Holding.{value-whole, value-flag, length-held, length-layout-held}

@@ -1,16 +1,15 @@
 -- `ga94_reader::judge` meets its contract: the head, the constructs and what closes them decide, each where those before it accept.
 -- Assumes nothing.
-use Prim.Native.Nat.{ℕ, _+_, _*_, _%_, _≤_}
+use Prim.Native.Nat.{ℕ, _+_, _*_, _≤_}
 use native.Mathlib.Omega.{arith}
 use mathlib.Core.Path.{_≡_, _∙_, sym}
 use mathlib.Core.List.{List}
 use borrow.Author.Needs.{needs}
 use denote.Ref.{now}
 use lib.ListN.{length}
-use Rattle.refusal.specs.declared.Verdict.the-variants.{Accepted}
 use Rattle.refusal.specs.Checks.{andThen}
 use Rattle.refusal.proofs.Checks.{refused-first, accepted-first}
-use Rattle.ga94.specs.Reading.{countIn, headVerdict, constructsVerdict, closingVerdict, contentVerdict}
+use Rattle.ga94.specs.Reading.{countIn, constructsVerdict, closingVerdict, contentVerdict}
 use Rattle.ga94.proofs.Constructs.{constructs-within}
 use Rattle.ga94.proofs.Contents.{Head, accepted-head}
 use Rattle.ga94.proofs.Answers.{content-parts}

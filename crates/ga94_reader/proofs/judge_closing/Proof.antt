@@ -2,7 +2,7 @@
 -- Assumes nothing.
 use Prim.Native.Nat.{ℕ, _+_, _*_, _≤_, _<_}
 use native.Mathlib.Omega.{arith}
-use mathlib.Core.Path.{_≡_, _∙_, ap, sym, subst, refl}
+use mathlib.Core.Path.{_∙_, ap, sym, subst}
 use mathlib.Core.List.{List}
 use borrow.Author.Needs.{needs}
 use borrow.Author.Tests.{eq-eqb, ne-eqb}
@@ -10,7 +10,7 @@ use denote.Ref.{now}
 use lib.ListN.{length, getD}
 use Rattle.lists.specs.Bytes.{Bytes}
 use Rattle.lists.proofs.Each.{each-of}
-use Rattle.refusal.specs.declared.Verdict.the-variants.{Accepted, Refused}
+use Rattle.refusal.specs.declared.Verdict.the-variants.{Refused}
 use Rattle.refusal.specs.declared.Reason.the-variants.{Unfixed}
 use Rattle.refusal.specs.declared.Fixed.the-variants.{Stuffing}
 use Rattle.refusal.specs.declared.Item.the-variants.{Bit}

@@ -1,11 +1,10 @@
 -- `ga94_reader::judge_constructs` meets its contract. The loop's invariant: i constructs are accepted, and those from i on decide.
 -- Assumes nothing.
-use Prim.Native.Nat.{ℕ, _+_, _-_, _*_, _/_, _≤_, _<_}
+use Prim.Native.Nat.{ℕ, _+_, _-_, _*_, _<_}
 use native.Mathlib.Omega.{arith}
 use mathlib.Core.Path.{_≡_, _∙_, sym, refl}
 use mathlib.Core.List.{List}
 use denote.Ref.{now}
-use lib.ListN.{length, getD}
 use Rattle.refusal.specs.declared.Verdict.the-variants.{Accepted}
 use Rattle.refusal.specs.Checks.{andThen}
 use Rattle.refusal.proofs.Checks.{refused-first, accepted-first}

@@ -1,8 +1,8 @@
 -- `ga94_reader::read_into` meets its contract: the checks refuse, or the records are stored and the numbers read.
 -- Assumes nothing.
-use Prim.Native.Nat.{ℕ, _+_, _-_, _*_, _/_, _%_, _≤_, _<_}
+use Prim.Native.Nat.{ℕ, _+_, _-_, _*_, _≤_, _<_}
 use native.Mathlib.Omega.{arith}
-use mathlib.Core.Path.{_≡_, _∙_, ap, sym, subst, refl}
+use mathlib.Core.Path.{_≡_, _∙_, sym, subst, refl}
 use mathlib.Core.List.{List}
 use borrow.Author.Needs.{needs}
 use denote.Ref.{now}
@@ -10,7 +10,6 @@ use lib.ListN.{length, getD}
 use Rattle.lists.specs.Bytes.{Bytes}
 use Rattle.lists.specs.Room.{filled}
 use Rattle.lists.proofs.Each.{each-of}
-use Rattle.refusal.specs.declared.Verdict.{Verdict}
 use Rattle.ga94.specs.declared.Head.{Head}
 use Rattle.ga94.specs.Value.{stored, blank}
 use Rattle.ga94.specs.Reading.{emFlagIn, ccFlagIn, countIn, recordsAt, valueOf}

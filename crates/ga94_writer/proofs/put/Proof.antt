@@ -1,18 +1,17 @@
 -- `ga94_writer::put` meets its contract: seven bytes, the constructs, a byte of ones and zeros are the layout, which fills the output.
 -- Assumes nothing.
-use Prim.Native.Nat.{ℕ, _+_, _*_, _≤_, _<_}
+use Prim.Native.Nat.{ℕ, _+_, _*_, _≤_}
 use native.Mathlib.Omega.{arith}
 use mathlib.Core.Path.{_≡_, _∙_, ap, sym}
 use mathlib.Core.List.{List}
 use borrow.Author.Needs.{needs}
 use denote.Ref.{now}
 use lib.ListN.{length, length-set}
-use Rattle.ga94.specs.Value.{CaptionUnit, held}
-use Rattle.ga94.specs.Layout.{layout}
+use Rattle.ga94.specs.Value.{CaptionUnit}
 use Rattle.ga94.specs.Lent.{unitIn}
 use Rattle.ga94.proofs.Lending.{lent-length}
 use Rattle.ga94.proofs.Holding.{Whole, value-whole}
-use Rattle.ga94_writer.proofs.Pieces.{flags-small, out-long, length-headed, length-built, length-three, all-laid}
+use Rattle.ga94_writer.proofs.Pieces.{flags-small, out-long, length-headed, length-built, all-laid}
 use Rattle.ga94_writer.proofs.put.Statement.{statement}
 use Rattle.ga94_writer.proofs.put.Tie as tie
 
