@@ -204,13 +204,17 @@ size_t take_unit_list(cursor *c, captions_access_unit *to)
     return len;
 }
 
+/* A flag is one digit. A case may have one that is no bit. */
 static uint32_t take_digit(cursor *c)
 {
-    bool one = take(c, '1');
+    char digit = *c->at;
 
-    if (!one)
-        need(c, '0');
-    return one;
+    if (digit < '0' || digit > '9') {
+        c->bad = true;
+        return 0;
+    }
+    c->at++;
+    return (uint32_t)(digit - '0');
 }
 
 void take_flags(cursor *c, ga94_value *to)

@@ -29,7 +29,12 @@ pub fn ga94_write_from(v: Numbers, records: &[u8; LENT_RECORDS], out: &mut [u8])
 }
 
 // Writes an area with another GA94 unit, which numbers and a lent array tell, at the front of out. The foreign units pass byte for byte.
-pub fn ga94_replace_from(s: &[u8], v: Numbers, records: &[u8; LENT_RECORDS], out: &mut [u8]) -> Written
+pub fn ga94_replace_from(
+    s: &[u8],
+    v: Numbers,
+    records: &[u8; LENT_RECORDS],
+    out: &mut [u8],
+) -> Written
     ensures { λ r. ⌜ Replaces Ga94 (now (s .entry)) (unitIn v (now (records .entry))) (now (out .entry)) r (now (out .exit)) ⌝ }
 {
     let mut kept = [0; LENT_RECORDS];
