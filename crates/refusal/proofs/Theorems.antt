@@ -1,5 +1,5 @@
--- The theorems of refusals (docs/RULES.md, "Refusals"). What they speak of is defined in specs/Numbers and Checks. What an
--- answer tells of a writer's output is shown in proofs/Outputs, for the pages of the carriages.
+-- The theorems of refusals (docs/RULES.md, "Refusals"). What they speak of is defined in specs/Numbers and Checks. What
+-- an answer tells of a writer's output is shown in proofs/Outputs, for the pages of the carriages.
 -- How to read it: docs/NOTATION.md.
 -- Assumes nothing.
 use Prim.Native.Nat.{ℕ, _+_}
