@@ -91,8 +91,11 @@ captions_written model_put_unit(const uint8_t *area, size_t len, unit_span span,
         return model_refusal(1, 0);
     if (whole > room)
         return model_refusal(14, 0);
-    memcpy(out, area, span.start);
+    /* An empty area may be null, which memcpy does not take. */
+    if (span.start > 0)
+        memcpy(out, area, span.start);
     memcpy(out + span.start, unit, unit_len);
-    memcpy(out + span.start + unit_len, area + span.end, len - span.end);
+    if (len > span.end)
+        memcpy(out + span.start + unit_len, area + span.end, len - span.end);
     return (captions_written){.len = whole};
 }

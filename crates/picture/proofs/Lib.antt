@@ -4,7 +4,6 @@ pub mod Areas
 pub mod Unique
 pub mod Placing
 pub mod Lending
-pub mod Laying
 pub mod Wholes
 pub mod Sequence
 pub mod Replaced

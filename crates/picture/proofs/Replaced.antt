@@ -18,7 +18,8 @@ use Rattle.units.proofs.Splits.{layout-append, length-around}
 use Rattle.kind.specs.declared.Kind.{Kind}
 use Rattle.picture.specs.Kinds.{Content, LegalContent, bodyOf, CaptionUnit, held, writeVerdict}
 use Rattle.picture.specs.Value.{Area, uncaptioned, captioned, layout, LegalBodies, Legal, replaced, foreignOf}
-use Rattle.picture.specs.Writing.{unitBytes, exchanged, replacedIn, replacedOf, replaceVerdict}
+use Rattle.around.specs.Around.{exchanged}
+use Rattle.picture.specs.Writing.{unitBytes, replacedIn, replacedOf, replaceVerdict}
 use Rattle.picture.proofs.Areas.{foundIn, legal-found, legal-verdict}
 
 -- the bytes of units around one

@@ -27,7 +27,8 @@ use Rattle.picture.specs.Kinds.{CaptionUnit, stored, held, writeVerdict}
 use Rattle.picture.specs.Value.{replaced}
 use Rattle.picture.specs.Reading.{captionsIn, foundVerdict, areaVerdict}
 use Rattle.picture.specs.Inside.{spotOf}
-use Rattle.picture.specs.Writing.{unitBytes, exchanged, replacedIn, replacedOf, replaceVerdict}
+use Rattle.around.specs.Around.{exchanged}
+use Rattle.picture.specs.Writing.{unitBytes, replacedIn, replacedOf, replaceVerdict}
 use Rattle.picture.proofs.Placing.{unit-within}
 
 -- the place lies within the area

@@ -1,9 +1,8 @@
 -- What functions promise each other on the way to an answer. A signer may pass it over.
-use Prim.Native.Nat.{ℕ, _+_, _≤_}
+use Prim.Native.Nat.{ℕ, _≤_}
 use mathlib.Core.Path.{_≡_}
 use mathlib.Core.List.{List}
 use lib.ListN.{length}
-use Rattle.lists.specs.Room.{over, overAt}
 use Rattle.refusal.specs.declared.Written.{Written}
 use Rattle.refusal.specs.declared.Item.{Item}
 use Rattle.refusal.specs.declared.Item.the-variants.{Whole, Bit, Body, Word, Length}
@@ -11,12 +10,12 @@ use Rattle.refusal.specs.Answers.{Wrote}
 use Rattle.kind.specs.declared.Kind.{Kind}
 use Rattle.units.specs.declared.Found.{Found}
 use Rattle.units.specs.declared.Found.the-variants.{NotUnits, Nowhere, At, Many}
-use Rattle.units.specs.Layout.{layoutUnit}
 use Rattle.picture.specs.declared.Spot.{Spot}
 use Rattle.picture.specs.Kinds.{CaptionUnit, held, Typed, writeVerdict}
 use Rattle.picture.specs.Reading.{captionsIn}
 use Rattle.picture.specs.Lent.{Head, ReadsInto}
-use Rattle.picture.specs.Writing.{unitBytes, exchanged}
+use Rattle.around.specs.Around.{exchanged}
+use Rattle.picture.specs.Writing.{unitBytes}
 
 -- an item that begins not far behind the end of a body, so that its bit in an area is a number that the code holds
 abbrev pub Near : Item → Type 0
@@ -38,13 +37,6 @@ spotOf (Many n) len = record { start = len; end = len }
 pub record ReadsOld (k : Kind) (s lent : List ℕ) (r : Head k) (spot : Spot) (exit : List ℕ) : Type 0 where
   pub head : ReadsInto k s lent r exit
   pub place : spot ≡ spotOf (captionsIn k s) (length s)
-
--- what `surround` leaves, in an output that holds a body at its place: the unit's start code before it, and around the
--- unit what the area has before `start` and from `end` on
-abbrev pub Surrounds : List ℕ → ℕ → ℕ → ℕ → List ℕ → List ℕ → Type 0
-Surrounds s start end len out exit =
-    (body first : List ℕ) → length body ≡ len → start + 4 + len ≤ length first → out ≡ overAt (start + 4) body first
-    → exit ≡ over (exchanged s start end (layoutUnit body)) first
 
 -- what `exchange` answers and leaves: the new area is judged as a whole
 pub record Exchanges (k : Kind) (s : List ℕ) (start end : ℕ) (u : CaptionUnit k) (out : List ℕ) (r : Written)

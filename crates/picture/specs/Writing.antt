@@ -2,7 +2,7 @@
 -- every value, area and output. RULES, "Picture area", "GA94" and "Order of checks".
 use Prim.Native.Nat.{ℕ}
 use mathlib.Core.List.{List, _++_}
-use lib.ListN.{length, take, drop}
+use lib.ListN.{length}
 use Rattle.lists.specs.Bytes.{Bytes}
 use Rattle.refusal.specs.declared.Verdict.{Verdict}
 use Rattle.refusal.specs.declared.Written.{Written}
@@ -12,6 +12,7 @@ use Rattle.kind.specs.declared.Kind.{Kind}
 use Rattle.units.specs.declared.Found.{Found}
 use Rattle.units.specs.declared.Found.the-variants.{NotUnits, Nowhere, At, Many}
 use Rattle.units.specs.Layout.{layoutUnit}
+use Rattle.around.specs.Around.{exchanged}
 use Rattle.picture.specs.Kinds.{Content, bodyOf, CaptionUnit, held, Typed, writeVerdict}
 use Rattle.picture.specs.Reading.{captionsIn, areaVerdict}
 
@@ -24,10 +25,6 @@ pub record Writes (k : Kind) (u : CaptionUnit k) (out : List ℕ) (answer : Writ
   pub typed : Typed k u
   pub wrote :
       Wrote (writeVerdict k u (length (unitBytes k (held k u))) (length out)) (unitBytes k (held k u)) out answer exit
-
--- the bytes from `start` up to `end` give way to the new ones
-abbrev pub exchanged : List ℕ → ℕ → ℕ → List ℕ → List ℕ
-exchanged s start end new = take start s ++ (new ++ drop end s)
 
 -- the new unit in the place of the caption unit, stuffing and all; behind the last byte where there is none
 abbrev pub replacedIn : Found → List ℕ → List ℕ → List ℕ

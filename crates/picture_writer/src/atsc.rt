@@ -5,7 +5,6 @@ ghost use Rattle.kind.specs.declared.Kind.the-variants.{Ga94};
 ghost use Rattle.ga94.specs.Lent.{unitIn};
 ghost use Rattle.picture.specs.Writing.{Writes, Replaces};
 ghost use Rattle.picture.specs.Inside.{Exchanges};
-use crate::around;
 use ga94::LENT_RECORDS;
 use ga94::Numbers;
 use refusal::Written;

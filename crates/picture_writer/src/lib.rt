@@ -1,7 +1,6 @@
 // Writing a caption unit, and putting one into a picture's user data area.
 //
 // Normative references: docs/RULES.md, "Picture area", "GA94" and "Order of checks"; document 001, 5.7; document 003, Table 3.
-mod around;
 mod atsc;
 mod writing;
 

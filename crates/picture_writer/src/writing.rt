@@ -5,7 +5,6 @@ ghost use Rattle.kind.specs.declared.Kind.the-variants.{Scte20};
 ghost use Rattle.scte20.specs.Lent.{unitIn};
 ghost use Rattle.picture.specs.Writing.{Writes, Replaces};
 ghost use Rattle.picture.specs.Inside.{Exchanges};
-use crate::around;
 use refusal::Written;
 use scte20::CaptionUnit;
 use scte20::LENT_RECORDS;

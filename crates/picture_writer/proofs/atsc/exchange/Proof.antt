@@ -9,11 +9,12 @@ use denote.Ref.{now}
 use lib.ListN.{length, take, drop, length-drop, length-append}
 use lib.Seq.{length-take-le}
 use Rattle.lists.specs.Room.{overAt}
-use Rattle.lists.proofs.Lay.{length-overAt}
 use Rattle.kind.specs.declared.Kind.the-variants.{Ga94}
 use Rattle.units.specs.Layout.{layoutUnit}
 use Rattle.picture.specs.Kinds.{CaptionUnit, bodyOf, held, unitIn}
-use Rattle.picture.specs.Writing.{unitBytes, exchanged}
+use Rattle.around.specs.Around.{exchanged, surrounded}
+use Rattle.around.proofs.Surrounding.{surrounded-body}
+use Rattle.picture.specs.Writing.{unitBytes}
 use Rattle.picture.proofs.Wholes.{Judged, whole-refused, body-there, whole-fits, whole-laid}
 use Rattle.picture_writer.proofs.atsc.exchange.Statement.{statement}
 use Rattle.picture_writer.proofs.atsc.exchange.Tie as tie
@@ -77,13 +78,6 @@ module _ (c : tie.Else1) where
       let whole = whole-fits Ga94 j (c .if1 .left) in
       (omega (arith, j .size, whole .0, length-back (entry c)), omega (arith, j .size, whole .1, length-back (entry c)))
 
-surround-requires : tie.Need-surround-requires
-surround-requires c κs =
-    let passed = c .before in
-    let start = entry passed in
-    let same = length-overAt (start .args .start + 4) (body start) (now (start .args .out)) (omega (arith, fits passed .1)) in
-    (start .pre .0, (start .pre .1 .0, omega (arith, there passed .0, ap length (there passed .1), same, fits passed .1, length-back start)))
-
 add-t19 : tie.Need-add-t19
 add-t19 c = let passed = c .before .before .before .before in omega (arith, there passed .0, fits passed .0)
 
@@ -98,7 +92,11 @@ accepted c =
     let rest = length (now (start .args .s)) - start .args .end in
     let j = judged (passed .before .before) in
     let size = sym (j .size) ∙ ap (λ (n : ℕ). start .args .start + 4 + n + rest) (sym (there passed .0)) in
-    let laid = c .before .before .surround .ensures (body start) (now (start .args .out)) (sym (there passed .0)) (omega (arith, there passed .0, fits passed .1)) (there passed .1) in
+    let laid =
+    c .before .before .surround .ensures
+    ∙ ap (λ (n : ℕ). surrounded (now (start .args .s)) (start .args .start) (start .args .end) n (write .write-from .last .1 .1 .1 .1 .0)) (there passed .0)
+    ∙ surrounded-body (now (start .args .s)) (start .args .start) (start .args .end) (body start) _ (now (start .args .out)) (start .pre .0) (start .pre .1 .0)
+    (omega (arith, fits passed .1, length-back start)) (there passed .1) in
     record { typed = write .write-from .ensures .typed; wrote = whole-laid Ga94 j (passed .if1 .left) _ _ size laid }
 
 pub exchange-spec : {M : Type 1} → statement M
@@ -111,7 +109,7 @@ exchange-spec =
     (λ c κs. search needs)
     (λ c. search needs)
     refused
-    surround-requires
+    (λ c κs. search needs)
     (λ c. search needs)
     add-t19
     add-t20

@@ -13,7 +13,7 @@ use Rattle.ga94.specs.Value.{held}
 use Rattle.ga94.specs.Layout.{layout}
 use Rattle.ga94.specs.Lent.{unitIn}
 use Rattle.picture.specs.Writing.{unitBytes}
-use Rattle.picture.proofs.Laying.{started-over}
+use Rattle.around.proofs.Laying.{started-over}
 use Rattle.picture.proofs.Wholes.{Judged, whole-refused, body-there, whole-fits, whole-laid}
 use Rattle.picture_writer.proofs.atsc.ga94_write_from.Statement.{statement}
 use Rattle.picture_writer.proofs.atsc.ga94_write_from.Tie as tie

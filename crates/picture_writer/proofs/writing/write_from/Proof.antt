@@ -13,7 +13,7 @@ use Rattle.scte20.specs.Value.{held}
 use Rattle.scte20.specs.Layout.{layout}
 use Rattle.scte20.specs.Lent.{unitIn}
 use Rattle.picture.specs.Writing.{unitBytes}
-use Rattle.picture.proofs.Laying.{started-over}
+use Rattle.around.proofs.Laying.{started-over}
 use Rattle.picture.proofs.Wholes.{Judged, whole-refused, body-there, whole-fits, whole-laid}
 use Rattle.picture_writer.proofs.writing.write_from.Statement.{statement}
 use Rattle.picture_writer.proofs.writing.write_from.Tie as tie

@@ -1,4 +1,4 @@
--- `picture_writer::around::copy` meets its contract. The loop's invariant: the first i bytes are laid over the output.
+-- `around::copy` meets its contract. The loop's invariant: the first i bytes are laid over the output.
 -- Assumes nothing.
 use Prim.Native.Nat.{ℕ, _+_, _-_, _≤_}
 use native.Mathlib.Omega.{arith}
@@ -11,8 +11,8 @@ use lib.ListN.{length, take, getD, set}
 use lib.Seq.{length-take-le, take-suc, take-all}
 use Rattle.lists.specs.Room.{over}
 use Rattle.lists.proofs.Lay.{length-over, store-next}
-use Rattle.picture_writer.proofs.around.copy.Statement.{statement}
-use Rattle.picture_writer.proofs.around.copy.Tie as tie
+use Rattle.around.proofs.copy.Statement.{statement}
+use Rattle.around.proofs.copy.Tie as tie
 
 abbrev Inv-loop : tie.InvT-loop
 Inv-loop s out₀ i₀ out i = (i ≤ length s) × (out ≡ over (take i s) out₀)

@@ -1,4 +1,4 @@
--- `picture_writer::around::surround` meets its contract: around the body come the area's front, the start code and the area's rest.
+-- `around::lay` meets its contract: around the body come the area's front, the start code and the area's rest.
 -- Assumes nothing.
 use Prim.Native.Nat.{ℕ, _+_, _-_, _≤_}
 use native.Mathlib.Omega.{arith}
@@ -11,9 +11,9 @@ use lib.ListN.{length, take, drop, length-drop}
 use lib.Seq.{length-take-le}
 use Rattle.lists.specs.Room.{over, overAt}
 use Rattle.lists.proofs.Lay.{length-overAt, rest-whole}
-use Rattle.picture.proofs.Laying.{opened, closed}
-use Rattle.picture_writer.proofs.around.surround.Statement.{statement}
-use Rattle.picture_writer.proofs.around.surround.Tie as tie
+use Rattle.around.proofs.Laying.{opened, closed}
+use Rattle.around.proofs.lay.Statement.{statement}
+use Rattle.around.proofs.lay.Tie as tie
 
 -- the area's front and its rest
 abbrev front : tie.Start → List ℕ
@@ -50,8 +50,8 @@ returns c body first long fits there =
     closed (front start) body (back start) first at (length-front start) room unit (last .copy2 .last .1 .0) behind unit-there (omega (arith, long))
     (last .copy2 .ensures ∙ ap (λ (piece : List ℕ). over piece rest) (rest-whole s (start .args .end)))
 
-pub surround-spec : {M : Type 1} → statement M
-surround-spec =
+pub lay-spec : {M : Type 1} → statement M
+lay-spec =
     tie.close
     (tie.spec
     (λ c. search needs)
