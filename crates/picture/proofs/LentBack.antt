@@ -12,6 +12,7 @@ use Rattle.refusal.specs.declared.Verdict.{Verdict}
 use Rattle.refusal.specs.declared.Verdict.the-variants.{Accepted, Refused}
 use Rattle.refusal.specs.declared.Written.{Written}
 use Rattle.refusal.specs.Answers.{accepted, written, lentOf}
+use Rattle.refusal.proofs.Outputs.{refused-lent}
 use Rattle.kind.specs.declared.Kind.{Kind}
 use Rattle.picture.specs.Kinds.{Content, CaptionUnit, held, Numbers, count, width, places, unitIn, bytesOf}
 use Rattle.picture.specs.Value.{Area, captioned, layout, Legal}
@@ -27,10 +28,6 @@ use Rattle.picture.proofs.Replacing.{replaces-exactly, shown-replaced, 
 
 module _ (k : Kind) where
   -- WHAT IS ANSWERED
-
-  refused-lent : (verdict : Verdict) (new lent : List ℕ) → (verdict ≡ Accepted → ⊥) → lentOf verdict new lent ≡ lent
-  refused-lent Accepted new lent g = absurd (g refl)
-  refused-lent (Refused reason item) new lent g = refl
 
   module _ (s lent : List ℕ) (r : Head k) (exit : List ℕ) (p : ReadsInto k s lent r exit) where
     pub read-into-as-read : (a : Answer k) → Reads k s a

@@ -13,19 +13,10 @@ use Rattle.refusal.specs.declared.Verdict.the-variants.{Accepted, Refused}
 use Rattle.refusal.specs.Numbers.{refusalOf}
 use Rattle.refusal.specs.Answers.{Wrote, laidOf, bodyLeft}
 use Rattle.refusal.proofs.Acceptance.{told-accepted}
-use Rattle.refusal.proofs.Outputs.{wrote-nothing, wrote-laid}
+use Rattle.refusal.proofs.Outputs.{wrote-nothing, wrote-laid, laid-verdict, refused-laid}
 use Rattle.kind.specs.declared.Kind.{Kind}
 use Rattle.picture.specs.Kinds.{bodyOf, CaptionUnit, held, Typed, writeVerdict}
 use Rattle.picture.proofs.Contents.{accepted-write}
-
--- what the verdict makes of a writer's answer, and of what it leaves
-laid-verdict : (verdict : Verdict) (laid : List ℕ) → laidOf verdict laid .verdict ≡ verdict
-laid-verdict Accepted laid = refl
-laid-verdict (Refused reason item) laid = refl
-
-refused-left : (verdict : Verdict) (at : ℕ) (laid out : List ℕ) → (verdict ≡ Accepted → ⊥) → bodyLeft verdict at laid out ≡ out
-refused-left Accepted at laid out h = absurd (h refl)
-refused-left (Refused reason item) at laid out h = refl
 
 -- a body was written for this whole, and this refusal was told of it
 pub record Judged (k : Kind) (u : CaptionUnit k) (before after : ℕ) (out whole : List ℕ) (laid : Laid) (exit : List ℕ) (refusal : Refusal) : Type 0 where
@@ -51,7 +42,7 @@ module _ (k : Kind) {u : CaptionUnit k} {before after : ℕ} {out whole : List �
   pub whole-refused : (refusal .number ≡ 0 → ⊥) → Wrote (writeVerdict k u (length whole) (length out)) whole out (record { refusal = refusal; len = 0 }) exit
   whole-refused h =
       let verdict = writeVerdict k u (length whole) (length out) in
-      let same : exit ≡ out = j .left ∙ refused-left judged before (bodyOf k (held k u)) out (λ e. h (ap (λ (r : Refusal). r .number) (verdict-told ∙ ap refusalOf e))) in
+      let same : exit ≡ out = j .left ∙ refused-laid judged before (bodyOf k (held k u)) out (λ e. h (ap (λ (r : Refusal). r .number) (verdict-told ∙ ap refusalOf e))) .1 in
       subst₂ (λ (r : Refusal) (end : List ℕ). Wrote verdict whole out (record { refusal = r; len = 0 }) end) (sym whole-told) (sym same)
       (wrote-nothing verdict whole out (λ e. h (ap (λ (r : Refusal). r .number) whole-told ∙ e)))
 

@@ -10,7 +10,7 @@ use Rattle.refusal.specs.declared.Verdict.{Verdict}
 use Rattle.refusal.specs.declared.Verdict.the-variants.{Accepted, Refused}
 use Rattle.refusal.specs.declared.Written.{Written}
 use Rattle.refusal.specs.Numbers.{refusalOf}
-use Rattle.refusal.specs.Answers.{written, countedOf, leftOf, Wrote}
+use Rattle.refusal.specs.Answers.{written, countedOf, leftOf, Wrote, lentOf, laidOf, bodyLeft}
 use Rattle.refusal.proofs.Acceptance.{told-accepted}
 use Rattle.refusal.proofs.Checks.{refused-not-accepted}
 
@@ -21,6 +21,20 @@ counted-refusal (Refused reason item) laid = refl
 refused-left : (verdict : Verdict) (laid out : List ℕ) → (countedOf verdict laid .refusal .number ≡ 0 → ⊥) → (countedOf verdict laid .len ≡ 0) × (leftOf verdict laid out ≡ out)
 refused-left Accepted laid out h = absurd (h refl)
 refused-left (Refused reason item) laid out h = (refl, refl)
+
+-- what the verdict makes of the answer of a body's writer, and of what it leaves
+pub laid-verdict : (verdict : Verdict) (laid : List ℕ) → laidOf verdict laid .verdict ≡ verdict
+laid-verdict Accepted laid = refl
+laid-verdict (Refused reason item) laid = refl
+
+pub refused-laid : (verdict : Verdict) (at : ℕ) (laid out : List ℕ) → (verdict ≡ Accepted → ⊥) → (laidOf verdict laid .len ≡ 0) × (bodyLeft verdict at laid out ≡ out)
+refused-laid Accepted at laid out h = absurd (h refl)
+refused-laid (Refused reason item) at laid out h = (refl, refl)
+
+-- and what a refusal leaves in a lent array
+pub refused-lent : {A : Type 0} (verdict : Verdict) (new lent : List A) → (verdict ≡ Accepted → ⊥) → lentOf verdict new lent ≡ lent
+refused-lent Accepted new lent h = absurd (h refl)
+refused-lent (Refused reason item) new lent h = refl
 
 -- the two ways to keep the promise
 pub wrote-nothing : (verdict : Verdict) (laid out : List ℕ) → (refusalOf verdict .number ≡ 0 → ⊥) → Wrote verdict laid out (record { refusal = refusalOf verdict; len = 0 }) out

@@ -12,6 +12,7 @@ use Rattle.refusal.specs.declared.Verdict.{Verdict}
 use Rattle.refusal.specs.declared.Verdict.the-variants.{Accepted, Refused}
 use Rattle.refusal.specs.Checks.{first}
 use Rattle.refusal.specs.Answers.{lentOf, AtBit}
+use Rattle.refusal.proofs.Outputs.{refused-lent}
 use Rattle.scte20.specs.declared.Record.{Record}
 use Rattle.scte20.specs.declared.CaptionUnit.{CaptionUnit}
 use Rattle.scte20.specs.declared.Head.{Head}
@@ -74,10 +75,6 @@ told-verdict (Refused reason item) c = refl
 refused-head : (verdict : Verdict) (c : Content) → (verdict ≡ Accepted → ⊥) → headOf verdict c .numbers ≡ numbersOf (stored none)
 refused-head Accepted c g = absurd (g refl)
 refused-head (Refused reason item) c g = refl
-
-refused-lent : (verdict : Verdict) (new lent : List ℕ) → (verdict ≡ Accepted → ⊥) → lentOf verdict new lent ≡ lent
-refused-lent Accepted new lent g = absurd (g refl)
-refused-lent (Refused reason item) new lent g = refl
 
 module _ (body lent : List ℕ) (r : Head) (exit : List ℕ) (p : ReadsInto body lent r exit) where
   pub refused-in-order : r .verdict ≡ contentVerdict body

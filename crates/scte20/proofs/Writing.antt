@@ -12,6 +12,7 @@ use Rattle.refusal.specs.declared.Verdict.{Verdict}
 use Rattle.refusal.specs.declared.Verdict.the-variants.{Accepted, Refused}
 use Rattle.refusal.specs.Checks.{first}
 use Rattle.refusal.specs.Answers.{laidOf, bodyLeft}
+use Rattle.refusal.proofs.Outputs.{laid-verdict, refused-laid}
 use Rattle.scte20.specs.declared.CaptionUnit.{CaptionUnit}
 use Rattle.scte20.specs.Value.{LegalCaptionUnit, held}
 use Rattle.scte20.specs.Layout.{layout}
@@ -19,15 +20,6 @@ use Rattle.scte20.specs.Writing.{bodyVerdict, Writes}
 use Rattle.scte20.specs.Order.{writingChecks}
 use Rattle.scte20.proofs.Writable.{accepted-write, write-accepted}
 use Rattle.scte20.proofs.Sequence.{writing-order}
-
--- what the verdict makes of an answer
-laid-verdict : (verdict : Verdict) (laid : List ℕ) → laidOf verdict laid .verdict ≡ verdict
-laid-verdict Accepted laid = refl
-laid-verdict (Refused reason item) laid = refl
-
-refused-laid : (verdict : Verdict) (at : ℕ) (laid out : List ℕ) → (verdict ≡ Accepted → ⊥) → (laidOf verdict laid .len ≡ 0) × (bodyLeft verdict at laid out ≡ out)
-refused-laid Accepted at laid out g = absurd (g refl)
-refused-laid (Refused reason item) at laid out g = (refl, refl)
 
 module _ (u : CaptionUnit) (before after : ℕ) (out : List ℕ) (r : Laid) (exit : List ℕ) (w : Writes u before after out r exit) where
   pub write-in-order : r .verdict ≡ bodyVerdict u before after (length out)
