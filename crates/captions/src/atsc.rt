@@ -50,7 +50,7 @@ pub extern "C" fn captions_ga94_write(
         n,
         z,
     };
-    picture_writer::ga94_write_from(numbers, records, out)
+    ga94_picture_writer::write_from(numbers, records, out)
 }
 
 // Writes an area with another GA94 unit at the front of out.
@@ -76,5 +76,5 @@ pub extern "C" fn captions_ga94_replace(
         n,
         z,
     };
-    picture_writer::ga94_replace_from(area, numbers, records, out)
+    ga94_picture_writer::replace_from(area, numbers, records, out)
 }

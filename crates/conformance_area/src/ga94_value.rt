@@ -12,12 +12,12 @@ pub(crate) const END: usize = RECORDS + LENT_RECORDS;
 
 pub(crate) fn write(input: &[u8], out: &mut [u8]) -> Written {
     let records = records_of(input);
-    picture_writer::ga94_write_from(numbers_of(input), &records, out)
+    ga94_picture_writer::write_from(numbers_of(input), &records, out)
 }
 
 pub(crate) fn replace(input: &[u8], area: &[u8], out: &mut [u8]) -> Written {
     let records = records_of(input);
-    picture_writer::ga94_replace_from(area, numbers_of(input), &records, out)
+    ga94_picture_writer::replace_from(area, numbers_of(input), &records, out)
 }
 
 fn numbers_of(input: &[u8]) -> Numbers {

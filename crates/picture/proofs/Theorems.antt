@@ -10,7 +10,7 @@
 -- `Reads k s r` is the promise of `read`, which is there for SCTE 20: r is the answer to the bytes s. `Writes k u out r
 -- exit` is that of writing: writing the unit u to an output that held `out` answers r and leaves `exit`. `Replaces k s
 -- u out r exit` says the same of replacing, which puts u into the area s. So each theorem speaks of every call.
--- `write_from` and `replace_from`, and for GA94 `ga94_write_from` and `ga94_replace_from`, promise `Writes` and
+-- `write_from` and `replace_from` of crates `picture_writer` and, for GA94, `ga94_picture_writer` promise `Writes` and
 -- `Replaces` of the value that they are lent (`unitIn`), and `read_into` and `ga94_read_into` promise `ReadsInto`,
 -- which gives what reading answers (`read-into-as-read`): the theorems speak of them too. Assumes nothing.
 use Prim.Native.Nat.{ℕ, _*_, _≤_, _<_}

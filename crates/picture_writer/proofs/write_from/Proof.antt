@@ -1,4 +1,4 @@
--- `picture_writer::writing::write_from` meets its contract: before the body that was written the start code makes the unit.
+-- `picture_writer::write_from` meets its contract: before the body that was written the start code makes the unit.
 -- Assumes nothing.
 use Prim.Native.Nat.{_+_, _≤_}
 use native.Mathlib.Omega.{arith}
@@ -15,8 +15,8 @@ use Rattle.scte20.specs.Lent.{unitIn}
 use Rattle.picture.specs.Writing.{unitBytes}
 use Rattle.around.proofs.Laying.{started-over}
 use Rattle.picture.proofs.Wholes.{Judged, whole-refused, body-there, whole-fits, whole-laid}
-use Rattle.picture_writer.proofs.writing.write_from.Statement.{statement}
-use Rattle.picture_writer.proofs.writing.write_from.Tie as tie
+use Rattle.picture_writer.proofs.write_from.Statement.{statement}
+use Rattle.picture_writer.proofs.write_from.Tie as tie
 
 -- the value that is written
 abbrev unit : tie.Start → CaptionUnit

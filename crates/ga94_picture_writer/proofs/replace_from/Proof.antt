@@ -1,4 +1,4 @@
--- `picture_writer::atsc::ga94_replace_from` meets its contract: an area that is refused is left so, and in one that is accepted the new unit has a place.
+-- `ga94_picture_writer::replace_from` meets its contract: an area that is refused is left so, and in one that is accepted the new unit has a place.
 -- Assumes nothing.
 use mathlib.Core.Path.{_≡_, _∙_, ap, sym, subst, refl}
 use borrow.Author.Needs.{needs}
@@ -16,8 +16,8 @@ use Rattle.picture.specs.Lent.{Head}
 use Rattle.picture.specs.Reading.{areaVerdict, readOf}
 use Rattle.picture.proofs.Spots.{Within, spot-within, replace-refused, replace-accepted}
 use Rattle.picture.proofs.Theorems.{refused-in-order}
-use Rattle.picture_writer.proofs.atsc.ga94_replace_from.Statement.{statement}
-use Rattle.picture_writer.proofs.atsc.ga94_replace_from.Tie as tie
+use Rattle.ga94_picture_writer.proofs.replace_from.Statement.{statement}
+use Rattle.ga94_picture_writer.proofs.replace_from.Tie as tie
 
 -- the new value
 abbrev unit : tie.Start → CaptionUnit
@@ -76,8 +76,8 @@ accepted c =
           (exchanged .exchange .last .1 .1 .1 .1 .1 .0) (answered .ga94-read-old .result .spot) (accepts past) (answered .ga94-read-old .ensures .place) (kept .wrote);
     }
 
-pub ga94-replace-from-spec : {M : Type 1} → statement M
-ga94-replace-from-spec =
+pub replace-from-spec : {M : Type 1} → statement M
+replace-from-spec =
     tie.close
     (tie.spec
     (λ c κs. search needs)

@@ -1,4 +1,4 @@
--- `picture_writer::writing::write` meets its contract: a struct's numbers and its records' bytes tell the struct.
+-- `picture_writer::write` meets its contract: a struct's numbers and its records' bytes tell the struct.
 -- Assumes nothing.
 use mathlib.Core.Path.{_∙_, ap₂, subst}
 use borrow.Author.Needs.{needs}
@@ -9,8 +9,8 @@ use Rattle.scte20.specs.Lent.{unitIn}
 use Rattle.scte20.proofs.Types.{typed}
 use Rattle.scte20.proofs.Lending.{lent-unit}
 use Rattle.picture.specs.Writing.{Writes}
-use Rattle.picture_writer.proofs.writing.write.Statement.{statement}
-use Rattle.picture_writer.proofs.writing.write.Tie as tie
+use Rattle.picture_writer.proofs.write.Statement.{statement}
+use Rattle.picture_writer.proofs.write.Tie as tie
 
 returns : tie.Need-returns
 returns c =

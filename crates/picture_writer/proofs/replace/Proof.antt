@@ -1,4 +1,4 @@
--- `picture_writer::writing::replace` meets its contract: a struct's numbers and its records' bytes tell the struct.
+-- `picture_writer::replace` meets its contract: a struct's numbers and its records' bytes tell the struct.
 -- Assumes nothing.
 use mathlib.Core.Path.{_∙_, ap₂, subst}
 use borrow.Author.Needs.{needs}
@@ -9,8 +9,8 @@ use Rattle.scte20.specs.Lent.{unitIn}
 use Rattle.scte20.proofs.Types.{typed}
 use Rattle.scte20.proofs.Lending.{lent-unit}
 use Rattle.picture.specs.Writing.{Replaces}
-use Rattle.picture_writer.proofs.writing.replace.Statement.{statement}
-use Rattle.picture_writer.proofs.writing.replace.Tie as tie
+use Rattle.picture_writer.proofs.replace.Statement.{statement}
+use Rattle.picture_writer.proofs.replace.Tie as tie
 
 returns : tie.Need-returns
 returns c =

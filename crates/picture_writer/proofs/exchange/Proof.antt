@@ -1,4 +1,4 @@
--- `picture_writer::atsc::exchange` meets its contract: around the body that was written come the area's front, the start code and the area's rest.
+-- `picture_writer::exchange` meets its contract: around the body that was written come the area's front, the start code and the area's rest.
 -- Assumes nothing.
 use Prim.Native.Nat.{ℕ, _+_, _-_, _≤_}
 use native.Mathlib.Omega.{arith}
@@ -9,22 +9,22 @@ use denote.Ref.{now}
 use lib.ListN.{length, take, drop, length-drop, length-append}
 use lib.Seq.{length-take-le}
 use Rattle.lists.specs.Room.{overAt}
-use Rattle.kind.specs.declared.Kind.the-variants.{Ga94}
+use Rattle.kind.specs.declared.Kind.the-variants.{Scte20}
 use Rattle.units.specs.Layout.{layoutUnit}
 use Rattle.picture.specs.Kinds.{CaptionUnit, bodyOf, held, unitIn}
 use Rattle.around.specs.Around.{exchanged, surrounded}
 use Rattle.around.proofs.Surrounding.{surrounded-body}
 use Rattle.picture.specs.Writing.{unitBytes}
 use Rattle.picture.proofs.Wholes.{Judged, whole-refused, body-there, whole-fits, whole-laid}
-use Rattle.picture_writer.proofs.atsc.exchange.Statement.{statement}
-use Rattle.picture_writer.proofs.atsc.exchange.Tie as tie
+use Rattle.picture_writer.proofs.exchange.Statement.{statement}
+use Rattle.picture_writer.proofs.exchange.Tie as tie
 
 -- the new value, its body, and the area's front and rest
-abbrev unit : tie.Start → CaptionUnit Ga94
-unit c = unitIn Ga94 (c .args .v) (now (c .args .records))
+abbrev unit : tie.Start → CaptionUnit Scte20
+unit c = unitIn Scte20 (c .args .v) (now (c .args .records))
 
 abbrev body : tie.Start → List ℕ
-body c = bodyOf Ga94 (held Ga94 (unit c))
+body c = bodyOf Scte20 (held Scte20 (unit c))
 
 abbrev front : tie.Start → List ℕ
 front c = take (c .args .start) (now (c .args .s))
@@ -40,8 +40,8 @@ length-back c = length-drop (c .args .end) (now (c .args .s))
 
 -- the new area is judged as the body is with what stands before and after it
 judged : (c : tie.After-told) → let write = c .before .before .before in let start = write .before .before .before .before in
-    Judged Ga94 (unit start) (start .args .start + 4) (length (now (start .args .s)) - start .args .end) (now (start .args .out))
-    (exchanged (now (start .args .s)) (start .args .start) (start .args .end) (unitBytes Ga94 (held Ga94 (unit start))))
+    Judged Scte20 (unit start) (start .args .start + 4) (length (now (start .args .s)) - start .args .end) (now (start .args .out))
+    (exchanged (now (start .args .s)) (start .args .start) (start .args .end) (unitBytes Scte20 (held Scte20 (unit start))))
     (write .write-from .result) (write .write-from .last .1 .1 .1 .1 .0) (c .told .result)
 judged c =
     let write = c .before .before .before in
@@ -59,7 +59,7 @@ judged c =
 refused : tie.Need-returns
 refused c =
     let write = c .before .before .before .before .before in
-    record { typed = write .write-from .ensures .typed; wrote = whole-refused Ga94 (judged (c .before .before)) (c .if1 .taken) }
+    record { typed = write .write-from .ensures .typed; wrote = whole-refused Scte20 (judged (c .before .before)) (c .if1 .taken) }
 
 -- past the test the body stands in the output, and there is room around it
 abbrev entry : tie.Else1 → tie.Start
@@ -69,13 +69,13 @@ module _ (c : tie.Else1) where
   there : let write = c .before .before .before .before .before in
       (write .write-from .result .len ≡ length (body (entry c)))
       × (write .write-from .last .1 .1 .1 .1 .0 ≡ overAt (entry c .args .start + 4) (body (entry c)) (now (entry c .args .out)))
-  there = body-there Ga94 (judged (c .before .before)) (c .if1 .left)
+  there = body-there Scte20 (judged (c .before .before)) (c .if1 .left)
 
   fits : (entry c .args .start + 4 + length (body (entry c)) + length (back (entry c)) ≤ 16384)
       × (entry c .args .start + 4 + length (body (entry c)) + length (back (entry c)) ≤ length (now (entry c .args .out)))
   fits =
       let j = judged (c .before .before) in
-      let whole = whole-fits Ga94 j (c .if1 .left) in
+      let whole = whole-fits Scte20 j (c .if1 .left) in
       (omega (arith, j .size, whole .0, length-back (entry c)), omega (arith, j .size, whole .1, length-back (entry c)))
 
 add-t19 : tie.Need-add-t19
@@ -97,7 +97,7 @@ accepted c =
     ∙ ap (λ (n : ℕ). surrounded (now (start .args .s)) (start .args .start) (start .args .end) n (write .write-from .last .1 .1 .1 .1 .0)) (there passed .0)
     ∙ surrounded-body (now (start .args .s)) (start .args .start) (start .args .end) (body start) _ (now (start .args .out)) (start .pre .0) (start .pre .1 .0)
     (omega (arith, fits passed .1, length-back start)) (there passed .1) in
-    record { typed = write .write-from .ensures .typed; wrote = whole-laid Ga94 j (passed .if1 .left) _ _ size laid }
+    record { typed = write .write-from .ensures .typed; wrote = whole-laid Scte20 j (passed .if1 .left) _ _ size laid }
 
 pub exchange-spec : {M : Type 1} → statement M
 exchange-spec =

@@ -1,4 +1,6 @@
-// Writing and replacing for GA94.
+// Writing a GA94 unit, and putting one into a picture's user data area.
+//
+// Normative references: docs/RULES.md, "GA94" and "Order of checks"; document 003, Table 3.
 ghost use Prim.Native.Nat.{_≤_};
 ghost use lib.ListN.{length};
 ghost use Rattle.kind.specs.declared.Kind.the-variants.{Ga94};
@@ -11,7 +13,7 @@ use refusal::Written;
 use units::START_BYTES;
 
 // Writes the GA94 unit that numbers and a lent array tell, with its start code and its stuffing, at the front of out.
-pub fn ga94_write_from(v: Numbers, records: &[u8; LENT_RECORDS], out: &mut [u8]) -> Written
+pub fn write_from(v: Numbers, records: &[u8; LENT_RECORDS], out: &mut [u8]) -> Written
     ensures { λ r. ⌜ Writes Ga94 (unitIn v (now (records .entry))) (now (out .entry)) r (now (out .exit)) ⌝ }
 {
     let laid = ga94_writer::write_from(v, records, START_BYTES, 0, out);
@@ -28,12 +30,7 @@ pub fn ga94_write_from(v: Numbers, records: &[u8; LENT_RECORDS], out: &mut [u8])
 }
 
 // Writes an area with another GA94 unit, which numbers and a lent array tell, at the front of out. The foreign units pass byte for byte.
-pub fn ga94_replace_from(
-    s: &[u8],
-    v: Numbers,
-    records: &[u8; LENT_RECORDS],
-    out: &mut [u8],
-) -> Written
+pub fn replace_from(s: &[u8], v: Numbers, records: &[u8; LENT_RECORDS], out: &mut [u8]) -> Written
     ensures { λ r. ⌜ Replaces Ga94 (now (s .entry)) (unitIn v (now (records .entry))) (now (out .entry)) r (now (out .exit)) ⌝ }
 {
     let mut kept = [0; LENT_RECORDS];

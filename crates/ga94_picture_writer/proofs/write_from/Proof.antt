@@ -1,4 +1,4 @@
--- `picture_writer::atsc::ga94_write_from` meets its contract: before the body that was written the start code makes the unit.
+-- `ga94_picture_writer::write_from` meets its contract: before the body that was written the start code makes the unit.
 -- Assumes nothing.
 use Prim.Native.Nat.{_+_, _≤_}
 use native.Mathlib.Omega.{arith}
@@ -15,8 +15,8 @@ use Rattle.ga94.specs.Lent.{unitIn}
 use Rattle.picture.specs.Writing.{unitBytes}
 use Rattle.around.proofs.Laying.{started-over}
 use Rattle.picture.proofs.Wholes.{Judged, whole-refused, body-there, whole-fits, whole-laid}
-use Rattle.picture_writer.proofs.atsc.ga94_write_from.Statement.{statement}
-use Rattle.picture_writer.proofs.atsc.ga94_write_from.Tie as tie
+use Rattle.ga94_picture_writer.proofs.write_from.Statement.{statement}
+use Rattle.ga94_picture_writer.proofs.write_from.Tie as tie
 
 -- the value that is written
 abbrev unit : tie.Start → CaptionUnit
@@ -58,8 +58,8 @@ accepted c =
           (c .before .before .before .«open» .ensures ∙ ap started (there .1) ∙ started-over body out fits);
     }
 
-pub ga94-write-from-spec : {M : Type 1} → statement M
-ga94-write-from-spec =
+pub write-from-spec : {M : Type 1} → statement M
+write-from-spec =
     tie.close
     (tie.spec
     (λ c κs. search needs)
