@@ -13,6 +13,18 @@ use Rattle.lists.proofs.Lay.{drop-overAt, length-overAt, over-overAt}
 use Rattle.units.specs.Layout.{layoutUnit}
 use Rattle.around.specs.Around.{exchanged, fits, surroundedIf, surrounded, Surrounds}
 
+-- how long the whole is
+pub length-exchanged : (s : List ℕ) (start end : ℕ) (body : List ℕ) → start ≤ end → end ≤ length s
+    → start + 4 + length body + (length s - end) ≡ length (exchanged s start end (layoutUnit body))
+length-exchanged s start end body forward inside =
+    omega (
+      arith,
+      length-append (take start s) (layoutUnit body ++ drop end s),
+      length-append (layoutUnit body) (drop end s),
+      length-take-le start s (omega arith),
+      length-drop end s,
+    )
+
 -- an output with a part of it laid where it stands
 kept : (at len : ℕ) (out : List ℕ) → at + len ≤ length out → out ≡ overAt at (take len (drop at out)) out
 kept at len out room =
@@ -65,8 +77,7 @@ surrounded-body s start end body out first forward inside room there =
     ap (λ (xs : List ℕ). take (length body) (drop at xs)) there ∙ ap (take (length body)) (drop-overAt at body first within)
     ∙ take-append-seam body (drop (length body) (drop at first)) in
     let whole = exchanged s start end (layoutUnit body) in
-    let size : at + length body ≤ length whole =
-    omega (arith, length-append (take start s) (layoutUnit body ++ drop end s), length-append (layoutUnit body) (drop end s), length-take-le start s (omega arith)) in
+    let size : at + length body ≤ length whole = omega (arith, length-exchanged s start end body forward inside) in
     fitting s start end (length body) out forward inside (omega (arith, same))
     ∙ ap (λ (b : List ℕ). over (exchanged s start end (layoutUnit b)) out) stands
     ∙ ap (λ (xs : List ℕ). over whole xs) there

@@ -1,7 +1,8 @@
 -- A result with a body in it is judged as the body is with so many bytes before and after it; and where that accepts, how many bytes the body has
 -- and where it stands.
 -- Assumes nothing.
-use Prim.Native.Nat.{ℕ, _+_, _≤_}
+use Prim.Native.Nat.{ℕ, _+_, _-_, _≤_}
+use native.Mathlib.Omega.{arith}
 use mathlib.Core.Path.{_≡_, _∙_, ap, sym, subst, subst₂, subst₃, refl}
 use mathlib.Core.List.{List}
 use lib.ListN.{length}
@@ -15,7 +16,12 @@ use Rattle.refusal.specs.Answers.{Wrote, laidOf, bodyLeft}
 use Rattle.refusal.proofs.Acceptance.{told-accepted}
 use Rattle.refusal.proofs.Outputs.{wrote-nothing, wrote-laid, laid-verdict, refused-laid}
 use Rattle.kind.specs.declared.Kind.{Kind}
+use Rattle.units.specs.Layout.{started}
+use Rattle.around.specs.Around.{exchanged, surrounded}
+use Rattle.around.proofs.Laying.{started-over}
+use Rattle.around.proofs.Surrounding.{surrounded-body}
 use Rattle.picture.specs.Kinds.{bodyOf, CaptionUnit, held, Typed, writeVerdict}
+use Rattle.picture.specs.Writing.{unitBytes}
 use Rattle.picture.proofs.Contents.{accepted-write}
 
 -- a body was written for this whole, and this refusal was told of it
@@ -69,3 +75,45 @@ module _ (k : Kind) {u : CaptionUnit k} {before after : ℕ} {out whole : List �
       let verdict = writeVerdict k u (length whole) (length out) in
       subst₃ (λ (r : Refusal) (m : ℕ) (xs : List ℕ). Wrote verdict whole out (record { refusal = r; len = m }) xs) (sym whole-told) long (sym there)
       (wrote-laid verdict whole out (sym (ap (λ (r : Refusal). r .number) whole-told) ∙ e))
+
+-- A UNIT ALONE
+
+module _ (k : Kind) {u : CaptionUnit k} {out : List ℕ} {laid : Laid} {exit : List ℕ} {refusal : Refusal}
+    (j : Judged k u 4 0 out (unitBytes k (held k u)) laid exit refusal) (ok : refusal .number ≡ 0) where
+  pub unit-short : 4 + laid .len ≤ 16384
+  unit-short = omega (arith, whole-fits k j ok .0, body-there k j ok .0)
+
+  -- before the body that was written the start code makes the unit
+  pub unit-laid : (end : List ℕ) → end ≡ started exit
+      → Wrote (writeVerdict k u (length (unitBytes k (held k u))) (length out)) (unitBytes k (held k u)) out (record { refusal = refusal; len = 4 + laid .len }) end
+  unit-laid end code =
+      let there = body-there k j ok in
+      let fits : 4 + length (bodyOf k (held k u)) ≤ length out = omega (arith, whole-fits k j ok .1) in
+      whole-laid k j ok _ _ (omega (arith, there .0)) (code ∙ ap started (there .1) ∙ started-over (bodyOf k (held k u)) out fits)
+
+-- A UNIT IN AN AREA
+
+module _ (k : Kind) (s : List ℕ) (start end : ℕ) (forward : start ≤ end) (inside : end ≤ length s)
+    {u : CaptionUnit k} {out : List ℕ} {laid : Laid} {exit : List ℕ} {refusal : Refusal}
+    (j : Judged k u (start + 4) (length s - end) out (exchanged s start end (unitBytes k (held k u))) laid exit refusal) (ok : refusal .number ≡ 0) where
+  room : (start + 4 + laid .len + (length s - end) ≤ 16384) × (start + 4 + laid .len + (length s - end) ≤ length out)
+  room =
+      let whole = whole-fits k j ok in
+      let there = body-there k j ok .0 in
+      (omega (arith, j .size, whole .0, there), omega (arith, j .size, whole .1, there))
+
+  pub area-short : start + 4 + laid .len + (length s - end) ≤ 16384
+  area-short = room .0
+
+  -- around the body that was written the area's bytes and the start code make the new area
+  pub area-laid : (last : List ℕ) → last ≡ surrounded s start end (laid .len) exit
+      → let new = exchanged s start end (unitBytes k (held k u)) in
+      Wrote (writeVerdict k u (length new) (length out)) new out (record { refusal = refusal; len = start + 4 + laid .len + (length s - end) }) last
+  area-laid last around =
+      let there = body-there k j ok in
+      let body = bodyOf k (held k u) in
+      let size = sym (j .size) ∙ ap (λ (n : ℕ). start + 4 + n + (length s - end)) (sym (there .0)) in
+      whole-laid k j ok _ _ size
+      (around
+      ∙ ap (λ (n : ℕ). surrounded s start end n exit) (there .0)
+      ∙ surrounded-body s start end body exit out forward inside (omega (arith, room .1, there .0)) (there .1))
