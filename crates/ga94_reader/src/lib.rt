@@ -76,7 +76,7 @@ fn judge_head(body: &[u8]) -> Verdict
     if body.len() < 4 {
         return Verdict::Refused(Reason::Ends, Item::Bit(0));
     }
-    if !identified(body) {
+    if !has_identifier(body) {
         return Verdict::Refused(Reason::Unfixed(Fixed::Identifier), Item::Bit(0));
     }
     if body.len() < 5 {
@@ -98,7 +98,7 @@ fn judge_head(body: &[u8]) -> Verdict
 }
 
 // Whether ATSC_identifier stands at the front.
-fn identified(body: &[u8]) -> bool
+fn has_identifier(body: &[u8]) -> bool
     requires { ⌜ 4 ≤ length (now body) ⌝ }
     ensures { λ r. ⌜ r ≡ identifierIn (now (body .entry)) ⌝ }
 {

@@ -67,7 +67,7 @@ module _ (mine : List ℕ → Bool) where
   kind-none (b ∷ bs) e = none-test (mine b) b bs refl (kind-none bs) e
 
   -- the only one stands among others
-  pub record Only (bs : List (List ℕ)) (x : List ℕ) : Type 0 where
+  pub record Lone (bs : List (List ℕ)) (x : List ℕ) : Type 0 where
     before : List (List ℕ)
     after : List (List ℕ)
     whole : bs ≡ before ++ (x ∷ after)
@@ -75,8 +75,8 @@ module _ (mine : List ℕ → Bool) where
     others-after : Each (λ (d : List ℕ). mine d ≡ false) after
     is-mine : mine x ≡ true
 
-  one-test : (t : Bool) (b : List ℕ) (bs : List (List ℕ)) (x : List ℕ) → mine b ≡ t → (ofKind mine bs ≡ x ∷ [] → Only bs x)
-      → putIf t b (ofKind mine bs) ≡ x ∷ [] → Only (b ∷ bs) x
+  one-test : (t : Bool) (b : List ℕ) (bs : List (List ℕ)) (x : List ℕ) → mine b ≡ t → (ofKind mine bs ≡ x ∷ [] → Lone bs x)
+      → putIf t b (ofKind mine bs) ≡ x ∷ [] → Lone (b ∷ bs) x
   one-test false b bs x f rest e =
       let o = rest e in
       record {
@@ -98,7 +98,7 @@ module _ (mine : List ℕ → Bool) where
         is-mine = ap mine (sym same) ∙ f;
       }
 
-  kind-one : (bs : List (List ℕ)) (x : List ℕ) → ofKind mine bs ≡ x ∷ [] → Only bs x
+  kind-one : (bs : List (List ℕ)) (x : List ℕ) → ofKind mine bs ≡ x ∷ [] → Lone bs x
   kind-one [] x e = let z : _≡_ {A = ℕ} 0 1 = ap length e in let f : ⊥ = omega arith in absurd f
   kind-one (b ∷ bs) x e = one-test (mine b) b bs x refl (kind-one bs x) e
 
@@ -139,7 +139,7 @@ module _ (k : Kind) where
       ∙ ap (λ (d : List ℕ). answerOf k (placed unit (contentVerdict k d)) (valueOf k d ∷ [])) lies in
       subst (λ (a : Answer k). Alike k a (toldBy (x ∷ []))) (sym told) (placed-alike unit (contentVerdict k x) (valueOf k x ∷ []))
 
-  only-told : (bs : List (List ℕ)) → Each Clean bs → length (units.layout bs) ≤ 16384 → (x : List ℕ) → Only (ours k) bs x
+  only-told : (bs : List (List ℕ)) → Each Clean bs → length (units.layout bs) ≤ 16384 → (x : List ℕ) → Lone (ours k) bs x
       → Alike k (readOf k (units.layout bs)) (toldBy (x ∷ []))
   only-told bs clean short x o =
       let parts = append-each Clean (o .before) (x ∷ o .after) (subst (λ (ds : List (List ℕ)). Each Clean ds) (o .whole) clean) in

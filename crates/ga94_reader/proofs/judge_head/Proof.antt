@@ -20,8 +20,8 @@ long c = sym (head-long (now (c .before .before .args .body)) (c .if1 .taken))
 empty : tie.Need-returns-2
 empty c = sym (head-empty (now (c .before .before .before .args .body)) (c .before .if1 .left) (c .if2 .taken))
 
--- what `identified` answers
-module _ (c : tie.After-identified) where
+-- what `has_identifier` answers
+module _ (c : tie.After-has-identifier) where
   abbrev bodyOf : List ℕ
   bodyOf = now (c .before .before .before .before .args .body)
 
@@ -34,15 +34,15 @@ module _ (c : tie.After-identified) where
 other : tie.Need-returns-3
 other c =
     let past = c .before in
-    sym (head-other (bodyOf past) (short past) (four past) (sym (past .identified .ensures) ∙ not-true _ (c .if3 .taken)))
+    sym (head-other (bodyOf past) (short past) (four past) (sym (past .has-identifier .ensures) ∙ not-true _ (c .if3 .taken)))
 
 -- the identifier is there
 module _ (c : tie.Else3) where
-  abbrev past : tie.After-identified
+  abbrev past : tie.After-has-identifier
   past = c .before
 
   is-there : identifierIn (bodyOf past) ≡ true
-  is-there = sym (past .identified .ensures) ∙ not-false _ (c .if3 .left)
+  is-there = sym (past .has-identifier .ensures) ∙ not-false _ (c .if3 .left)
 
 untyped : tie.Need-returns-4
 untyped c =
