@@ -7,12 +7,13 @@
  */
 #include "captions.h"
 #include "lines.h"
+#include "words.h"
 
 #include <stdlib.h>
 
 #include <bitstream/smpte/291.h>
 
-enum { PACKETS = 2000, MAX_WORDS = 300, FIRST_USER = 6 };
+enum { PACKETS = 2000 };
 
 static uint32_t random_below(uint32_t limit)
 {
@@ -29,11 +30,6 @@ struct value {
     uint32_t counter;
     captions_slot slots[CAPTIONS_SLOTS];
     captions_row rows[CAPTIONS_SLOTS];
-};
-
-struct words {
-    size_t len;
-    uint16_t w[MAX_WORDS];
 };
 
 static void random_slot(struct value *v, size_t i)
@@ -68,27 +64,6 @@ static struct words write_packet(const struct value *v)
         exit(2);
     }
     p.len = w.len;
-    return p;
-}
-
-static size_t user_bytes(const struct words *p, uint8_t *bytes)
-{
-    size_t n = p->w[5] & 0xFF;
-    for (size_t i = 0; i < n; i++)
-        bytes[i] = p->w[FIRST_USER + i] & 0xFF;
-    return n;
-}
-
-/* A packet by biTStream's functions from its bytes. */
-static struct words bitstream_packet(uint8_t did, uint8_t sdid, const uint8_t *bytes, size_t n)
-{
-    struct words p = { .len = n + 7, .w = { S291_ADF1, S291_ADF2, S291_ADF3 } };
-    s291_set_did(p.w, did);
-    s291_set_sdid(p.w, sdid);
-    s291_set_dc(p.w, (uint8_t)n);
-    for (size_t i = 0; i < n; i++)
-        p.w[FIRST_USER + i] = bytes[i] | s291_parity(bytes[i]);
-    s291_set_cs(p.w);
     return p;
 }
 

@@ -3,6 +3,7 @@
  * ancillary encoder and parser and biTStream's functions for SMPTE 291 and RDD 8; then shows what these do with special ones.
  */
 #include "lines.h"
+#include "words.h"
 
 #include <stdlib.h>
 #include <string.h>
@@ -12,14 +13,9 @@
 #include <gst/gst.h>
 #include <gst/video/video.h>
 
-enum { LINE_WORDS = 3840, LINE_BYTES = 5120, MAX_WORDS = 300, FIRST_USER = 6, SLOTS = 5, ROW_BYTES = 42 };
+enum { LINE_WORDS = 3840, LINE_BYTES = 5120, SLOTS = 5, ROW_BYTES = 42 };
 
 /* ---- The file of packets ---- */
-
-struct words {
-    size_t len;
-    uint16_t w[MAX_WORDS];
-};
 
 struct slot {
     int full, line, field;
@@ -63,14 +59,6 @@ static void take_slot(struct slot *s, FILE *file)
         fail("a row of another length");
     memcpy(s->row, b.data, ROW_BYTES);
     free(b.data);
-}
-
-static size_t user_bytes(const struct words *p, uint8_t *bytes)
-{
-    size_t n = p->w[5] & 0xFF;
-    for (size_t i = 0; i < n; i++)
-        bytes[i] = p->w[FIRST_USER + i] & 0xFF;
-    return n;
 }
 
 /* ---- A video line in the format v210: three 10-bit words in 32 bits ---- */
@@ -137,19 +125,6 @@ static bool gstreamer_parses_equal(const struct words *p, unsigned width)
     size_t n = user_bytes(p, bytes);
     return gstreamer_parses(p, width, &anc) == GST_VIDEO_VBI_PARSER_RESULT_OK && anc.DID == 0x43 && anc.SDID_block_number == 0x02 &&
            anc.data_count == n && memcmp(anc.data, bytes, n) == 0;
-}
-
-/* A packet by biTStream's functions from its bytes. */
-static struct words bitstream_packet(uint8_t did, uint8_t sdid, const uint8_t *bytes, size_t n)
-{
-    struct words p = { .len = n + 7, .w = { S291_ADF1, S291_ADF2, S291_ADF3 } };
-    s291_set_did(p.w, did);
-    s291_set_sdid(p.w, sdid);
-    s291_set_dc(p.w, (uint8_t)n);
-    for (size_t i = 0; i < n; i++)
-        p.w[FIRST_USER + i] = bytes[i] | s291_parity(bytes[i]);
-    s291_set_cs(p.w);
-    return p;
 }
 
 static bool bitstream_writes_equal(const struct words *p)
