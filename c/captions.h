@@ -50,31 +50,43 @@ extern "C" {
 
 /* ---- Refusals ---- */
 
-/* The numbers of a refusal (RULES, "Refusals"). 0 is no refusal. */
+/* The numbers of a refusal (RULES, "Refusals"). 0 is no refusal, and 17 is not in use. */
 enum {
     CAPTIONS_ACCEPTED = 0,
-    CAPTIONS_TOO_LONG = 1,        /* above 16,384 bytes of an area, 245 words of a packet, 1,456 bytes of a payload */
-    CAPTIONS_NO_START = 2,        /* no start code, flag words or flags byte where the input must begin with them */
-    CAPTIONS_START_CODE = 3,      /* a 00 00 01 with no B2 behind it */
-    CAPTIONS_SECOND_UNIT = 4,     /* more than one caption unit in an area, or more than one GA94 unit */
-    CAPTIONS_ENDS = 5,            /* the input is over before an item is complete */
-    CAPTIONS_FIXED = 6,           /* a bit, a byte or a word that can only have one value has another */
-    CAPTIONS_FIELD_OR_LINE = 7,   /* a record of field 0; a descriptor of line 1 to 5 or 23 to 31 */
-    CAPTIONS_ORDER = 8,           /* a record of a lower field than the one before, or of the same and no higher line */
-    CAPTIONS_FIFTH_PRIORITY = 9,  /* more than four records of priority 0 in a field */
-    CAPTIONS_SAMPLED_VIDEO = 10,  /* the count of sampled video is not 0 */
-    CAPTIONS_WORD = 11,           /* a word of more than ten bits, or with wrong parity bits */
-    CAPTIONS_CHECKSUM = 12,       /* the sum of the user bytes, or CS, does not come out */
-    CAPTIONS_LENGTH = 13,         /* a length that fits nothing: DC, LENGTH, or that of a payload */
-    CAPTIONS_NO_ROOM = 14,        /* the lent output is shorter than the result */
-    CAPTIONS_UNHOLDABLE = 15,     /* a number out of its range, records under flag 0, or a slot at odds with its mark */
-    CAPTIONS_ADDITIONAL_DATA = 16 /* GA94 with additional_data_flag set */
+    CAPTIONS_TOO_LONG = 1,         /* above 16,384 bytes of an area, 245 words of a packet, 1,456 bytes of a payload */
+    CAPTIONS_NO_START = 2,         /* no start code, flag words or flags byte where the input must begin with them */
+    CAPTIONS_START_CODE = 3,       /* a 00 00 01 with no B2 behind it */
+    CAPTIONS_SECOND_UNIT = 4,      /* more than one caption unit in an area, or more than one GA94 unit */
+    CAPTIONS_ENDS = 5,             /* the input is over before an item is complete */
+    CAPTIONS_FIXED = 6,            /* a packet's identifier (DID, SDID, 51, 15), format or footer is another */
+    CAPTIONS_FIELD_OR_LINE = 7,    /* a record of field 0; a descriptor of line 1 to 5 or 23 to 31 */
+    CAPTIONS_ORDER = 8,            /* a record of a lower field than the one before, or of the same and no higher line */
+    CAPTIONS_FIFTH_PRIORITY = 9,   /* more than four records of priority 0 in a field */
+    CAPTIONS_SAMPLED_VIDEO = 10,   /* the count of sampled video is not 0 */
+    CAPTIONS_WORD = 11,            /* a word of more than ten bits, or with wrong parity bits */
+    CAPTIONS_CHECKSUM = 12,        /* the sum of the user bytes, or CS, does not come out */
+    CAPTIONS_LENGTH = 13,          /* a length that fits nothing: DC, LENGTH, or that of a payload */
+    CAPTIONS_NO_ROOM = 14,         /* the lent output is shorter than the result */
+    CAPTIONS_UNHOLDABLE = 15,      /* a number out of its range, records under flag 0, or a slot at odds with its mark */
+    CAPTIONS_ADDITIONAL_DATA = 16, /* GA94 with additional_data_flag set */
+    CAPTIONS_MARKER = 18,          /* a construct's marker is not all ones, or GA94's closing byte is not FF */
+    CAPTIONS_ZEROS = 19,           /* a bit of a unit's alignment or stuffing is not 0 */
+    CAPTIONS_RUN_IN = 20           /* a packet's run-in or framing code (55 55 27) is another */
 };
 
-/* Why a call was refused. Both are 0 in an accepted one. */
+/*
+ * Why a call was refused. Both are 0 in an accepted one.
+ *
+ * The place, counted from 0, says what reading found wrong:
+ *   in a unit's body   the bit of the area at which the item begins, with 19 the first bit that is not 0:
+ *                      byte place / 8 of the area, and in it bit place % 8 from the most significant one
+ *   in a packet        the word; with 1 and 5 the number of words
+ *   in a payload       the number of bytes
+ * With 1 to 4 of an area it is 0, and so where the value to write, the length of the result or the room is refused.
+ */
 typedef struct captions_refusal {
     uint8_t number; /* see above */
-    size_t place;   /* the first byte of the area's unit inside whose body reading failed; else 0 */
+    size_t place;   /* a bit, a word or a length */
 } captions_refusal;
 
 /* What a writer answers. */
@@ -112,7 +124,8 @@ typedef struct captions_unit {
 /*
  * Reads the caption unit of an area.
  *
- * Refuses with 1, 2, 3, 4, then 5 to 10 from left to right in the caption unit, with the unit's first byte as the place.
+ * Refuses with 1, 2, 3, 4, all at 0, then 5, 7 to 10, 18, 19 from left to right in the caption unit, each at a bit of the
+ * area.
  * Lent: all places of `records` are stored to where the call is accepted, the n records first and zeros behind them.
  */
 captions_unit captions_area_read(const uint8_t *area, size_t len,
@@ -168,7 +181,7 @@ typedef struct captions_ga94_unit {
 /*
  * Reads the GA94 unit of an area. An SCTE 20 caption unit is a foreign one here, as a GA94 unit is for captions_area_read.
  *
- * Refuses with 1, 2, 3, 4, then 5, 6 and 16 from left to right in the GA94 unit, with the unit's first byte as the place.
+ * Refuses with 1, 2, 3, 4, all at 0, then 5, 16, 18, 19 from left to right in the GA94 unit, each at a bit of the area.
  * Lent: all places of `records` are stored to where the call is accepted, the n records first and zeros behind them.
  */
 captions_ga94_unit captions_ga94_read(const uint8_t *area, size_t len,
@@ -232,7 +245,8 @@ typedef struct captions_packet {
 /*
  * Reads a packet. Each 10-bit word stands in a 16-bit number.
  *
- * Refuses with 1; 5; 2; 11; 6; 13; 6; 13; 6; 7; 13; 6; 12 in the order of checks (RULES). The place is 0.
+ * Refuses with 1; 5; 2; 11; 6; 13; 6; 13; 6; 7; 13; 20; 6; 12 in the order of checks (RULES). The place is the word; with
+ * 1 and 5 it is len.
  * Lent: all of `rows` is stored to where the call is accepted: the 42 bytes of each full slot, zeros for an empty one.
  */
 captions_packet captions_packet_read(const uint16_t *words, size_t len,
@@ -277,7 +291,7 @@ typedef struct captions_payload {
 /*
  * Reads a payload.
  *
- * Refuses with 2, 1, 13. The place is 0.
+ * Refuses with 2, 1, 13. The place is len.
  * Lent: all places of `units` are stored to where the call is accepted, the m units first and zeros behind them.
  */
 captions_payload captions_payload_read(const uint8_t *payload, size_t len,

@@ -4,7 +4,10 @@
 enum {
     CONTENT_BYTES = 104, /* with 31 constructs */
     CONSTRUCTS = 21,     /* the bit of the body at which they begin */
-    CONSTRUCT_BITS = 26
+    CONSTRUCT_BITS = 26,
+    FIELD = 2, /* the bit of a construct at which its field_number begins, and so on */
+    LINE = 4,
+    MARKER = 25
 };
 
 /* ---- Bits ---- */
@@ -68,6 +71,15 @@ static uint8_t judge_record(last *before, captions_record r)
     return CAPTIONS_ACCEPTED;
 }
 
+/* The bit of a construct at which the item begins that judge_record refused behind the same record. */
+static size_t item_of(uint8_t number, last before, captions_record r)
+{
+    if (number == CAPTIONS_FIFTH_PRIORITY) {
+        return 0;
+    }
+    return number == CAPTIONS_ORDER && r.field_number == before.field ? LINE : FIELD;
+}
+
 static captions_record record_of(uint32_t construct)
 {
     return (captions_record){
@@ -88,34 +100,33 @@ static uint32_t construct_of(captions_record r)
 /* ---- Picture area: reading ---- */
 
 /* The n constructs of the unit s, which has `bits` bits with its start code. */
-static uint8_t read_constructs(const uint8_t *s, size_t bits, size_t n, captions_record *records)
+static captions_refusal read_constructs(const uint8_t *s, size_t bits, size_t n, captions_record *records)
 {
-    size_t end = 8 * START_BYTES + CONSTRUCTS;
+    size_t begin = 8 * START_BYTES + CONSTRUCTS;
     last before = {0};
-    for (size_t i = 0; i < n; i++) {
-        end += CONSTRUCT_BITS;
-        if (bits < end) {
-            return CAPTIONS_ENDS;
+    for (size_t i = 0; i < n; i++, begin += CONSTRUCT_BITS) {
+        if (bits < begin + CONSTRUCT_BITS) {
+            return at_bit(CAPTIONS_ENDS, begin);
         }
         /* The start code stands before the body, so that eight bytes are always there. */
-        uint32_t construct = (uint32_t)bits_before(s, end);
+        uint32_t construct = (uint32_t)bits_before(s, begin + CONSTRUCT_BITS);
         records[i] = record_of(construct);
         uint8_t number = judge_record(&before, records[i]);
         if (number != CAPTIONS_ACCEPTED) {
-            return number;
+            return at_bit(number, begin + item_of(number, before, records[i]));
         }
         if ((construct & 1) == 0) {
-            return CAPTIONS_FIXED;
+            return at_bit(CAPTIONS_MARKER, begin + MARKER);
         }
     }
-    return CAPTIONS_ACCEPTED;
+    return at_bit(CAPTIONS_ACCEPTED, 0);
 }
 
 /* Reads the caption unit s from left to right. Where it is refused, what is in `unit` and `records` means nothing. */
-static uint8_t read_unit(const uint8_t *s, size_t len, captions_unit *unit, captions_record *records)
+static captions_refusal read_unit(const uint8_t *s, size_t len, captions_unit *unit, captions_record *records)
 {
     if (len < START_BYTES + 2) {
-        return CAPTIONS_ENDS;
+        return at_bit(CAPTIONS_ENDS, 8 * (START_BYTES + 1));
     }
     unit->reserved = s[5] >> 1;
     unit->vbi_data_flag = s[5] & 1;
@@ -123,30 +134,31 @@ static uint8_t read_unit(const uint8_t *s, size_t len, captions_unit *unit, capt
     size_t content = START_BYTES + 2;
     if (unit->vbi_data_flag == 1) {
         if (len < START_BYTES + 3) {
-            return CAPTIONS_ENDS;
+            return at_bit(CAPTIONS_ENDS, 8 * (START_BYTES + 2));
         }
         unit->n = s[6] >> 3;
-        uint8_t number = read_constructs(s, 8 * len, unit->n, records);
-        if (number != CAPTIONS_ACCEPTED) {
-            return number;
+        captions_refusal refusal = read_constructs(s, 8 * len, unit->n, records);
+        if (refusal.number != CAPTIONS_ACCEPTED) {
+            return refusal;
         }
-        size_t end = 8 * START_BYTES + CONSTRUCTS + CONSTRUCT_BITS * unit->n + 4;
+        size_t count = 8 * START_BYTES + CONSTRUCTS + CONSTRUCT_BITS * unit->n;
+        size_t end = count + 4;
         content = (end + 7) / 8;
         if (len < content) {
-            return CAPTIONS_ENDS;
+            return at_bit(CAPTIONS_ENDS, count);
         }
         if ((bits_before(s, end) & 15) != 0) {
-            return CAPTIONS_SAMPLED_VIDEO;
+            return at_bit(CAPTIONS_SAMPLED_VIDEO, count);
         }
         if ((s[content - 1] & ((1u << (8 * content - end)) - 1)) != 0) {
-            return CAPTIONS_FIXED;
+            return at_first_one(s, end);
         }
     }
     if (!all_zero(s + content, len - content)) {
-        return CAPTIONS_FIXED;
+        return at_first_one(s, 8 * content);
     }
     unit->z = len - content;
-    return CAPTIONS_ACCEPTED;
+    return at_bit(CAPTIONS_ACCEPTED, 0);
 }
 
 static inline captions_unit read_found(const uint8_t *area, spot at, captions_record *records)
@@ -157,9 +169,9 @@ static inline captions_unit read_found(const uint8_t *area, spot at, captions_re
         return (captions_unit){.refusal = {at.number, 0}};
     }
     if (at.present) {
-        uint8_t number = read_unit(area + at.start, at.end - at.start, &unit, held);
-        if (number != CAPTIONS_ACCEPTED) {
-            return (captions_unit){.refusal = {number, at.start}};
+        captions_refusal refusal = read_unit(area + at.start, at.end - at.start, &unit, held);
+        if (refusal.number != CAPTIONS_ACCEPTED) {
+            return (captions_unit){.refusal = in_area(refusal, at.start)};
         }
         unit.present = true;
     }
@@ -240,7 +252,7 @@ captions_written plain_unit_write(uint32_t reserved, uint32_t vbi_data_flag, siz
     laid unit;
     lay_unit(reserved, vbi_data_flag, n, z, records, &unit);
     if (unit.number != CAPTIONS_ACCEPTED) {
-        return refuse(unit.number, 0);
+        return refuse(unit.number);
     }
     return put_alone(unit.bytes, unit.len, z, out, room);
 }
@@ -251,20 +263,20 @@ captions_written plain_area_replace(const uint8_t *area, size_t len, uint32_t re
 {
     spot old = find_unit(area, len, next_start, is_caption);
     if (old.number != CAPTIONS_ACCEPTED) {
-        return refuse(old.number, 0);
+        return refuse(old.number);
     }
     if (old.present) {
         captions_unit unit;
         captions_record held[CAPTIONS_RECORDS];
-        uint8_t number = read_unit(area + old.start, old.end - old.start, &unit, held);
-        if (number != CAPTIONS_ACCEPTED) {
-            return refuse(number, old.start);
+        captions_refusal refusal = read_unit(area + old.start, old.end - old.start, &unit, held);
+        if (refusal.number != CAPTIONS_ACCEPTED) {
+            return (captions_written){.refusal = in_area(refusal, old.start)};
         }
     }
     laid unit;
     lay_unit(reserved, vbi_data_flag, n, z, records, &unit);
     if (unit.number != CAPTIONS_ACCEPTED) {
-        return refuse(unit.number, 0);
+        return refuse(unit.number);
     }
     return put_unit(area, len, old, unit.bytes, unit.len, z, out, room);
 }

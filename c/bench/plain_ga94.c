@@ -16,50 +16,59 @@ static bool is_ga94(const uint8_t *body, size_t len)
 
 /* ---- Reading ---- */
 
-static uint8_t read_constructs(const uint8_t *s, size_t left, size_t n, captions_ga94_record *records)
+/* The n constructs of the unit s. The item that is missing or wrong begins with a byte. */
+static captions_refusal read_constructs(const uint8_t *s, size_t len, size_t n, captions_ga94_record *records)
 {
-    for (size_t i = 0; i < n; i++, s += CONSTRUCT, left -= CONSTRUCT) {
-        if (left < CONSTRUCT) {
-            return CAPTIONS_ENDS;
+    size_t at = FRONT;
+    for (size_t i = 0; i < n; i++, at += CONSTRUCT) {
+        if (len - at < CONSTRUCT) {
+            return at_bit(CAPTIONS_ENDS, 8 * at);
         }
-        if (s[0] < 0xF8) {
-            return CAPTIONS_FIXED;
+        if (s[at] < 0xF8) {
+            return at_bit(CAPTIONS_MARKER, 8 * at);
         }
-        records[i] = (captions_ga94_record){s[0] >> 2 & 1, s[0] & 3, s[1], s[2]};
+        records[i] = (captions_ga94_record){s[at] >> 2 & 1, s[at] & 3, s[at + 1], s[at + 2]};
     }
-    return CAPTIONS_ACCEPTED;
+    return at_bit(CAPTIONS_ACCEPTED, 0);
 }
 
-/* Reads the unit s from left to right. Where it is refused, what is in `unit` and `records` means nothing. */
-static uint8_t read_unit(const uint8_t *s, size_t len, captions_ga94_unit *unit, captions_ga94_record *records)
+/*
+ * Reads the unit s from left to right. Where it is refused, what is in `unit` and `records` means nothing. Before the
+ * constructs an item is missing where the unit ends: each fills a byte.
+ */
+static captions_refusal read_unit(const uint8_t *s, size_t len, captions_ga94_unit *unit, captions_ga94_record *records)
 {
     if (len <= FLAGS) {
-        return CAPTIONS_ENDS;
+        return at_bit(CAPTIONS_ENDS, 8 * len);
     }
     uint8_t flags = s[FLAGS];
     unit->process_em_data_flag = flags >> 7;
     unit->process_cc_data_flag = flags >> 6 & 1;
     unit->n = flags & 31;
     if ((flags & 0x20) != 0) {
-        return CAPTIONS_ADDITIONAL_DATA;
+        return at_bit(CAPTIONS_ADDITIONAL_DATA, 8 * FLAGS + 2);
     }
     if (len < FRONT) {
-        return CAPTIONS_ENDS;
+        return at_bit(CAPTIONS_ENDS, 8 * len);
     }
     unit->em_data = s[FLAGS + 1];
-    uint8_t number = read_constructs(s + FRONT, len - FRONT, unit->n, records);
-    if (number != CAPTIONS_ACCEPTED) {
-        return number;
+    captions_refusal refusal = read_constructs(s, len, unit->n, records);
+    if (refusal.number != CAPTIONS_ACCEPTED) {
+        return refusal;
     }
-    size_t content = FRONT + CONSTRUCT * unit->n + 1;
+    size_t closing = FRONT + CONSTRUCT * unit->n;
+    size_t content = closing + 1;
     if (len < content) {
-        return CAPTIONS_ENDS;
+        return at_bit(CAPTIONS_ENDS, 8 * closing);
     }
-    if (s[content - 1] != 0xFF || !all_zero(s + content, len - content)) {
-        return CAPTIONS_FIXED;
+    if (s[closing] != 0xFF) {
+        return at_bit(CAPTIONS_MARKER, 8 * closing);
+    }
+    if (!all_zero(s + content, len - content)) {
+        return at_first_one(s, 8 * content);
     }
     unit->z = len - content;
-    return CAPTIONS_ACCEPTED;
+    return at_bit(CAPTIONS_ACCEPTED, 0);
 }
 
 captions_ga94_unit plain_ga94_read(const uint8_t *area, size_t len, captions_ga94_record records[static CAPTIONS_RECORDS])
@@ -71,9 +80,9 @@ captions_ga94_unit plain_ga94_read(const uint8_t *area, size_t len, captions_ga9
         return (captions_ga94_unit){.refusal = {at.number, 0}};
     }
     if (at.present) {
-        uint8_t number = read_unit(area + at.start, at.end - at.start, &unit, held);
-        if (number != CAPTIONS_ACCEPTED) {
-            return (captions_ga94_unit){.refusal = {number, at.start}};
+        captions_refusal refusal = read_unit(area + at.start, at.end - at.start, &unit, held);
+        if (refusal.number != CAPTIONS_ACCEPTED) {
+            return (captions_ga94_unit){.refusal = in_area(refusal, at.start)};
         }
         unit.present = true;
     }
@@ -135,7 +144,7 @@ captions_written plain_ga94_write(uint32_t process_em_data_flag, uint32_t proces
     uint8_t unit[UNIT_BYTES];
     uint8_t number = lay_unit(&v, records, unit);
     if (number != CAPTIONS_ACCEPTED) {
-        return refuse(number, 0);
+        return refuse(number);
     }
     return put_alone(unit, unit_len(n), z, out, room);
 }
@@ -147,21 +156,21 @@ captions_written plain_ga94_replace(const uint8_t *area, size_t len, uint32_t pr
 {
     spot old = find_unit(area, len, next_start, is_ga94);
     if (old.number != CAPTIONS_ACCEPTED) {
-        return refuse(old.number, 0);
+        return refuse(old.number);
     }
     if (old.present) {
         captions_ga94_unit unit;
         captions_ga94_record held[CAPTIONS_RECORDS];
-        uint8_t number = read_unit(area + old.start, old.end - old.start, &unit, held);
-        if (number != CAPTIONS_ACCEPTED) {
-            return refuse(number, old.start);
+        captions_refusal refusal = read_unit(area + old.start, old.end - old.start, &unit, held);
+        if (refusal.number != CAPTIONS_ACCEPTED) {
+            return (captions_written){.refusal = in_area(refusal, old.start)};
         }
     }
     numbers v = {process_em_data_flag, process_cc_data_flag, additional_data_flag, em_data, n, z};
     uint8_t unit[UNIT_BYTES];
     uint8_t number = lay_unit(&v, records, unit);
     if (number != CAPTIONS_ACCEPTED) {
-        return refuse(number, 0);
+        return refuse(number);
     }
     return put_unit(area, len, old, unit, unit_len(n), z, out, room);
 }

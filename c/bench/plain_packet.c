@@ -7,6 +7,8 @@ enum {
     DID = 3, /* index of the first word under CS */
     DC = 5,
     USER = 6, /* index of the first user word */
+    LENGTH = USER + 2,
+    FORMAT = USER + 3,
     DESCRIPTORS = USER + 4,
     STRUCTURES = DESCRIPTORS + CAPTIONS_SLOTS,
     STRUCTURE_WORDS = 3 + CAPTIONS_ROW_BYTES,
@@ -38,14 +40,42 @@ static uint16_t cs_word(uint16_t sum)
     return (uint16_t)(sum | (~sum & 0x100) << 1);
 }
 
-/* 11 ("Subtitling packet"). b8 of CS is a bit of the sum and no parity. */
-static bool words_hold(const uint16_t *words, size_t len)
+/* What reading a packet says: 0 twice, or a number and the word. */
+static captions_refusal at_word(uint8_t number, size_t word)
+{
+    return (captions_refusal){number, word};
+}
+
+/* The first of the `count` words from `at` on that is not as in `right`, or the word behind them. */
+static size_t first_other(const uint16_t *words, size_t at, const uint16_t *right, size_t count)
+{
+    for (size_t i = 0; i < count; i++) {
+        if (words[at + i] != right[i]) {
+            return at + i;
+        }
+    }
+    return at + count;
+}
+
+/*
+ * 11 ("Subtitling packet"). b8 of CS is a bit of the sum and no parity. Which word is wrong is asked only where one is, so
+ * that the first loop is vectorised.
+ */
+static captions_refusal judge_words(const uint16_t *words, size_t len)
 {
     uint16_t wrong = 0;
     for (size_t i = DID; i < len - 1; i++) {
         wrong |= words[i] ^ word_of(words[i] & 0xFF);
     }
-    return wrong == 0 && words[len - 1] == cs_word(words[len - 1]);
+    if (wrong == 0) {
+        bool formed = words[len - 1] == cs_word(words[len - 1]);
+        return formed ? at_word(CAPTIONS_ACCEPTED, 0) : at_word(CAPTIONS_WORD, len - 1);
+    }
+    size_t first = DID;
+    while (words[first] == word_of(words[first] & 0xFF)) {
+        first++;
+    }
+    return at_word(CAPTIONS_WORD, first);
 }
 
 /* Legal are line 0, and lines 6 to 22 ("Subtitling packet"). */
@@ -55,74 +85,83 @@ static bool line_holds(uint8_t line)
 }
 
 /* "Order of checks", from 1 to DC against k. Every word's upper bits follow from its byte once 11 is judged. */
-static uint8_t judge_head(const uint16_t *words, size_t len)
+static captions_refusal judge_head(const uint16_t *words, size_t len)
 {
+    static const uint16_t flag[DID] = {0x000, 0x3FF, 0x3FF};
+    static const uint16_t ids[2] = {0x143, 0x102};
+    static const uint16_t identifiers[2] = {0x151, 0x115};
     if (len > CAPTIONS_PACKET_WORDS) {
-        return CAPTIONS_TOO_LONG;
+        return at_word(CAPTIONS_TOO_LONG, len);
     }
     if (len < MIN_WORDS) {
-        return CAPTIONS_ENDS;
+        return at_word(CAPTIONS_ENDS, len);
     }
-    if (words[0] != 0x000 || words[1] != 0x3FF || words[2] != 0x3FF) {
-        return CAPTIONS_NO_START;
+    size_t other = first_other(words, 0, flag, DID);
+    if (other < DID) {
+        return at_word(CAPTIONS_NO_START, other);
     }
-    if (!words_hold(words, len)) {
-        return CAPTIONS_WORD;
+    captions_refusal refusal = judge_words(words, len);
+    if (refusal.number != CAPTIONS_ACCEPTED) {
+        return refusal;
     }
-    if (words[DID] != 0x143 || words[DID + 1] != 0x102) {
-        return CAPTIONS_FIXED;
+    other = first_other(words, DID, ids, 2);
+    if (other < DC) {
+        return at_word(CAPTIONS_FIXED, other);
     }
     if ((words[DC] & 0xFF) != len - 7) {
-        return CAPTIONS_LENGTH;
+        return at_word(CAPTIONS_LENGTH, DC);
     }
-    if (words[USER] != 0x151 || words[USER + 1] != 0x115) {
-        return CAPTIONS_FIXED;
+    other = first_other(words, USER, identifiers, 2);
+    if (other < LENGTH) {
+        return at_word(CAPTIONS_FIXED, other);
     }
-    if (words[USER + 2] != words[DC]) {
-        return CAPTIONS_LENGTH;
+    if (words[LENGTH] != words[DC]) {
+        return at_word(CAPTIONS_LENGTH, LENGTH);
     }
-    if (words[USER + 3] != 0x102) {
-        return CAPTIONS_FIXED;
+    if (words[FORMAT] != 0x102) {
+        return at_word(CAPTIONS_FIXED, FORMAT);
     }
     size_t k = 0;
-    for (size_t i = 0; i < CAPTIONS_SLOTS; i++) {
-        if (!line_holds(words[DESCRIPTORS + i] & 31)) {
-            return CAPTIONS_FIELD_OR_LINE;
+    for (size_t i = DESCRIPTORS; i < STRUCTURES; i++) {
+        if (!line_holds(words[i] & 31)) {
+            return at_word(CAPTIONS_FIELD_OR_LINE, i);
         }
-        k += (words[DESCRIPTORS + i] & 0xFF) != 0;
+        k += (words[i] & 0xFF) != 0;
     }
-    return len == MIN_WORDS + STRUCTURE_WORDS * k ? CAPTIONS_ACCEPTED : CAPTIONS_LENGTH;
+    return len == MIN_WORDS + STRUCTURE_WORDS * k ? at_word(CAPTIONS_ACCEPTED, 0) : at_word(CAPTIONS_LENGTH, DC);
 }
 
 /* The rest of that order: the structures, the footer, the two sums. */
-static uint8_t judge_tail(const uint16_t *words, size_t len)
+static captions_refusal judge_tail(const uint16_t *words, size_t len)
 {
+    static const uint16_t front[3] = {0x255, 0x255, 0x227};
     size_t footer = len - 5;
     for (size_t at = STRUCTURES; at < footer; at += STRUCTURE_WORDS) {
-        if (words[at] != 0x255 || words[at + 1] != 0x255 || words[at + 2] != 0x227) {
-            return CAPTIONS_FIXED;
+        size_t other = first_other(words, at, front, 3);
+        if (other < at + 3) {
+            return at_word(CAPTIONS_RUN_IN, other);
         }
     }
     if (words[footer] != 0x274) {
-        return CAPTIONS_FIXED;
+        return at_word(CAPTIONS_FIXED, footer);
     }
     uint16_t user = sum_of(words + USER, len - 1 - USER);
     if ((user & 0xFF) != 0) {
-        return CAPTIONS_CHECKSUM;
+        return at_word(CAPTIONS_CHECKSUM, len - 2);
     }
     uint16_t all = (uint16_t)(user + words[DID] + words[DID + 1] + words[DC]);
-    return words[len - 1] == cs_word(all) ? CAPTIONS_ACCEPTED : CAPTIONS_CHECKSUM;
+    return words[len - 1] == cs_word(all) ? at_word(CAPTIONS_ACCEPTED, 0) : at_word(CAPTIONS_CHECKSUM, len - 1);
 }
 
 captions_packet plain_packet_read(const uint16_t *words, size_t len,
                                   captions_row rows[static CAPTIONS_SLOTS])
 {
-    uint8_t number = judge_head(words, len);
-    if (number == CAPTIONS_ACCEPTED) {
-        number = judge_tail(words, len);
+    captions_refusal refusal = judge_head(words, len);
+    if (refusal.number == CAPTIONS_ACCEPTED) {
+        refusal = judge_tail(words, len);
     }
-    if (number != CAPTIONS_ACCEPTED) {
-        return (captions_packet){.refusal = {number, 0}};
+    if (refusal.number != CAPTIONS_ACCEPTED) {
+        return (captions_packet){.refusal = refusal};
     }
     captions_packet packet = {.counter = (words[len - 4] & 0xFFu) << 8 | (words[len - 3] & 0xFFu)};
     const uint16_t *next = words + STRUCTURES + 3;

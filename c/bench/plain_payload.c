@@ -11,21 +11,16 @@ enum {
 captions_payload plain_payload_read(const uint8_t *payload, size_t len,
                                     captions_access_unit units[static CAPTIONS_ACCESS_UNITS])
 {
-    captions_payload head = {0};
     if (len == 0) {
-        head.refusal.number = CAPTIONS_NO_START;
-        return head;
+        return (captions_payload){.refusal = {CAPTIONS_NO_START, len}};
     }
     if (len > CAPTIONS_PAYLOAD_BYTES) {
-        head.refusal.number = CAPTIONS_TOO_LONG;
-        return head;
+        return (captions_payload){.refusal = {CAPTIONS_TOO_LONG, len}};
     }
     if ((len - 1) % UNIT_BYTES != 0) {
-        head.refusal.number = CAPTIONS_LENGTH;
-        return head;
+        return (captions_payload){.refusal = {CAPTIONS_LENGTH, len}};
     }
-    head.flags = payload[0];
-    head.m = (len - 1) / UNIT_BYTES;
+    captions_payload head = {.flags = payload[0], .m = (len - 1) / UNIT_BYTES};
     for (size_t i = 0; i < head.m; i++) {
         const uint8_t *s = payload + 1 + UNIT_BYTES * i;
         units[i].cc_valid_1 = s[0] >> 7;

@@ -1,12 +1,26 @@
-/* plain_search.h: what the plain programs for SCTE 20 and GA94 share: the search for start codes, and stuffing. */
+/* plain_search.h: what the plain programs for SCTE 20 and GA94 share: refusals, the search for start codes, stuffing. */
 #ifndef PLAIN_SEARCH_H
 #define PLAIN_SEARCH_H
 
 #include "plain_area.h"
 
-static inline captions_written refuse(uint8_t number, size_t place)
+/* Of a writer: the value, the length or the room. */
+static inline captions_written refuse(uint8_t number)
 {
-    return (captions_written){.refusal = {number, place}};
+    return (captions_written){.refusal = {number, 0}};
+}
+
+/* What reading a unit says: 0 twice, or a number and the item's first bit, counted from that of the start code. */
+static inline captions_refusal at_bit(uint8_t number, size_t bit)
+{
+    return (captions_refusal){number, bit};
+}
+
+/* The same with the bit counted from the area's first one, for a unit at byte `start`. */
+static inline captions_refusal in_area(captions_refusal refusal, size_t start)
+{
+    refusal.place += 8 * start;
+    return refusal;
 }
 
 /* In the machine's order, which is nothing to a test for zeros. */
@@ -29,6 +43,15 @@ static inline bool all_zero(const uint8_t *s, size_t len)
         any |= s[i];
     }
     return any == 0;
+}
+
+/* 19: bits of zeros were asked for from bit `from` of s on, and one of them is 1. */
+static inline captions_refusal at_first_one(const uint8_t *s, size_t from)
+{
+    while ((s[from / 8] & 0x80 >> from % 8) == 0) {
+        from++;
+    }
+    return at_bit(CAPTIONS_ZEROS, from);
 }
 
 /* The first of i, i + 3, i + 6 and so on with a byte of 0 or 1, or an index that is not below len. Four to a turn. */
@@ -90,10 +113,10 @@ static inline captions_written put_unit(const uint8_t *area, size_t len, spot ol
     size_t rest = len - old.end;
     size_t whole = old.start + unit_len + z + rest;
     if (whole > CAPTIONS_AREA_BYTES) {
-        return refuse(CAPTIONS_TOO_LONG, 0);
+        return refuse(CAPTIONS_TOO_LONG);
     }
     if (whole > room) {
-        return refuse(CAPTIONS_NO_ROOM, 0);
+        return refuse(CAPTIONS_NO_ROOM);
     }
     memcpy(out, area, old.start);
     memcpy(out + old.start, unit, unit_len);
@@ -107,10 +130,10 @@ static inline captions_written put_alone(const uint8_t *unit, size_t unit_len, s
 {
     size_t len = unit_len + z;
     if (len > CAPTIONS_AREA_BYTES) {
-        return refuse(CAPTIONS_TOO_LONG, 0);
+        return refuse(CAPTIONS_TOO_LONG);
     }
     if (len > room) {
-        return refuse(CAPTIONS_NO_ROOM, 0);
+        return refuse(CAPTIONS_NO_ROOM);
     }
     memcpy(out, unit, unit_len);
     memset(out + unit_len, 0, z);

@@ -42,9 +42,10 @@ int main(void)
     unit = captions_ga94_read(out, made.len, records);
     list(records, unit.n);
 
-    /* A unit with its third flag set is not carried. The flags stand in byte 20 of the area. */
+    /* A unit with its third flag set is not carried. The place is a bit of the area: where to look in a hex editor. */
     out[20] |= 0x20;
     unit = captions_ga94_read(out, made.len, records);
-    printf("additional_data_flag: refused %d at %zu\n", unit.refusal.number, unit.refusal.place);
+    printf("additional_data_flag: refused %d at %zu, which is bit %zu of byte %zu\n", unit.refusal.number, unit.refusal.place,
+           unit.refusal.place % 8, unit.refusal.place / 8);
     return 0;
 }

@@ -25,7 +25,7 @@ int main(void)
     printf("counter %u, slot 0: full %d, line %d, field %s, row as written: %s\n", (unsigned)packet.counter, packet.slots[0].full,
            packet.slots[0].line, packet.slots[0].field ? "odd" : "even", memcmp(back, rows, sizeof rows) == 0 ? "yes" : "no");
 
-    /* CS is judged: a word that is another refuses the packet, and `back` stays as it is. */
+    /* CS is judged: a word that is another refuses the packet, and `back` stays as it is. The place is that word. */
     words[made.len - 1] ^= 1;
     packet = captions_packet_read(words, made.len, back);
     printf("a wrong CS: refused %d at %zu\n", packet.refusal.number, packet.refusal.place);

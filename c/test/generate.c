@@ -254,11 +254,11 @@ void stretch_area(dice *d, question *q, area_map *map, size_t len)
 
 /* ---- Packets ---- */
 
-static void legal_slot(dice *d, captions_slot *slot, captions_row *row)
+static void legal_slot(dice *d, unsigned percent_full, captions_slot *slot, captions_row *row)
 {
     memset(slot, 0, sizeof *slot);
     memset(row, 0, sizeof *row);
-    if (chance(d, 50))
+    if (!chance(d, percent_full))
         return;
     slot->full = 1;
     slot->line = (uint8_t)(chance(d, 20) ? 0 : 6 + below(d, 17));
@@ -273,10 +273,11 @@ static void legal_slot(dice *d, captions_slot *slot, captions_row *row)
 void legal_packet(dice *d, packet_value *to)
 {
     static const uint32_t telling[] = {0, 1, 0xFF, 0x100, 0x7474, 0xFFFF};
+    unsigned percent_full = chance(d, 15) ? 100 : 50; /* five structures often enough for each of their words to be wrong */
 
     to->counter = chance(d, 30) ? telling[below(d, 6)] : (uint32_t)below(d, 65536);
     for (size_t i = 0; i < CAPTIONS_SLOTS; i++)
-        legal_slot(d, &to->slots[i], &to->rows[i]);
+        legal_slot(d, percent_full, &to->slots[i], &to->rows[i]);
 }
 
 /* ---- Payloads ---- */

@@ -28,7 +28,7 @@ enum {
     OUTPUT_MAX = 40000, /* bytes of the longest lent output */
     WORDS_MAX = 1000,   /* words of the longest packet input or output */
     NUMBERS_MAX = 23,
-    REFUSAL_MAX = CAPTIONS_ADDITIONAL_DATA, /* the highest number of a refusal */
+    REFUSAL_MAX = CAPTIONS_RUN_IN, /* the highest number of a refusal */
     FILL = 11 /* the pattern of vectors/: element i is i * 37 + 11 */
 };
 

@@ -24,14 +24,17 @@ static uint8_t take_data(bit_source *bits)
     return (uint8_t)value;
 }
 
-/* Record i is of a lower field than the one before it, or of the same and no higher line (000, 6.2, third requirement). */
-static bool out_of_order(const captions_record *records, size_t i)
+/* Record i is of a lower field than the one before it (000, 6.2, third requirement). */
+static bool field_falls(const captions_record *records, size_t i)
 {
-    if (i == 0)
-        return false;
-    if (records[i].field_number < records[i - 1].field_number)
-        return true;
-    return records[i].field_number == records[i - 1].field_number && records[i].line_offset <= records[i - 1].line_offset;
+    return i > 0 && records[i].field_number < records[i - 1].field_number;
+}
+
+/* It is of the same field, and of no higher line. */
+static bool line_does_not_rise(const captions_record *records, size_t i)
+{
+    return i > 0 && records[i].field_number == records[i - 1].field_number &&
+           records[i].line_offset <= records[i - 1].line_offset;
 }
 
 /* At most four records of one field have priority 0. */
@@ -50,67 +53,100 @@ static uint8_t judge_record(const captions_record *records, size_t i)
 {
     if (records[i].field_number == 0)
         return 7;
-    if (out_of_order(records, i))
+    if (field_falls(records, i) || line_does_not_rise(records, i))
         return 8;
     if (is_fifth_of_priority_0(records, i))
         return 9;
     return 0;
 }
 
-static uint8_t read_construct(bit_source *bits, captions_record *records, size_t i)
-{
-    uint8_t refused;
+/* Where the items of a construct begin: bits of the area. */
+typedef struct construct_bits {
+    size_t cc_priority, field_number, line_offset, marker;
+} construct_bits;
 
-    if (bits->left < 26)
-        return 5;
-    records[i].cc_priority = (uint8_t)take_bits(bits, 2);
-    records[i].field_number = (uint8_t)take_bits(bits, 2);
-    records[i].line_offset = (uint8_t)take_bits(bits, 5);
-    records[i].cc_data_1 = take_data(bits);
-    records[i].cc_data_2 = take_data(bits);
-    refused = judge_record(records, i);
-    if (refused != 0)
-        return refused;
-    return take_bit(bits) == 1 ? 0 : 6; /* the marker comes last */
+/* Takes the 26 bits and notes where each item began. Gives the marker. */
+static unsigned take_construct(bit_source *bits, captions_record *record, construct_bits *began)
+{
+    began->cc_priority = bits->at;
+    record->cc_priority = (uint8_t)take_bits(bits, 2);
+    began->field_number = bits->at;
+    record->field_number = (uint8_t)take_bits(bits, 2);
+    began->line_offset = bits->at;
+    record->line_offset = (uint8_t)take_bits(bits, 5);
+    record->cc_data_1 = take_data(bits);
+    record->cc_data_2 = take_data(bits);
+    began->marker = bits->at;
+    return take_bit(bits);
 }
 
-/* Alignment bits and stuffing must be zero. What is left at a whole byte is the stuffing, z bytes. */
-static uint8_t read_rest(bit_source *bits, captions_unit *unit)
+static captions_refusal read_construct(bit_source *bits, captions_record *records, size_t i)
 {
-    while (bits->at % 8 != 0)
-        if (take_bit(bits) != 0)
-            return 6;
-    unit->z = bits->left / 8;
-    while (bits->left > 0)
-        if (take_bit(bits) != 0)
-            return 6;
-    return 0;
+    construct_bits began;
+    unsigned marker;
+
+    if (bits_left(bits) < 26)
+        return refused_at(5, bits->at);
+    marker = take_construct(bits, &records[i], &began);
+    switch (judge_record(records, i)) {
+    case 7:
+        return refused_at(7, began.field_number);
+    case 8: /* the field where it falls, else the line */
+        return refused_at(8, field_falls(records, i) ? began.field_number : began.line_offset);
+    case 9:
+        return refused_at(9, began.cc_priority);
+    default: /* the marker comes last */
+        return marker == 1 ? not_refused() : refused_at(18, began.marker);
+    }
 }
 
-static uint8_t read_content(bit_source *bits, captions_unit *unit, captions_record *records)
+static captions_refusal read_constructs(bit_source *bits, size_t n, captions_record *records)
 {
+    for (size_t i = 0; i < n; i++) {
+        captions_refusal refused = read_construct(bits, records, i);
+        if (refused.number != 0)
+            return refused;
+    }
+    return not_refused();
+}
+
+/* The alignment is shorter than a byte, so that the whole bytes that are left are the stuffing. */
+static captions_refusal read_rest(bit_source *bits, captions_unit *unit)
+{
+    unit->z = bits_left(bits) / 8;
+    return take_zeros(bits);
+}
+
+/* What stands behind the constructs. */
+static captions_refusal read_video_count(bit_source *bits, captions_unit *unit)
+{
+    size_t began = bits->at;
+
+    if (bits_left(bits) < 4)
+        return refused_at(5, began);
+    if (take_bits(bits, 4) != 0) /* non_real_time_video_count */
+        return refused_at(10, began);
+    return read_rest(bits, unit);
+}
+
+static captions_refusal read_content(bit_source *bits, captions_unit *unit, captions_record *records)
+{
+    captions_refusal refused;
+
     take_bits(bits, 8); /* user_data_type_code: its 03 is what makes a caption unit */
-    if (bits->left < 7)
-        return 5;
+    if (bits_left(bits) < 7)
+        return refused_at(5, bits->at);
     unit->reserved = (uint8_t)take_bits(bits, 7);
-    if (bits->left < 1)
-        return 5;
+    if (bits_left(bits) < 1)
+        return refused_at(5, bits->at);
     unit->vbi_data_flag = (uint8_t)take_bits(bits, 1);
     if (unit->vbi_data_flag == 0)
         return read_rest(bits, unit); /* with flag 0 the content is two bytes */
-    if (bits->left < 5)
-        return 5;
+    if (bits_left(bits) < 5)
+        return refused_at(5, bits->at);
     unit->n = take_bits(bits, 5);
-    for (size_t i = 0; i < unit->n; i++) {
-        uint8_t refused = read_construct(bits, records, i);
-        if (refused != 0)
-            return refused;
-    }
-    if (bits->left < 4)
-        return 5;
-    if (take_bits(bits, 4) != 0) /* non_real_time_video_count */
-        return 10;
-    return read_rest(bits, unit);
+    refused = read_constructs(bits, unit->n, records);
+    return refused.number != 0 ? refused : read_video_count(bits, unit);
 }
 
 captions_unit model_area_read(const uint8_t *area, size_t len, captions_record *records)
@@ -118,17 +154,15 @@ captions_unit model_area_read(const uint8_t *area, size_t len, captions_record *
     captions_unit unit = {0};
     captions_record read[CAPTIONS_RECORDS] = {{0}};
     unit_span span;
-    uint8_t refused = model_find_unit(area, len, is_caption_unit, &span);
-    size_t place = 0;
+    captions_refusal refused = {model_find_unit(area, len, is_caption_unit, &span), 0};
 
-    if (refused == 0 && span.found) {
+    if (refused.number == 0 && span.found) {
         bit_source bits = model_body_bits(area, span);
         refused = read_content(&bits, &unit, read);
-        place = span.start; /* a refusal inside a unit's body has that unit's first byte as its place */
         unit.present = true;
     }
-    if (refused != 0)
-        return (captions_unit){.refusal = {refused, place}};
+    if (refused.number != 0)
+        return (captions_unit){.refusal = refused};
     memcpy(records, read, sizeof read);
     return unit;
 }

@@ -54,15 +54,19 @@ uint8_t model_find_unit(const uint8_t *area, size_t len, ours *is_ours, unit_spa
 
 bit_source model_body_bits(const uint8_t *area, unit_span span)
 {
-    return (bit_source){area + span.start + LAYOUT_START, 0, 8 * (span.end - span.start - LAYOUT_START)};
+    return (bit_source){area, 8 * (span.start + LAYOUT_START), 8 * span.end};
+}
+
+size_t bits_left(const bit_source *bits)
+{
+    return bits->end - bits->at;
 }
 
 unsigned take_bit(bit_source *bits)
 {
-    unsigned bit = bits->bytes[bits->at / 8] >> (7 - bits->at % 8) & 1;
+    unsigned bit = bits->area[bits->at / 8] >> (7 - bits->at % 8) & 1;
 
     bits->at++;
-    bits->left--;
     return bit;
 }
 
@@ -73,6 +77,26 @@ unsigned take_bits(bit_source *bits, unsigned count)
     while (count-- > 0)
         value = value * 2 + take_bit(bits);
     return value;
+}
+
+captions_refusal refused_at(uint8_t number, size_t bit)
+{
+    return (captions_refusal){number, bit};
+}
+
+captions_refusal not_refused(void)
+{
+    return (captions_refusal){0, 0};
+}
+
+captions_refusal take_zeros(bit_source *bits)
+{
+    while (bits_left(bits) > 0) {
+        size_t at = bits->at;
+        if (take_bit(bits) != 0)
+            return refused_at(19, at);
+    }
+    return not_refused();
 }
 
 /* ---- Writing ---- */

@@ -14,19 +14,30 @@ typedef struct unit_span {
 /* Whether a unit with this body is one of ours. */
 typedef bool ours(const uint8_t *body, size_t len);
 
-/* The checks 1 to 4, each over the whole area before the next one. Gives the number, 0 where all hold. */
+/* The checks 1 to 4, each over the whole area before the next one. Gives the number, 0 where all hold; the place is 0. */
 uint8_t model_find_unit(const uint8_t *area, size_t len, ours *is_ours, unit_span *span);
 
-/* Bits of a body, most significant first. */
+/*
+ * Bits of a unit's body, most significant first. They are counted from the area's first bit. So an item that is refused has
+ * as its place what `at` was before the item was taken.
+ */
 typedef struct bit_source {
-    const uint8_t *bytes;
-    size_t at;   /* in bits */
-    size_t left; /* in bits */
+    const uint8_t *area;
+    size_t at;  /* the next bit */
+    size_t end; /* the bit behind the unit's last */
 } bit_source;
 
 bit_source model_body_bits(const uint8_t *area, unit_span span);
+size_t bits_left(const bit_source *bits);
 unsigned take_bit(bit_source *bits);
 unsigned take_bits(bit_source *bits, unsigned count);
+
+/* What a check of a body answers: the number and the bit, or two zeros where it holds. */
+captions_refusal refused_at(uint8_t number, size_t bit);
+captions_refusal not_refused(void);
+
+/* Takes all that is left, which must be zero: alignment and stuffing. 19 is the only number whose place is a wrong bit. */
+captions_refusal take_zeros(bit_source *bits);
 
 captions_written model_refusal(uint8_t number, size_t place);
 

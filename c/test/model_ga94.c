@@ -1,6 +1,6 @@
 /*
- * model_ga94.c: ATSC caption data in a picture area, from documents alone: 02, request 1; Syntax 3 of Table 3 in 003, which
- * Table 5 repeats; and 01 for the area around the unit, the numbers of refusals and the order of checks.
+ * model_ga94.c: ATSC caption data in a picture area, from documents alone: 02, requests 1 and 2; Syntax 3 of Table 3 in 003,
+ * which Table 5 repeats; and 01 for the area around the unit, the numbers of refusals and the order of checks.
  */
 #include "model.h"
 
@@ -36,75 +36,80 @@ static bool is_ga94_unit(const uint8_t *body, size_t len)
 /* ---- Reading: Syntax 3 from left to right, 5 before each item's own test (01, "Which refusal comes first") ---- */
 
 /* The three flags and cc_count fill one byte, so that they are there together or not at all. */
-static uint8_t read_flags_and_count(bit_source *bits, captions_ga94_unit *unit)
+static captions_refusal read_flags_and_count(bit_source *bits, captions_ga94_unit *unit)
 {
-    if (bits->left < 8)
-        return 5;
+    size_t third_flag;
+
+    if (bits_left(bits) < 8)
+        return refused_at(5, bits->at);
     unit->process_em_data_flag = take_bits(bits, 1);
     unit->process_cc_data_flag = take_bits(bits, 1);
+    third_flag = bits->at;
     unit->additional_data_flag = take_bits(bits, 1);
     unit->n = take_bits(bits, 5);
     /* The additional data that this flag announces has no length and no rule. 02 puts the refusal behind the count. */
-    return unit->additional_data_flag == 1 ? 16 : 0;
+    return unit->additional_data_flag == 1 ? refused_at(16, third_flag) : not_refused();
 }
 
-/* A construct that is cut short is 5 as a whole, even where the part that is left has a wrong marker. */
-static uint8_t read_construct(bit_source *bits, captions_ga94_record *record)
+/*
+ * A construct that is cut short is 5 as a whole, even where the part that is left has a wrong marker. The five marker bits are
+ * one item: the place is the first of them, whichever is wrong.
+ */
+static captions_refusal read_construct(bit_source *bits, captions_ga94_record *record)
 {
-    if (bits->left < CONSTRUCT_BITS)
-        return 5;
+    size_t began = bits->at;
+
+    if (bits_left(bits) < CONSTRUCT_BITS)
+        return refused_at(5, began);
     if (take_bits(bits, 5) != MARKER_BITS)
-        return 6;
+        return refused_at(18, began);
     record->cc_valid = (uint8_t)take_bits(bits, 1);
     record->cc_type = (uint8_t)take_bits(bits, 2);
     record->cc_data_1 = (uint8_t)take_bits(bits, 8); /* not reversed, other than in SCTE 20 */
     record->cc_data_2 = (uint8_t)take_bits(bits, 8);
-    return 0;
+    return not_refused();
 }
 
 /* cc_count says how many constructs there are, whatever process_cc_data_flag says: the flag is carried and rules nothing. */
-static uint8_t read_constructs(bit_source *bits, size_t n, captions_ga94_record *records)
+static captions_refusal read_constructs(bit_source *bits, size_t n, captions_ga94_record *records)
 {
     for (size_t i = 0; i < n; i++) {
-        uint8_t refused = read_construct(bits, &records[i]);
-        if (refused != 0)
+        captions_refusal refused = read_construct(bits, &records[i]);
+        if (refused.number != 0)
             return refused;
     }
-    return 0;
+    return not_refused();
 }
 
 /* The closing byte, then z zero bytes up to the end of the unit. The content has whole bytes, so nothing is aligned. */
-static uint8_t read_end(bit_source *bits, captions_ga94_unit *unit)
+static captions_refusal read_end(bit_source *bits, captions_ga94_unit *unit)
 {
-    if (bits->left < 8)
-        return 5;
+    size_t began = bits->at;
+
+    if (bits_left(bits) < 8)
+        return refused_at(5, began);
     if (take_bits(bits, 8) != CLOSING_BYTE)
-        return 6;
-    unit->z = bits->left / 8;
-    while (bits->left > 0)
-        if (take_bits(bits, 8) != 0)
-            return 6;
-    return 0;
+        return refused_at(18, began);
+    unit->z = bits_left(bits) / 8;
+    return take_zeros(bits);
 }
 
-static uint8_t read_content(bit_source *bits, captions_ga94_unit *unit, captions_ga94_record *records)
+static captions_refusal read_content(bit_source *bits, captions_ga94_unit *unit, captions_ga94_record *records)
 {
-    uint8_t refused;
+    captions_refusal refused;
 
     take_bits(bits, 8 * IDENTIFIER_BYTES); /* it is what makes the unit ours */
-    if (bits->left < 8)
-        return 5;
+    if (bits_left(bits) < 8)
+        return refused_at(5, bits->at);
     take_bits(bits, 8); /* user_data_type_code: with another one the unit is not ours */
     refused = read_flags_and_count(bits, unit);
-    if (refused != 0)
+    if (refused.number != 0)
         return refused;
-    if (bits->left < 8)
-        return 5;
+    if (bits_left(bits) < 8)
+        return refused_at(5, bits->at);
     unit->em_data = take_bits(bits, 8);
     refused = read_constructs(bits, unit->n, records);
-    if (refused != 0)
-        return refused;
-    return read_end(bits, unit);
+    return refused.number != 0 ? refused : read_end(bits, unit);
 }
 
 captions_ga94_unit model_ga94_read(const uint8_t *area, size_t len, captions_ga94_record *records)
@@ -112,17 +117,15 @@ captions_ga94_unit model_ga94_read(const uint8_t *area, size_t len, captions_ga9
     captions_ga94_unit unit = {0};
     captions_ga94_record read[CAPTIONS_RECORDS] = {{0}};
     unit_span span;
-    uint8_t refused = model_find_unit(area, len, is_ga94_unit, &span);
-    size_t place = 0; /* for 1 to 4 */
+    captions_refusal refused = {model_find_unit(area, len, is_ga94_unit, &span), 0};
 
-    if (refused == 0 && span.found) {
+    if (refused.number == 0 && span.found) {
         bit_source bits = model_body_bits(area, span);
         unit.present = true;
         refused = read_content(&bits, &unit, read);
-        place = span.start;
     }
-    if (refused != 0)
-        return (captions_ga94_unit){.refusal = {refused, place}};
+    if (refused.number != 0)
+        return (captions_ga94_unit){.refusal = refused};
     memcpy(records, read, sizeof read); /* zeros behind the n records, and everywhere where no unit of ours stands */
     return unit;
 }

@@ -5,12 +5,33 @@
 
 #include "layout.h"
 
+/* A writer's refusal has no place. */
 static captions_written refused(uint8_t number)
 {
     return (captions_written){.refusal = {number, 0}};
 }
 
 /* ---- Reading a packet (RULES, "Subtitling packet"; SMPTE 291M for parity and CS) ---- */
+
+/* A packet's refusal has as its place the word that is wrong, or where its length is wrong the number of its words. */
+static captions_refusal at_word(uint8_t number, size_t word)
+{
+    return (captions_refusal){number, word};
+}
+
+static captions_refusal not_refused(void)
+{
+    return (captions_refusal){0, 0};
+}
+
+/* The first of `count` words from `at` on whose byte is not the right one. */
+static captions_refusal judge_fixed(const uint8_t *bytes, size_t at, const uint8_t *right, size_t count, uint8_t number)
+{
+    for (size_t i = 0; i < count; i++)
+        if (bytes[at + i] != right[i])
+            return at_word(number, at + i);
+    return not_refused();
+}
 
 static unsigned bit_of(uint16_t word, unsigned bit)
 {
@@ -33,12 +54,22 @@ static bool cs_is_formed(uint16_t word)
     return word <= 1023 && bit_of(word, 9) != bit_of(word, 8);
 }
 
-static bool words_are_right(const uint16_t *words, size_t len)
+static captions_refusal judge_words(const uint16_t *words, size_t len)
 {
     for (size_t i = 3; i < len - 1; i++)
         if (!word_is_right(words[i]))
-            return false;
-    return cs_is_formed(words[len - 1]);
+            return at_word(11, i);
+    return cs_is_formed(words[len - 1]) ? not_refused() : at_word(11, len - 1);
+}
+
+static captions_refusal judge_flag_words(const uint16_t *words)
+{
+    static const uint16_t flag[] = {0x000, 0x3FF, 0x3FF};
+
+    for (size_t i = 0; i < 3; i++)
+        if (words[i] != flag[i])
+            return at_word(2, i);
+    return not_refused();
 }
 
 static bool line_is_legal(unsigned line)
@@ -46,15 +77,18 @@ static bool line_is_legal(unsigned line)
     return line == 0 || (line >= 6 && line <= 22);
 }
 
-/* 55 55 27 before each structure's 42 bytes, and 74 behind the last structure. */
-static bool fixed_bytes_are_right(const uint8_t *bytes, size_t structures)
+/* Two bytes of run-in and the framing code before each structure's 42 bytes, and the footer behind the last structure. */
+static captions_refusal judge_structures(const uint8_t *bytes, size_t structures)
 {
+    static const uint8_t front[] = {0x55, 0x55, 0x27}, footer[] = {0x74};
     size_t at = LAYOUT_STRUCTURES;
 
-    for (size_t i = 0; i < structures; i++, at += LAYOUT_STRUCTURE)
-        if (bytes[at] != 0x55 || bytes[at + 1] != 0x55 || bytes[at + 2] != 0x27)
-            return false;
-    return bytes[at] == 0x74;
+    for (size_t i = 0; i < structures; i++, at += LAYOUT_STRUCTURE) {
+        captions_refusal wrong = judge_fixed(bytes, at, front, 3, 20);
+        if (wrong.number != 0)
+            return wrong;
+    }
+    return judge_fixed(bytes, at, footer, 1, 6);
 }
 
 /* The user bytes from 51 to the SDP checksum add up to 0 modulo 256. */
@@ -77,52 +111,61 @@ static bool cs_is_right(const uint16_t *words, size_t len)
     return sum % 512 == (words[len - 1] & 0x1FF);
 }
 
-/* From DID on, when every word has its right parity; bytes[i] is b7 to b0 of word i. */
-static uint8_t judge_bytes(const uint8_t *bytes, size_t len)
+/* The descriptors, and the structures for which they stand against DC, which is at fault where the two differ. */
+static captions_refusal judge_descriptors(const uint8_t *bytes)
 {
     size_t structures = 0;
 
-    if (bytes[3] != 0x43 || bytes[4] != 0x02) /* DID, SDID */
-        return 6;
-    if (bytes[5] != len - 7) /* DC */
-        return 13;
-    if (bytes[6] != 0x51 || bytes[7] != 0x15)
-        return 6;
-    if (bytes[8] != bytes[5]) /* LENGTH */
-        return 13;
-    if (bytes[9] != 0x02) /* format */
-        return 6;
-    for (size_t i = 0; i < CAPTIONS_SLOTS; i++)
-        if (!line_is_legal(bytes[LAYOUT_DESCRIPTORS + i] % 32))
-            return 7;
-    for (size_t i = 0; i < CAPTIONS_SLOTS; i++)
-        if (bytes[LAYOUT_DESCRIPTORS + i] != 0)
+    for (size_t i = LAYOUT_DESCRIPTORS; i < LAYOUT_STRUCTURES; i++) {
+        if (!line_is_legal(bytes[i] % 32))
+            return at_word(7, i);
+        if (bytes[i] != 0)
             structures++;
+    }
     if (bytes[5] != 13 + 45 * structures)
-        return 13;
-    if (!fixed_bytes_are_right(bytes, structures))
-        return 6;
-    return sdp_checksum_is_right(bytes, len) ? 0 : 12;
+        return at_word(13, 5);
+    return judge_structures(bytes, structures);
 }
 
-static uint8_t judge_packet(const uint16_t *words, size_t len, uint8_t *bytes)
+/* From DID to the format, when every word has its right parity; bytes[i] is b7 to b0 of word i. */
+static captions_refusal judge_head(const uint8_t *bytes, size_t len)
 {
-    uint8_t number;
+    static const uint8_t ids[] = {0x43, 0x02}, identifiers[] = {0x51, 0x15}, format[] = {0x02};
+    captions_refusal wrong = judge_fixed(bytes, 3, ids, 2, 6); /* DID, SDID */
+
+    if (wrong.number == 0 && bytes[5] != len - 7) /* DC */
+        wrong = at_word(13, 5);
+    if (wrong.number == 0)
+        wrong = judge_fixed(bytes, 6, identifiers, 2, 6);
+    if (wrong.number == 0 && bytes[8] != bytes[5]) /* LENGTH */
+        wrong = at_word(13, 8);
+    if (wrong.number == 0)
+        wrong = judge_fixed(bytes, 9, format, 1, 6);
+    return wrong;
+}
+
+static captions_refusal judge_packet(const uint16_t *words, size_t len, uint8_t *bytes)
+{
+    captions_refusal wrong;
 
     if (len > CAPTIONS_PACKET_WORDS)
-        return 1;
+        return at_word(1, len);
     if (len < 20)
-        return 5;
-    if (words[0] != 0x000 || words[1] != 0x3FF || words[2] != 0x3FF)
-        return 2;
-    if (!words_are_right(words, len))
-        return 11;
+        return at_word(5, len);
+    wrong = judge_flag_words(words);
+    if (wrong.number == 0)
+        wrong = judge_words(words, len);
     for (size_t i = 0; i < len; i++)
         bytes[i] = (uint8_t)(words[i] & 0xFF);
-    number = judge_bytes(bytes, len);
-    if (number != 0)
-        return number;
-    return cs_is_right(words, len) ? 0 : 12;
+    if (wrong.number == 0)
+        wrong = judge_head(bytes, len);
+    if (wrong.number == 0)
+        wrong = judge_descriptors(bytes);
+    if (wrong.number == 0 && !sdp_checksum_is_right(bytes, len))
+        wrong = at_word(12, len - 2);
+    if (wrong.number == 0 && !cs_is_right(words, len))
+        wrong = at_word(12, len - 1);
+    return wrong;
 }
 
 captions_packet model_packet_read(const uint16_t *words, size_t len, captions_row *rows)
@@ -131,7 +174,7 @@ captions_packet model_packet_read(const uint16_t *words, size_t len, captions_ro
     captions_packet packet = {0};
     size_t at = LAYOUT_STRUCTURES;
 
-    packet.refusal.number = judge_packet(words, len, bytes);
+    packet.refusal = judge_packet(words, len, bytes);
     if (packet.refusal.number != 0)
         return packet;
     for (size_t i = 0; i < CAPTIONS_SLOTS; i++) {
@@ -200,12 +243,13 @@ captions_payload model_payload_read(const uint8_t *payload, size_t len, captions
 {
     captions_payload answer = {0};
 
+    /* Only the length can be wrong, and it is the place of each refusal. */
     if (len == 0)
-        return (captions_payload){.refusal = {2, 0}};
+        return (captions_payload){.refusal = {2, len}};
     if (len > CAPTIONS_PAYLOAD_BYTES)
-        return (captions_payload){.refusal = {1, 0}};
+        return (captions_payload){.refusal = {1, len}};
     if ((len - 1) % 5 != 0)
-        return (captions_payload){.refusal = {13, 0}};
+        return (captions_payload){.refusal = {13, len}};
     answer.flags = payload[0];
     answer.m = (len - 1) / 5;
     memset(units, 0, CAPTIONS_ACCESS_UNITS * sizeof *units);

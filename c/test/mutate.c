@@ -287,6 +287,8 @@ static void change_length(dice *d, question *q)
 
     if (chance(d, 40) && q->len >= 2 && q->len + 2 < WORDS_MAX)
         len = q->len - 2 + below(d, 5);
+    else if (chance(d, 10))
+        len = below(d, 20);
 
     for (size_t i = q->len; i < len; i++)
         q->words[i] = layout_word(any_byte(d));

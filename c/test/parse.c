@@ -270,12 +270,12 @@ static parsed skipped(vector_line *to, const char *why)
 }
 
 /*
- * ` STATE ` behind the operation: `1`, the rules with request 1, or `base`, those before it. A file here holds only what is
+ * ` STATE ` behind the operation: `1-2`, the rules with requests 1 and 2, or those with fewer. A file here holds only what is
  * right today. Gives the TAG, or null.
  */
 static const char *behind_state(const char *at)
 {
-    static const char *const states[] = {" 1 ", " base "};
+    static const char *const states[] = {" 1-2 ", " 1 ", " base "};
 
     for (size_t i = 0; i < sizeof states / sizeof *states; i++)
         if (strncmp(at, states[i], strlen(states[i])) == 0)

@@ -4,8 +4,8 @@
  *     random [COUNT [SEED [FIRST]]]
  *
  * The status is 1 where an answer or a round trip differs, fewer than a third of an operation's cases are accepted, or a
- * refusal that an operation has never arose. Case i depends on SEED and i alone: `random 1 SEED i` asks it again and shows
- * it, and demands of it only that nothing differs.
+ * refusal that an operation has arose at too few places. Case i depends on SEED and i alone: `random 1 SEED i` asks it again
+ * and shows it, and demands of it only that nothing differs.
  */
 #include <stdio.h>
 #include <stdlib.h>
@@ -15,13 +15,15 @@
 #include "show.h"
 #include "trips.h"
 
-enum { REFUSALS = REFUSAL_MAX + 1, SHOWN_MAX = 5, SWEEP = 65536 };
+enum { REFUSALS = REFUSAL_MAX + 1, SHOWN_MAX = 5, SWEEP = 65536, PLACES = 2048 };
 
 /* What replacing refuses for the area's sake has a row of its own, since 1, 7, 8, 9 and 16 can come from the value too. */
 enum { ROW_REPLACE_AREA = OPERATIONS, ROW_GA94_REPLACE_AREA, ROWS };
 
 typedef struct row {
-    unsigned long cases, numbers[REFUSALS], placed[REFUSALS], differs, trips, trips_differ;
+    unsigned long cases, numbers[REFUSALS], differs, trips, trips_differ;
+    bool placed[REFUSALS][PLACES]; /* where each number arose; what lies behind the last place counts as the last */
+    bool later[REFUSALS];          /* whether it arose in a unit that is not the first of its area */
 } row;
 
 static row rows[ROWS];
@@ -56,6 +58,33 @@ static row *row_of(void)
     return &rows[q.op];
 }
 
+static bool judges_area(const row *r)
+{
+    return r == &rows[AREA_READ] || r == &rows[ROW_REPLACE_AREA] || r == &rows[GA94_READ] || r == &rows[ROW_GA94_REPLACE_AREA];
+}
+
+/* The first byte of the unit that has this bit. The bit right behind a unit is of that unit: there an item is missing. */
+static size_t unit_of(size_t bit)
+{
+    size_t start = 0;
+
+    for (size_t i = 1; 8 * i < bit && i + 2 < q.len; i++)
+        if (q.bytes[i] == 0x00 && q.bytes[i + 1] == 0x00 && q.bytes[i + 2] == 0x01)
+            start = i;
+    return start;
+}
+
+/* A bit of an area is noted as one of its unit's body, so that an item has one place wherever the unit stands. */
+static void note_place(row *r, size_t number, size_t place)
+{
+    if (judges_area(r) && place > 0) {
+        size_t start = unit_of(place);
+        r->later[number] = r->later[number] || start > 0;
+        place -= 8 * (start + LAYOUT_START);
+    }
+    r->placed[number][place < PLACES ? place : PLACES - 1] = true;
+}
+
 static void run_case(void)
 {
     const char *differs;
@@ -65,8 +94,7 @@ static void run_case(void)
     ask(&model_calls, &q, SPOIL_NOTHING, &by_model);
     r->cases++;
     r->numbers[by_model.numbers[0]]++;
-    if (by_model.numbers[1] > 0)
-        r->placed[by_model.numbers[0]]++;
+    note_place(r, by_model.numbers[0], by_model.numbers[1]);
     differs = difference(&q, &by_model, &by_library);
     if (differs != NULL) {
         r->differs++;
@@ -87,33 +115,39 @@ static const char *row_name(int i)
     return i >= OPERATIONS ? "  area refused" : operation_names[i];
 }
 
-/* The refusals that RULES has for each operation; all others are 0. */
-static bool can_refuse(int i, unsigned number)
-{
-    static const uint8_t all[ROWS][REFUSALS] = {
-        [AREA_READ] = {1, 2, 3, 4, 5, 6, 7, 8, 9, 10},
-        [UNIT_WRITE] = {15, 7, 8, 9, 1, 14},
-        [AREA_REPLACE] = {15, 7, 8, 9, 1, 14},
-        [ROW_REPLACE_AREA] = {1, 2, 3, 4, 5, 6, 7, 8, 9, 10},
-        [GA94_READ] = {1, 2, 3, 4, 5, 6, 16},
-        [GA94_WRITE] = {15, 16, 1, 14},
-        [GA94_REPLACE] = {15, 16, 1, 14},
-        [ROW_GA94_REPLACE_AREA] = {1, 2, 3, 4, 5, 6, 16},
-        [PACKET_READ] = {1, 5, 2, 11, 6, 13, 7, 12},
-        [PACKET_WRITE] = {15, 7, 14},
-        [PAYLOAD_READ] = {2, 1, 13},
-        [PAYLOAD_WRITE] = {15, 14},
-    };
+/*
+ * At how many places each refusal that RULES has for an operation must arise at least; all others are 0. A writer has one
+ * place, and an area one for what is not inside a body. A packet has few words for some numbers: nearly all must arise.
+ */
+static const uint8_t places_wanted[ROWS][REFUSALS] = {
+    [AREA_READ] = {[1] = 1, [2] = 1, [3] = 1, [4] = 1, [5] = 25, [7] = 15, [8] = 30, [9] = 8, [10] = 12, [18] = 20, [19] = 60},
+    [UNIT_WRITE] = {[1] = 1, [7] = 1, [8] = 1, [9] = 1, [14] = 1, [15] = 1},
+    [AREA_REPLACE] = {[1] = 1, [7] = 1, [8] = 1, [9] = 1, [14] = 1, [15] = 1},
+    [ROW_REPLACE_AREA] = {[1] = 1, [2] = 1, [3] = 1, [4] = 1, [5] = 25, [7] = 12, [8] = 25, [9] = 3, [10] = 8, [18] = 15,
+                          [19] = 50},
+    [GA94_READ] = {[1] = 1, [2] = 1, [3] = 1, [4] = 1, [5] = 25, [16] = 1, [18] = 25, [19] = 60},
+    [GA94_WRITE] = {[1] = 1, [14] = 1, [15] = 1, [16] = 1},
+    [GA94_REPLACE] = {[1] = 1, [14] = 1, [15] = 1, [16] = 1},
+    [ROW_GA94_REPLACE_AREA] = {[1] = 1, [2] = 1, [3] = 1, [4] = 1, [5] = 25, [16] = 1, [18] = 25, [19] = 50},
+    [PACKET_READ] = {[1] = 3, [2] = 3, [5] = 10, [6] = 10, [7] = 5, [11] = 100, [12] = 10, [13] = 2, [20] = 12},
+    [PACKET_WRITE] = {[7] = 1, [14] = 1, [15] = 1},
+    [PAYLOAD_READ] = {[1] = 4, [2] = 1, [13] = 50},
+    [PAYLOAD_WRITE] = {[14] = 1, [15] = 1},
+};
 
-    return memchr(all[i], (int)number, REFUSALS) != NULL;
+static unsigned places_of(int i, unsigned number)
+{
+    unsigned count = 0;
+
+    for (size_t place = 0; place < PLACES; place++)
+        count += rows[i].placed[number][place];
+    return count;
 }
 
-/* Refusals from inside a unit's body must also have come from a unit that is not the first. */
-static bool place_must_arise(int i, unsigned number)
+/* Inside a unit's body: all but 1 to 4, which are of the area as a whole. */
+static bool is_inside(int i, unsigned number)
 {
-    if (i == GA94_READ || i == ROW_GA94_REPLACE_AREA)
-        return number == 5 || number == 6 || number == 16;
-    return (i == AREA_READ || i == ROW_REPLACE_AREA) && number >= 5 && number <= 10;
+    return judges_area(&rows[i]) && number > 4;
 }
 
 static bool all_arose(int i)
@@ -121,13 +155,15 @@ static bool all_arose(int i)
     bool good = true;
 
     for (unsigned number = 1; number < REFUSALS; number++) {
-        bool should = can_refuse(i, number);
-        if (should != (rows[i].numbers[number] > 0)) {
-            printf("%s: refusal %u %s\n", row_name(i), number, should ? "never arose" : "arose, and cannot");
+        unsigned wanted = places_wanted[i][number], places = places_of(i, number);
+        if (wanted == 0 && places > 0) {
+            printf("%s: refusal %u arose, and cannot\n", row_name(i), number);
             good = false;
-        }
-        if (place_must_arise(i, number) && rows[i].placed[number] == 0) {
-            printf("%s: refusal %u never arose with a place above 0\n", row_name(i), number);
+        } else if (places < wanted) {
+            printf("%s: refusal %u arose at %u places, not at %u\n", row_name(i), number, places, wanted);
+            good = false;
+        } else if (wanted > 0 && is_inside(i, number) && !rows[i].later[number]) {
+            printf("%s: refusal %u never arose behind an area's first unit\n", row_name(i), number);
             good = false;
         }
     }
@@ -149,36 +185,60 @@ static bool enough_accepted(int i)
     return true;
 }
 
-/* ---- The table ---- */
+/* ---- The tables ---- */
 
-static void print_row(int i)
+static const int order[ROWS] = {AREA_READ,    UNIT_WRITE,   AREA_REPLACE,          ROW_REPLACE_AREA, GA94_READ,
+                                GA94_WRITE,   GA94_REPLACE, ROW_GA94_REPLACE_AREA, PACKET_READ,      PACKET_WRITE,
+                                PAYLOAD_READ, PAYLOAD_WRITE};
+
+static void print_heads(void)
 {
-    const row *r = &rows[i];
+    for (unsigned number = 1; number < REFUSALS; number++)
+        printf("  no.%-2u", number);
+}
 
-    printf("%-14s %8lu %8lu", row_name(i), r->cases, r->numbers[0]);
-    for (unsigned number = 1; number < REFUSALS; number++) {
-        if (r->numbers[number] == 0)
-            printf(" %6s", ".");
-        else
-            printf(" %6lu", r->numbers[number]);
+static void print_count(unsigned long count)
+{
+    if (count == 0)
+        printf(" %6s", ".");
+    else
+        printf(" %6lu", count);
+}
+
+static void print_numbers(void)
+{
+    printf("%-14s %8s %8s", "random", "cases", "accepted");
+    print_heads();
+    printf(" %8s %8s %8s\n", "differ", "trips", "differ");
+    for (int i = 0; i < ROWS; i++) {
+        const row *r = &rows[order[i]];
+        printf("%-14s %8lu %8lu", row_name(order[i]), r->cases, r->numbers[0]);
+        for (unsigned number = 1; number < REFUSALS; number++)
+            print_count(r->numbers[number]);
+        printf(" %8lu %8lu %8lu\n", r->differs, r->trips, r->trips_differ);
     }
-    printf(" %8lu %8lu %8lu\n", r->differs, r->trips, r->trips_differ);
+}
+
+static void print_places(void)
+{
+    printf("%-32s", "places at which each arose");
+    print_heads();
+    putchar('\n');
+    for (int i = 0; i < ROWS; i++) {
+        printf("%-32s", row_name(order[i]));
+        for (unsigned number = 1; number < REFUSALS; number++)
+            print_count(places_of(order[i], number));
+        putchar('\n');
+    }
 }
 
 /* `whole`: not some cases asked again, but a run in which everything must arise. */
 static bool report(bool whole)
 {
-    static const int order[ROWS] = {AREA_READ,    UNIT_WRITE,   AREA_REPLACE,          ROW_REPLACE_AREA, GA94_READ,
-                                    GA94_WRITE,   GA94_REPLACE, ROW_GA94_REPLACE_AREA, PACKET_READ,      PACKET_WRITE,
-                                    PAYLOAD_READ, PAYLOAD_WRITE};
     bool good = true;
 
-    printf("%-14s %8s %8s", "random", "cases", "accepted");
-    for (unsigned number = 1; number < REFUSALS; number++)
-        printf("  no.%-2u", number);
-    printf(" %8s %8s %8s\n", "differ", "trips", "differ");
-    for (int i = 0; i < ROWS; i++)
-        print_row(order[i]);
+    print_numbers();
+    print_places();
     for (int i = 0; i < ROWS; i++) {
         if (whole) {
             good = all_arose(i) && good;

@@ -155,10 +155,10 @@ static const char *after_unit(const question *q, const outcome *got, unsigned lo
     return compare(made);
 }
 
-/* The reader of the other kind answers for the new area as for the old one. A place may move with its unit. */
+/* The reader of the other kind answers for the new area as for the old one. A place, which is a bit, may move with its unit. */
 static const char *other_is_kept(const question *q, const outcome *got, unsigned long *made)
 {
-    size_t moved = (size_t)got->numbers[2] - q->len;
+    size_t moved = 8 * ((size_t)got->numbers[2] - q->len);
 
     begin(other_reader(q), q);
     lend_area(q->bytes, q->len);

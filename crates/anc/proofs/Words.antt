@@ -55,7 +55,7 @@ bits-accepted place w e =
     let byte : byteOf w < 256 = omega arith in
     ap (wordVerdict place) (sym (bits-word w e)) ∙ word-accepted place (byteOf w) byte
 
-accepted-word : (place w : ℕ) → wordVerdict place w ≡ Accepted → wordOf (byteOf w) ≡ w
+pub accepted-word : (place w : ℕ) → wordVerdict place w ≡ Accepted → wordOf (byteOf w) ≡ w
 unfolding wordVerdict
 accepted-word place w e =
     let parity = refuseIf (not (eqb w (wordOf (byteOf w)))) WordParity (Word place) in

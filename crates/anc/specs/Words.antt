@@ -1,8 +1,10 @@
 -- Ancillary data words of ten bits, b9 to b0. RULES, "Subtitling packet"; SMPTE 291M.
-use Prim.Native.Nat.{ℕ, suc, _+_, _-_, _*_, _/_, _%_}
+use Prim.Native.Nat.{ℕ, suc, _+_, _-_, _*_, _/_, _%_, _≤_, _<_}
+use mathlib.Core.Path.{_≡_}
 use mathlib.Core.Bool.{not}
 use mathlib.Core.List.{List, [], _∷_, map}
 use lib.Dec.{eqb, ltb}
+use lib.ListN.{getD}
 use Rattle.lists.specs.Sum.{sum}
 use Rattle.refusal.specs.declared.Verdict.{Verdict}
 use Rattle.refusal.specs.declared.Verdict.the-variants.{Accepted}
@@ -21,6 +23,10 @@ wordOf b = b + 256 * parityOf b + 512 * (1 - parityOf b)
 -- the byte that a word holds
 abbrev pub byteOf : ℕ → ℕ
 byteOf w = w % 256
+
+-- the words from index `from` up to, not including, index `to` are words of bytes
+abbrev pub ByteWords : List ℕ → ℕ → ℕ → Type 0
+ByteWords s from to = (i : ℕ) → from ≤ i → i < to → getD s i 0 ≡ wordOf (byteOf (getD s i 0))
 
 -- 11: a word above 1023, or its parity bits wrong
 unfoldable pub wordVerdict : ℕ → ℕ → Verdict

@@ -23,6 +23,12 @@ pub zeros-replicate : (n : ℕ) → zeros (replicate n 0) ≡ n
 zeros-replicate zero = refl
 zeros-replicate (suc n) = ap suc (zeros-replicate n)
 
+-- every bit of a run is 0, and so is what is taken for one beyond it
+pub zeros-at : (n i : ℕ) → getD {A = ℕ} (replicate n 0) i 0 ≡ 0
+zeros-at zero i = refl
+zeros-at (suc n) zero = refl
+zeros-at (suc n) (suc i) = zeros-at n i
+
 -- a run that ends within xs
 pub zeros-stop : (xs ys : List ℕ) → zeros xs < length xs → zeros (xs ++ ys) ≡ zeros xs
 zeros-stop [] ys h = let f : ⊥ = omega arith in absurd f

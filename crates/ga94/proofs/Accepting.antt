@@ -14,17 +14,19 @@ use Rattle.refusal.specs.Numbers.{numberOf}
 use Rattle.refusal.specs.Checks.{first}
 use Rattle.refusal.specs.Answers.{lentOf, AtBit}
 use Rattle.refusal.proofs.Outputs.{refused-lent}
+use Rattle.bits.specs.Bits.{bitsOf}
 use Rattle.ga94.specs.declared.Record.{Record}
 use Rattle.ga94.specs.declared.Head.{Head}
 use Rattle.ga94.specs.Value.{Content, withData, LegalRecord, Legal, CaptionUnit, LegalCaptionUnit, Typed, none, stored, held}
 use Rattle.ga94.specs.Layout.{layout}
 use Rattle.ga94.specs.Reading.{contentVerdict, valueOf}
 use Rattle.ga94.specs.Order.{readingChecks}
+use Rattle.ga94.specs.Places.{Stands}
 use Rattle.ga94.specs.Lent.{recordsBytes, unitIn, numbersOf, headOf, ReadsInto}
 use Rattle.ga94.proofs.Contents.{accepted-content, value-legal, value-layout}
 use Rattle.ga94.proofs.Layouts.{layout-accepted, layout-value}
 use Rattle.ga94.proofs.Lending.{lent-unit}
-use Rattle.ga94.proofs.Numbered.{content-placed, content-numbers}
+use Rattle.ga94.proofs.Placed.{content-placed}
 use Rattle.ga94.proofs.Sequence.{reading-order}
 
 -- THE VALUE
@@ -92,12 +94,8 @@ module _ (body lent : List ℕ) (r : Head) (exit : List ℕ) (p : ReadsInto body
         refused-in-order ∙ ap contentVerdict (sym (w .3)) ∙ layout-accepted (w .0) (w .1) short,
   )
 
-  pub refused-at : length body ≤ 16384 → (reason : Reason) (item : Item) → r .verdict ≡ Refused reason item → AtBit 5 16 (8 * length body) reason item
-  refused-at short reason item e = content-placed body short reason item (sym refused-in-order ∙ e)
-
-  pub refused-numbers : length body ≤ 16384 → (reason : Reason) (item : Item) → r .verdict ≡ Refused reason item
-      → (numberOf reason ≡ 5) ⊎ ((numberOf reason ≡ 6) ⊎ (numberOf reason ≡ 16))
-  refused-numbers short reason item e = content-numbers body short reason item (sym refused-in-order ∙ e)
+  pub refused-at : length body ≤ 16384 → (reason : Reason) (item : Item) → r .verdict ≡ Refused reason item → AtBit (8 * length body) (Stands (bitsOf body)) reason item
+  refused-at short reason item e = content-placed body (p .bytes) short reason item (sym refused-in-order ∙ e)
 
   pub refused-zero : (r .verdict ≡ Accepted → ⊥) → (r .numbers ≡ numbersOf (stored none)) × (exit ≡ lent)
   refused-zero h =

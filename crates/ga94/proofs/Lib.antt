@@ -6,7 +6,8 @@ pub mod Layouts
 pub mod Table
 pub mod Zeros
 pub mod Quiet
-pub mod Numbered
+pub mod Placed
+pub mod Elements
 pub mod Lending
 pub mod Holding
 pub mod Writable

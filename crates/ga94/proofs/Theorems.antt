@@ -4,7 +4,7 @@
 -- What they speak of is defined in specs/: a value and when it is legal in Value; its bytes in Layout, without the
 -- reader, and its items with their numbers of bits; what reading answers in Reading; what writing answers and leaves in
 -- Writing; records as bytes in a lent array in Lent; all checks in the order of RULES, as one list for reading and one
--- for writing, in Order.
+-- for writing, in Order; where the elements of a body stand, and what a refusal tells of its place, in Places.
 --
 -- `ReadsInto body lent r exit` is the promise of `read_into` (crate ga94_reader): to the bytes of a unit's body it
 -- answers r, and in a lent array that held `lent` it leaves `exit`. `Writes u before after out r exit` is that of
@@ -32,10 +32,12 @@ use Rattle.ga94.specs.Layout.{contentBytes, layout, sizeOf, itemBits}
 use Rattle.ga94.specs.Reading.{contentVerdict}
 use Rattle.ga94.specs.Writing.{wholeVerdict, writeVerdict, bodyVerdict, Writes}
 use Rattle.ga94.specs.Order.{readingChecks, writingChecks}
+use Rattle.ga94.specs.Places.{Element, Has, elementIn, Stands, valueIn}
 use Rattle.ga94.specs.Lent.{recordsBytes, lentRecords, storedAt, unitIn, numbersOf, ReadsInto}
 use Rattle.ga94.proofs.Accepting as accepting
 use Rattle.ga94.proofs.Writing as writing
 use Rattle.ga94.proofs.Sequence as sequence
+use Rattle.ga94.proofs.Elements as elements
 use Rattle.ga94.proofs.Sizes as sizes
 use Rattle.ga94.proofs.Table as table
 use Rattle.ga94.proofs.Zeros as zeros
@@ -89,21 +91,30 @@ pub read-first : (body lent : List ℕ) (r : Head) (exit : List ℕ) → ReadsIn
     → r .verdict ≡ first (readingChecks body)
 read-first = accepting.read-first
 
--- It is at a bit of the body or at its end,
+-- It is at a bit of the body or at its end, where something stands as `Stands` (specs/Places) says of its number: 5, 16,
+-- 18 or 19, and 6 for a body that does not begin with the identifier and 03, which is none of an area's GA94 units,
 pub refused-at : (body lent : List ℕ) (r : Head) (exit : List ℕ) → ReadsInto body lent r exit → length body ≤ 16384
-    → (reason : Reason) (item : Item) → r .verdict ≡ Refused reason item → AtBit 5 16 (8 * length body) reason item
+    → (reason : Reason) (item : Item) → r .verdict ≡ Refused reason item
+    → AtBit (8 * length body) (Stands (bitsOf body)) reason item
 refused-at = accepting.refused-at
-
--- with 5, 6 or 16,
-pub refused-numbers : (body lent : List ℕ) (r : Head) (exit : List ℕ) → ReadsInto body lent r exit
-    → length body ≤ 16384 → (reason : Reason) (item : Item) → r .verdict ≡ Refused reason item
-    → (numberOf reason ≡ 5) ⊎ ((numberOf reason ≡ 6) ⊎ (numberOf reason ≡ 16))
-refused-numbers = accepting.refused-numbers
 
 -- and comes without records: the numbers are zero, and the lent array is as it was.
 pub refused-zero : (body lent : List ℕ) (r : Head) (exit : List ℕ) → ReadsInto body lent r exit
     → (r .verdict ≡ Accepted → ⊥) → (r .numbers ≡ numbersOf (stored none)) × (exit ≡ lent)
 refused-zero = accepting.refused-zero
+
+-- WHAT THE LAYOUT HAS THERE
+
+-- In the layout of every legal value each element stands where `begins` (specs/Places) says, and is the value's number:
+-- the marker_bits of a construct are 1 1 1 1 1, the closing ones FF.
+pub layout-elements : (c : Content) → Legal c → (e : Element) → Has (length (c .records)) e
+    → elementIn (bitsOf (layout c)) e ≡ valueIn c e
+layout-elements = elements.layout-elements
+
+-- Behind them all bits are 0.
+pub layout-zeros : (c : Content) → Legal c → (i : ℕ) → 8 * (8 + 3 * length (c .records)) ≤ i
+    → getD (bitsOf (layout c)) i 0 ≡ 0
+layout-zeros = elements.layout-zeros
 
 -- SIZES
 

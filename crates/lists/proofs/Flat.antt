@@ -58,6 +58,21 @@ module _ {A : Type 0} (bytes : A → List ℕ) (width : ℕ) (wide : (x : A) →
       ∙ ap₂ (λ (a b : ℕ). a + b) (wide x) (length-flat xs)
       ∙ (let far : width + width * length xs ≡ width * suc (length xs) = omega (arith, mul-suc width (length xs)) in far)
 
+  -- the bytes of record i stand behind those of the records before it
+  pub flat-at : (d : A) (xs : List A) (i : ℕ) (rest : List ℕ) → i < length xs
+      → (after : List ℕ) × (drop (width * i) (flat bytes xs ++ rest) ≡ bytes (getD xs i d) ++ after)
+  flat-at d [] i rest h = let f : ⊥ = omega arith in absurd f
+  flat-at d (x ∷ xs) zero rest h =
+      (flat bytes xs ++ rest, ap (λ (k : ℕ). drop k (flat bytes (x ∷ xs) ++ rest)) (mul-zero width) ∙ append-assoc (bytes x) (flat bytes xs) rest)
+  flat-at d (x ∷ xs) (suc i) rest h =
+      let on = flat-at d xs i rest (omega arith) in
+      let all = flat bytes (x ∷ xs) ++ rest in
+      let far : width * suc i ≡ width + width * i = omega (arith, mul-suc width i) in
+      let behind : drop width all ≡ flat bytes xs ++ rest =
+      ap (drop width) (append-assoc (bytes x) (flat bytes xs) rest) ∙ drop-at (bytes x) (flat bytes xs ++ rest) width (wide x)
+      in
+      (on .0, ap (λ (k : ℕ). drop k all) far ∙ sym (drop-drop (width * i) width all) ∙ ap (drop (width * i)) behind ∙ on .1)
+
   -- records that are laid as bytes are taken from them again
   pub flat-taken : (from : List ℕ → A) → ((x : A) (rest : List ℕ) → from (bytes x ++ rest) ≡ x) → (xs : List A) (rest : List ℕ)
       → taken from width (length xs) (flat bytes xs ++ rest) ≡ xs

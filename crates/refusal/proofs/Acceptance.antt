@@ -5,11 +5,23 @@ use native.Mathlib.Omega.{arith}
 use mathlib.Core.Path.{_≡_, _∙_, ap, sym, refl}
 use Rattle.refusal.specs.declared.Reason.{Reason}
 use Rattle.refusal.specs.declared.Reason.the-variants.{TooLong, NoStart, StartCode, SecondUnit, Ends, Unfixed, FieldNumberZero, DescriptorLine, FieldFalls, LineDoesNotRise, FifthPriority, SampledVideo, WordRange, WordParity, SdpChecksum, Checksum, Unfit, NoRoom, Unholdable, AdditionalData}
+use Rattle.refusal.specs.declared.Fixed.{Fixed}
+use Rattle.refusal.specs.declared.Fixed.the-variants.{Marker, Alignment, Stuffing, Identifier, FormatCode, RunIn, FramingCode, Footer}
 use Rattle.refusal.specs.declared.Verdict.{Verdict}
 use Rattle.refusal.specs.declared.Verdict.the-variants.{Accepted, Refused}
 use Rattle.refusal.specs.declared.Refusal.{Refusal}
-use Rattle.refusal.specs.Numbers.{numberOf, refusalOf}
+use Rattle.refusal.specs.Numbers.{fixedNumber, numberOf, refusalOf}
 use Rattle.refusal.specs.Answers.{refused}
+
+fixed-not-zero : (which : Fixed) → 0 < fixedNumber which
+fixed-not-zero Identifier = omega arith
+fixed-not-zero FormatCode = omega arith
+fixed-not-zero Footer = omega arith
+fixed-not-zero Marker = omega arith
+fixed-not-zero Alignment = omega arith
+fixed-not-zero Stuffing = omega arith
+fixed-not-zero RunIn = omega arith
+fixed-not-zero FramingCode = omega arith
 
 number-not-zero : (reason : Reason) → 0 < numberOf reason
 number-not-zero TooLong = omega arith
@@ -17,7 +29,7 @@ number-not-zero NoStart = omega arith
 number-not-zero StartCode = omega arith
 number-not-zero SecondUnit = omega arith
 number-not-zero Ends = omega arith
-number-not-zero (Unfixed which) = omega arith
+number-not-zero (Unfixed which) = fixed-not-zero which
 number-not-zero FieldNumberZero = omega arith
 number-not-zero DescriptorLine = omega arith
 number-not-zero FieldFalls = omega arith

@@ -3,7 +3,7 @@
 use Prim.Native.Nat.{ℕ, _≤_, _<_}
 use native.Mathlib.Omega.{arith}
 use mathlib.Core.Path.{_≡_, _∙_, ap, sym, refl}
-use mathlib.Core.Bool.{Bool, true, false, not}
+use mathlib.Core.Bool.{Bool, true, false, not, _&&_, true≢false}
 use mathlib.Core.List.{List, [], _∷_, map}
 use borrow.Author.Tests.{eqb-true, ltb-false, lt-ltb, le-ltb, not-false}
 use lib.Dec.{eqb, ltb}
@@ -23,6 +23,11 @@ refused-not-accepted reason item e = let z : _≡_ {A = ℕ} 0 1 = cc in let f :
 pub accepted-refuseIf : (fault : Bool) (reason : Reason) (item : Item) → refuseIf fault reason item ≡ Accepted → fault ≡ false
 accepted-refuseIf true reason item e = refused-not-accepted reason item e
 accepted-refuseIf false reason item e = refl
+
+-- a test of two tests: both hold
+pub both-hold : (a b : Bool) → (a && b) ≡ true → (a ≡ true) × (b ≡ true)
+both-hold true b e = (refl, e)
+both-hold false b e = absurd (true≢false (sym e))
 
 -- a check that two numbers are equal, and one that a number is not above its limit
 pub accepted-equal : (a b : ℕ) (reason : Reason) (item : Item) → refuseIf (not (eqb a b)) reason item ≡ Accepted → a ≡ b

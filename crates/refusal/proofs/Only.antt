@@ -24,9 +24,13 @@ module _ (P : Reason → Item → Type 0) where
   pub accepted-only : Only Accepted
   accepted-only reason item e = subst Keeps e tt
 
-  pub refuseIf-only : (fault : Bool) (reason : Reason) (item : Item) → P reason item → Only (refuseIf fault reason item)
-  refuseIf-only true reason item p r i e = subst Keeps e p
-  refuseIf-only false reason item p r i e = accepted-only r i e
+  pub refused-only : (reason : Reason) (item : Item) → P reason item → Only (Refused reason item)
+  refused-only reason item p r i e = subst Keeps e p
+
+  -- a check refuses only where its test finds a fault
+  pub refuseIf-only : (fault : Bool) (reason : Reason) (item : Item) → (fault ≡ true → P reason item) → Only (refuseIf fault reason item)
+  refuseIf-only true reason item p = refused-only reason item (p refl)
+  refuseIf-only false reason item p = accepted-only
 
   -- a check is reached only where those before it accept
   pub andThen-only : (check next : Verdict) → Only check → (check ≡ Accepted → Only next) → Only (andThen check next)
@@ -34,6 +38,7 @@ module _ (P : Reason → Item → Type 0) where
   andThen-only (Refused reason item) next p q = p
 
 -- a check at a bit
-pub bit-only : (low high limit : ℕ) (fault : Bool) (reason : Reason) (b : ℕ) → b ≤ limit → low ≤ numberOf reason → numberOf reason ≤ high
-    → Only (AtBit low high limit) (refuseIf fault reason (Bit b))
-bit-only low high limit fault reason b h l m = refuseIf-only (AtBit low high limit) fault reason (Bit b) (record { bit = b; here = refl; within = h; least = l; most = m })
+pub bit-only : (limit : ℕ) (P : ℕ → ℕ → Type 0) (fault : Bool) (reason : Reason) (b : ℕ) → b ≤ limit → (fault ≡ true → P (numberOf reason) b)
+    → Only (AtBit limit P) (refuseIf fault reason (Bit b))
+bit-only limit P fault reason b h stands =
+    refuseIf-only (AtBit limit P) fault reason (Bit b) (λ e. record { bit = b; here = refl; within = h; stands = stands e })

@@ -55,10 +55,9 @@ abbrev pub bodyLeft : Verdict → ℕ → List ℕ → List ℕ → List ℕ
 bodyLeft Accepted at laid out = overAt at laid out
 bodyLeft (Refused reason item) at laid out = out
 
--- a refusal at a bit that is at most `limit`, of a number from `low` to `high`
-pub record AtBit (low high limit : ℕ) (reason : Reason) (item : Item) : Type 0 where
+-- a refusal at a bit that is at most `limit`, and what stands there: P of its number and the bit
+pub record AtBit (limit : ℕ) (P : ℕ → ℕ → Type 0) (reason : Reason) (item : Item) : Type 0 where
   pub bit : ℕ
   pub here : item ≡ Bit bit
   pub within : bit ≤ limit
-  pub least : low ≤ numberOf reason
-  pub most : numberOf reason ≤ high
+  pub stands : P (numberOf reason) bit

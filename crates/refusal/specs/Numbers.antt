@@ -3,11 +3,24 @@
 use Prim.Native.Nat.{ℕ}
 use Rattle.refusal.specs.declared.Reason.{Reason}
 use Rattle.refusal.specs.declared.Reason.the-variants.{TooLong, NoStart, StartCode, SecondUnit, Ends, Unfixed, FieldNumberZero, DescriptorLine, FieldFalls, LineDoesNotRise, FifthPriority, SampledVideo, WordRange, WordParity, SdpChecksum, Checksum, Unfit, NoRoom, Unholdable, AdditionalData}
+use Rattle.refusal.specs.declared.Fixed.{Fixed}
+use Rattle.refusal.specs.declared.Fixed.the-variants.{Marker, Alignment, Stuffing, Identifier, FormatCode, RunIn, FramingCode, Footer}
 use Rattle.refusal.specs.declared.Item.{Item}
 use Rattle.refusal.specs.declared.Item.the-variants.{Whole, Bit, Body, Word, Length}
 use Rattle.refusal.specs.declared.Verdict.{Verdict}
 use Rattle.refusal.specs.declared.Verdict.the-variants.{Accepted, Refused}
 use Rattle.refusal.specs.declared.Refusal.{Refusal}
+
+-- a constant that has another value
+abbrev pub fixedNumber : Fixed → ℕ
+fixedNumber Identifier = 6
+fixedNumber FormatCode = 6
+fixedNumber Footer = 6
+fixedNumber Marker = 18
+fixedNumber Alignment = 19
+fixedNumber Stuffing = 19
+fixedNumber RunIn = 20
+fixedNumber FramingCode = 20
 
 abbrev pub numberOf : Reason → ℕ
 -- too long for its carriage
@@ -21,7 +34,7 @@ numberOf SecondUnit = 4
 -- too little is left
 numberOf Ends = 5
 -- a constant has another value
-numberOf (Unfixed which) = 6
+numberOf (Unfixed which) = fixedNumber which
 -- no such field
 numberOf FieldNumberZero = 7
 -- no such line
@@ -49,13 +62,14 @@ numberOf (Unholdable which) = 15
 -- GA94 with its third flag set
 numberOf AdditionalData = 16
 
--- the unit's first byte for what failed in its body, in an area; nothing else has a place
+-- in an area, for what failed in a unit's body, the bit of the area; in a packet the word; the length where that is at
+-- fault. A value that is written has no place, and neither has a body that stands in no area
 abbrev pub placeOf : Item → ℕ
 placeOf Whole = 0
 placeOf (Bit bit) = 0
-placeOf (Body unit bit) = unit
-placeOf (Word w) = 0
-placeOf (Length n) = 0
+placeOf (Body unit bit) = bit
+placeOf (Word w) = w
+placeOf (Length n) = n
 
 -- an accepted answer has number and place 0
 abbrev pub refusalOf : Verdict → Refusal

@@ -4,7 +4,7 @@
 // crate knows which number and which place the rules have for them.
 ghost use mathlib.Core.Path.{_≡_};
 ghost use Prim.Native.Nat.{_+_};
-ghost use Rattle.refusal.specs.Numbers.{numberOf, placeOf, refusalOf};
+ghost use Rattle.refusal.specs.Numbers.{fixedNumber, numberOf, placeOf, refusalOf};
 ghost use Rattle.refusal.specs.Checks.{fitVerdict};
 
 // Which fixed bit, byte or word is another.
@@ -131,7 +131,7 @@ pub fn number(reason: Reason) -> u8
         Reason::StartCode => 3,
         Reason::SecondUnit => 4,
         Reason::Ends => 5,
-        Reason::Unfixed(_) => 6,
+        Reason::Unfixed(which) => fixed_number(which),
         Reason::FieldNumberZero => 7,
         Reason::DescriptorLine => 7,
         Reason::FieldFalls => 8,
@@ -149,15 +149,31 @@ pub fn number(reason: Reason) -> u8
     }
 }
 
+// The number of a fixed bit, byte or word that is another.
+fn fixed_number(which: Fixed) -> u8
+    ensures { λ r. ⌜ r ≡ fixedNumber which ⌝ }
+{
+    match which {
+        Fixed::Identifier => 6,
+        Fixed::FormatCode => 6,
+        Fixed::Footer => 6,
+        Fixed::Marker => 18,
+        Fixed::Alignment => 19,
+        Fixed::Stuffing => 19,
+        Fixed::RunIn => 20,
+        Fixed::FramingCode => 20,
+    }
+}
+
 pub fn place(item: Item) -> usize
     ensures { λ r. ⌜ r ≡ placeOf item ⌝ }
 {
     match item {
         Item::Whole => 0,
         Item::Bit(_) => 0,
-        Item::Body { unit, bit: _ } => unit,
-        Item::Word(_) => 0,
-        Item::Length(_) => 0,
+        Item::Body { unit: _, bit } => bit,
+        Item::Word(word) => word,
+        Item::Length(length) => length,
     }
 }
 

@@ -13,6 +13,7 @@ use Rattle.refusal.specs.declared.Verdict.the-variants.{Accepted, Refused}
 use Rattle.refusal.specs.Checks.{first}
 use Rattle.refusal.specs.Answers.{lentOf, AtBit}
 use Rattle.refusal.proofs.Outputs.{refused-lent}
+use Rattle.bits.specs.Bits.{bitsOf}
 use Rattle.scte20.specs.declared.Record.{Record}
 use Rattle.scte20.specs.declared.CaptionUnit.{CaptionUnit}
 use Rattle.scte20.specs.declared.Head.{Head}
@@ -20,11 +21,12 @@ use Rattle.scte20.specs.Value.{Content, withData, LegalRecord, Legal, Le
 use Rattle.scte20.specs.Layout.{layout}
 use Rattle.scte20.specs.Reading.{contentVerdict, valueOf}
 use Rattle.scte20.specs.Order.{readingChecks}
+use Rattle.scte20.specs.Places.{Stands}
 use Rattle.scte20.specs.Lent.{recordsBytes, unitIn, numbersOf, headOf, ReadsInto}
 use Rattle.scte20.proofs.Contents.{accepted-content, value-legal, value-layout}
 use Rattle.scte20.proofs.Layouts.{layout-accepted, layout-value}
 use Rattle.scte20.proofs.Lending.{lent-unit}
-use Rattle.scte20.proofs.Numbered.{content-placed}
+use Rattle.scte20.proofs.Placed.{content-placed}
 use Rattle.scte20.proofs.Sequence.{reading-order}
 
 -- THE VALUE
@@ -93,7 +95,7 @@ module _ (body lent : List ℕ) (r : Head) (exit : List ℕ) (p : ReadsInto body
         refused-in-order ∙ ap contentVerdict (sym (w .3)) ∙ layout-accepted (w .0) (w .1) short,
   )
 
-  pub refused-at : length body ≤ 16384 → (reason : Reason) (item : Item) → r .verdict ≡ Refused reason item → AtBit 5 10 (8 * length body) reason item
+  pub refused-at : length body ≤ 16384 → (reason : Reason) (item : Item) → r .verdict ≡ Refused reason item → AtBit (8 * length body) (Stands (bitsOf body)) reason item
   refused-at short reason item e = content-placed body short reason item (sym refused-in-order ∙ e)
 
   pub refused-zero : (r .verdict ≡ Accepted → ⊥) → (r .numbers ≡ numbersOf (stored none)) × (exit ≡ lent)

@@ -28,9 +28,10 @@ use Rattle.scte20.specs.declared.Record.{Record}
 use Rattle.scte20.specs.Value.{LegalRecord, Legal, fieldOf, Ranged}
 use Rattle.scte20.specs.Layout.{constructsBits, flaggedBits, itemBits, padding, layout}
 use Rattle.scte20.specs.Reading.{missing, constructsVerdict, recordsAt, sampledVerdict, restVerdict, headVerdict, flagIn, countIn, flagVerdict, contentVerdict, recordsIn, valueOf}
+use Rattle.scte20.specs.Places.{bitsIn}
 use Rattle.scte20.proofs.Fitting.{AllFit, fit-allowed, fit-order, fit-four}
 use Rattle.scte20.proofs.Constructs.{accepted-missing, length-records, records-ranged, constructs-fit, constructs-again}
-use Rattle.scte20.proofs.Sizes.{bitsIn, length-items, padded, padded-size, layout-bytes, bitsOf-layout}
+use Rattle.scte20.proofs.Sizes.{length-items, padded, padded-size, layout-bytes, bitsOf-layout}
 
 -- ---- zero bits
 

@@ -26,9 +26,10 @@ use Rattle.scte20.specs.declared.Record.{Record}
 use Rattle.scte20.specs.Value.{Content, LegalRecord, Legal, fieldOf}
 use Rattle.scte20.specs.Layout.{constructsBits, flaggedBits, itemBits, padding, layout, sizeIn}
 use Rattle.scte20.specs.Reading.{missing, constructsVerdict, recordsAt, sampledVerdict, restVerdict, headVerdict, flagIn, countIn, flagVerdict, contentVerdict, recordsIn, valueOf}
+use Rattle.scte20.specs.Places.{bitsIn}
 use Rattle.scte20.proofs.Fitting.{AllFit, legal-fit}
 use Rattle.scte20.proofs.Constructs.{length-constructs, missing-accepted, long-enough, constructs-accepted, records-back}
-use Rattle.scte20.proofs.Sizes.{bitsIn, length-items, bitsOf-layout, length-layout}
+use Rattle.scte20.proofs.Sizes.{length-items, bitsOf-layout, length-layout}
 
 -- the zeros behind n bits: the alignment, then stuffing
 abbrev pub zerosAt : ℕ → ℕ → List ℕ
@@ -76,10 +77,10 @@ module _ (f : ℕ) (rs : List Record) (xs : List ℕ) (m : ℕ) (few : length rs
   pub count-back : countIn xs ≡ length rs
   count-back = ap (λ (l : List ℕ). num (take 5 l)) stands ∙ num-bits-small 5 (length rs) (omega arith)
 
-  run-stands : drop 21 xs ≡ constructsBits rs ++ afterRun rs m
+  pub run-stands : drop 21 xs ≡ constructsBits rs ++ afterRun rs m
   run-stands = sym (drop-drop 5 16 xs) ∙ ap (drop 5) stands ∙ append-assoc (constructsBits rs) (bits 4 0) (zerosAt (25 + 26 * length rs) m)
 
-  sampled-stands : drop (21 + 26 * length rs) xs ≡ afterRun rs m
+  pub sampled-stands : drop (21 + 26 * length rs) xs ≡ afterRun rs m
   sampled-stands =
       sym (drop-drop (26 * length rs) 21 xs)
       ∙ ap (drop (26 * length rs)) run-stands
@@ -131,19 +132,19 @@ size-flag (suc f) rs xs m few e = ap (sizeIn (suc f)) (count-back f rs xs m few 
 -- ---- the whole layout
 
 module _ (c : Content) (legal : Legal c) where
-  layout-stands : bitsOf (layout c) ≡ itemBits c ++ zerosAt (bitsIn (c .flag) (length (c .records))) (8 * c .z)
+  pub layout-stands : bitsOf (layout c) ≡ itemBits c ++ zerosAt (bitsIn (c .flag) (length (c .records))) (8 * c .z)
   layout-stands =
       bitsOf-layout c
       ∙ append-assoc (itemBits c) (replicate (padding (length (itemBits c))) 0) (replicate (8 * c .z) 0)
       ∙ ap (λ (n : ℕ). itemBits c ++ zerosAt n (8 * c .z)) (length-items c)
 
-  flagged-stands : drop 16 (bitsOf (layout c)) ≡ flaggedBits (c .flag) (c .records) ++ zerosAt (bitsIn (c .flag) (length (c .records))) (8 * c .z)
+  pub flagged-stands : drop 16 (bitsOf (layout c)) ≡ flaggedBits (c .flag) (c .records) ++ zerosAt (bitsIn (c .flag) (length (c .records))) (8 * c .z)
   flagged-stands = ap (drop 16) layout-stands
 
-  reserved-back : field (bitsOf (layout c)) 8 7 ≡ c .reserved
+  pub reserved-back : field (bitsOf (layout c)) 8 7 ≡ c .reserved
   reserved-back = ap (λ (l : List ℕ). field l 8 7) layout-stands ∙ num-bits-small 7 (c .reserved) (legal .reserved)
 
-  flag-back : flagIn (bitsOf (layout c)) ≡ c .flag
+  pub flag-back : flagIn (bitsOf (layout c)) ≡ c .flag
   flag-back = ap flagIn layout-stands ∙ num-bits-small 1 (c .flag) (legal .flag)
 
   accepted-head : length (layout c) ≤ 16384 → headVerdict (layout c) ≡ Accepted

@@ -6,10 +6,11 @@ pub mod Contents
 pub mod Layouts
 pub mod Zeros
 pub mod Quiet
-pub mod Numbered
 pub mod Bytewise
 pub mod Lending
 pub mod Stepwise
+pub mod Placed
+pub mod Elements
 pub mod Trailing
 pub mod Answers
 pub mod Types

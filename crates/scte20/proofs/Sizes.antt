@@ -14,14 +14,10 @@ use Rattle.bits.proofs.Stream.{bitsOf-append, bitsOf-zeros, length-bytesOf, byt
 use Rattle.scte20.specs.declared.Record.{Record}
 use Rattle.scte20.specs.Value.{Content}
 use Rattle.scte20.specs.Layout.{constructBits, constructsBits, flaggedBits, itemBits, padding, contentBits, contentBytes, layout, sizeIn}
+use Rattle.scte20.specs.Places.{bitsIn}
 use Rattle.scte20.proofs.Constructs.{length-constructs}
 
 -- ---- sizes
-
--- how many bits the items take, before the alignment
-abbrev pub bitsIn : ℕ → ℕ → ℕ
-bitsIn zero n = 16
-bitsIn (suc f) n = 25 + 26 * n
 
 length-flagged : (f : ℕ) (rs : List Record) → 16 + length (flaggedBits f rs) ≡ bitsIn f (length rs)
 length-flagged zero rs = refl

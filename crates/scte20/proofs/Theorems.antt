@@ -4,7 +4,7 @@
 -- What they speak of is defined in specs/: a value and when it is legal in Value; its bits and bytes in Layout, without
 -- the reader; the rules over records in Rules; what reading answers in Reading; what writing answers and leaves in
 -- Writing; records as bytes in a lent array in Lent; all checks in the order of RULES, as one list for reading and one
--- for writing, in Order.
+-- for writing, in Order; where the elements of a body stand, and what a refusal tells of its place, in Places.
 --
 -- `ReadsInto body lent r exit` is the promise of `read_into` (crate scte20_reader): to the bytes of a unit's body it
 -- answers r, and in a lent array that held `lent` it leaves `exit`. `Writes u before after out r exit` is that of
@@ -23,7 +23,7 @@ use Rattle.refusal.specs.declared.Verdict.the-variants.{Accepted, Refused}
 use Rattle.refusal.specs.declared.Laid.{Laid}
 use Rattle.refusal.specs.Checks.{first}
 use Rattle.refusal.specs.Answers.{AtBit}
-use Rattle.bits.specs.Bits.{longest}
+use Rattle.bits.specs.Bits.{bitsOf, longest}
 use Rattle.scte20.specs.declared.Record.{Record}
 use Rattle.scte20.specs.declared.Last.{Last}
 use Rattle.scte20.specs.declared.Numbers.{Numbers}
@@ -36,11 +36,13 @@ use Rattle.scte20.specs.Rules.{recordVerdict}
 use Rattle.scte20.specs.Reading.{contentVerdict}
 use Rattle.scte20.specs.Writing.{valueVerdict, writeVerdict, bodyVerdict, Writes}
 use Rattle.scte20.specs.Order.{readingChecks, writingChecks}
+use Rattle.scte20.specs.Places.{Element, Has, elementIn, bitsIn, Stands, valueIn}
 use Rattle.scte20.specs.Lent.{recordsBytes, lentRecords, storedAt, unitIn, numbersOf, ReadsInto}
 use Rattle.scte20.specs.Inside.{lastOf, FieldsDescend, lastVerdict, lastAfter}
 use Rattle.scte20.proofs.Accepting as accepting
 use Rattle.scte20.proofs.Writing as writing
 use Rattle.scte20.proofs.Sequence as sequence
+use Rattle.scte20.proofs.Elements as elements
 use Rattle.scte20.proofs.Sizes as sizes
 use Rattle.scte20.proofs.Zeros as zeros
 use Rattle.scte20.proofs.Order as order
@@ -94,15 +96,29 @@ pub read-first : (body lent : List ℕ) (r : Head) (exit : List ℕ) → ReadsIn
     → r .verdict ≡ first (readingChecks body)
 read-first = accepting.read-first
 
--- It is 5 to 10, at a bit of the body or at its end,
+-- It is at a bit of the body or at its end, where something stands as `Stands` (specs/Places) says of its number: 5, 7
+-- to 10, 18 or 19, and 6 for a body that does not begin 03, which is none of an area's caption units,
 pub refused-at : (body lent : List ℕ) (r : Head) (exit : List ℕ) → ReadsInto body lent r exit → length body ≤ 16384
-    → (reason : Reason) (item : Item) → r .verdict ≡ Refused reason item → AtBit 5 10 (8 * length body) reason item
+    → (reason : Reason) (item : Item) → r .verdict ≡ Refused reason item → AtBit (8 * length body) (Stands (bitsOf body)) reason item
 refused-at = accepting.refused-at
 
 -- and comes without records: the numbers are zero, and the lent array is as it was.
 pub refused-zero : (body lent : List ℕ) (r : Head) (exit : List ℕ) → ReadsInto body lent r exit
     → (r .verdict ≡ Accepted → ⊥) → (r .numbers ≡ numbersOf (stored none)) × (exit ≡ lent)
 refused-zero = accepting.refused-zero
+
+-- WHAT THE LAYOUT HAS THERE
+
+-- In the layout of every legal value each element stands where `begins` (specs/Places) says, and is the value's number:
+-- a marker 1, non_real_time_video_count 0.
+pub layout-elements : (c : Content) → Legal c → (e : Element) → Has (c .flag) (length (c .records)) e
+    → elementIn (bitsOf (layout c)) e ≡ valueIn c e
+layout-elements = elements.layout-elements
+
+-- Behind them all bits are 0.
+pub layout-zeros : (c : Content) → Legal c → (i : ℕ) → bitsIn (c .flag) (length (c .records)) ≤ i
+    → getD (bitsOf (layout c)) i 0 ≡ 0
+layout-zeros = elements.layout-zeros
 
 -- SIZES
 

@@ -6,3 +6,4 @@ pub mod Writing
 pub mod Lent
 pub mod Inside
 pub mod Order
+pub mod Places

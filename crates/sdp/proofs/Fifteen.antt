@@ -93,7 +93,7 @@ line-7 l h = ⊎-elim low high h
     high : (23 ≤ l) × (l ≤ 31) → refuseIf (ltb 0 l && (ltb l 6 || ltb 22 l)) DescriptorLine Whole ≡ Refused DescriptorLine Whole
     high w = simp (lt-ltb 0 l (omega (arith, w .0)), le-ltb l 6 (omega (arith, w .0)), lt-ltb 22 l (w .0))
 
-line-or-none : (l : ℕ) → l ≤ 31 → LegalLine l ⊎ NoLine l
+pub line-or-none : (l : ℕ) → l ≤ 31 → LegalLine l ⊎ NoLine l
 line-or-none l h = ⊎-elim (λ e. low (omega arith)) (λ p. ⊎-elim (λ e. inl (inr (omega arith, omega arith))) (λ q. inr (inr (omega arith, h))) (eq-zero-or-pos (l - 22))) (eq-zero-or-pos (l - 5))
   where
     low : l ≤ 5 → LegalLine l ⊎ NoLine l

@@ -13,4 +13,6 @@ pub mod Sequence
 pub mod Fifteen
 pub mod Accepting
 pub mod Determined
+pub mod Placed
+pub mod RightPlaces
 pub mod Theorems

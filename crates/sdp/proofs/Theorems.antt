@@ -2,20 +2,23 @@
 -- checks"), apart from the header and CS around them. What they speak of is defined in specs/: a value and when it is
 -- legal in Value; its user bytes in Layout, without the reader; the rules over user bytes and the value that they hold
 -- in User; which slots can be written in SlotVerdict and, in the words of RULES, in SlotFaults; the checks of a slot in
--- Order. All checks of reading stand in one list on the page of crate `subtitling` (`reading-order`).
+-- Order; what stands at the place of a refusal in Places. All checks of reading stand in one list on the page of crate
+-- `subtitling` (`reading-order`).
 -- How to read it: docs/NOTATION.md.
 -- Assumes nothing.
-use Prim.Native.Nat.{ℕ, _%_}
+use Prim.Native.Nat.{ℕ, _%_, _<_}
 use mathlib.Core.Path.{_≡_}
 use mathlib.Core.Logic.{_↔_}
 use mathlib.Core.List.{List, map}
-use lib.ListN.{length}
+use lib.ListN.{length, getD}
 use Rattle.lists.specs.Bytes.{Bytes}
 use Rattle.lists.specs.Sum.{sum}
+use Rattle.refusal.specs.declared.Reason.{Reason}
 use Rattle.refusal.specs.declared.Item.{Item}
+use Rattle.refusal.specs.declared.Item.the-variants.{Word}
 use Rattle.refusal.specs.declared.Verdict.{Verdict}
-use Rattle.refusal.specs.declared.Verdict.the-variants.{Accepted}
-use Rattle.refusal.specs.Numbers.{refusalOf}
+use Rattle.refusal.specs.declared.Verdict.the-variants.{Accepted, Refused}
+use Rattle.refusal.specs.Numbers.{numberOf, refusalOf}
 use Rattle.refusal.specs.Answers.{refused}
 use Rattle.refusal.specs.Checks.{first}
 use Rattle.anc.specs.Words.{byteOf}
@@ -27,9 +30,12 @@ use Rattle.sdp.specs.User.{lineVerdict, userVerdict, slotOf, userValue}
 use Rattle.sdp.specs.SlotVerdict.{slotVerdict}
 use Rattle.sdp.specs.SlotFaults.{Holdable, Unwritable, NoLine}
 use Rattle.sdp.specs.Order.{slotChecks}
+use Rattle.sdp.specs.Places.{Constant, constantAt, constantByte, OpensRight, UserStands}
 use Rattle.sdp.proofs.Numbers as numbers
 use Rattle.sdp.proofs.Rules as rules
 use Rattle.sdp.proofs.Accepting as accepting
+use Rattle.sdp.proofs.Placed as placed
+use Rattle.sdp.proofs.RightPlaces as right-places
 use Rattle.sdp.proofs.Sequence as sequence
 use Rattle.sdp.proofs.Fifteen as fifteen
 use Rattle.sdp.proofs.Determined as determined
@@ -63,6 +69,28 @@ empty-exactly = accepting.empty-exactly
 -- Any 42 bytes do: with another row a full slot is as legal.
 pub any-row : (x : SlotRow) (row : List ℕ) → Row row → FullSlot x → FullSlot (together (x .slot) row)
 any-row = accepting.any-row
+
+-- WHAT STANDS AT THE PLACE
+
+-- A refusal of user bytes tells a word, and what is wrong at that word is a case of `UserStands` with its number, told
+-- of the bytes alone. `dc` is the word of the packet in which DC stands.
+pub place-means : (dc : ℕ) (u : List ℕ) (reason : Reason) (item : Item) → userVerdict dc u ≡ Refused reason item
+    → (word : ℕ) × (item ≡ Word word) × UserStands dc u (numberOf reason) word
+place-means = placed.place-means
+
+-- Each case is a fault: where one stands, at any word, the bytes are not accepted.
+pub stands-refused : (dc : ℕ) (u : List ℕ) (number word : ℕ) → UserStands dc u number word
+    → userVerdict dc u ≡ Accepted → ⊥
+stands-refused = right-places.stands-refused
+
+-- Among a legal value's user bytes the identifiers, the format code and the footer ID are what `UserStands` asks for,
+pub layout-constant : (v : Sdp) → Legal v → (c : Constant)
+    → getD (userBytes v) (constantAt (length (userBytes v)) c) 0 ≡ constantByte c
+layout-constant = right-places.layout-constant
+
+-- and each of its k structures begins with run-in and framing code.
+pub layout-run-in : (v : Sdp) → Legal v → (j : ℕ) → j < count (descriptorsOf (v .slots)) → OpensRight (userBytes v) j 3
+layout-run-in = right-places.layout-run-in
 
 -- WRITING
 

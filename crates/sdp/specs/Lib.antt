@@ -4,3 +4,4 @@ pub mod User
 pub mod SlotVerdict
 pub mod Order
 pub mod SlotFaults
+pub mod Places

@@ -23,7 +23,7 @@ abbrev pub descriptorsChecks : ℕ → List ℕ → List Verdict
 descriptorsChecks at [] = []
 descriptorsChecks at (d ∷ ds) = lineCheck (Word at) (d % 32) ∷ descriptorsChecks (suc at) ds
 
--- 6: each of k structures in order, the first from word `at` on, begins 55 55 27
+-- 20: each of k structures in order, the first from word `at` on, begins 55 55 27
 abbrev pub structuresChecks : ℕ → ℕ → List ℕ → List Verdict
 structuresChecks at zero u = []
 structuresChecks at (suc k) u =

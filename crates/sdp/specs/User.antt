@@ -1,6 +1,6 @@
 -- The rules over the user bytes of a subtitling packet, apart from its header and CS. RULES, "Subtitling packet" and
--- "Order of checks": 6 of 51 and 15; 13 of LENGTH; 6 of the format; 7 of each descriptor; 13 of DC; 6 of each structure
--- and of the footer; 12.
+-- "Order of checks": 6 of 51 and 15; 13 of LENGTH; 6 of the format; 7 of each descriptor; 13 of DC; 20 of each
+-- structure; 6 of the footer; 12.
 --
 -- The bytes are those of the user words. `dc` is the word of the packet in which DC stands; the user words follow it.
 use Prim.Native.Nat.{ℕ, zero, suc, _+_, _-_, _*_, _/_, _%_}
@@ -30,7 +30,7 @@ abbrev pub descriptorsVerdict : ℕ → List ℕ → Verdict
 descriptorsVerdict at [] = Accepted
 descriptorsVerdict at (d ∷ ds) = andThen (lineVerdict (Word at) (d % 32)) (descriptorsVerdict (suc at) ds)
 
--- 6: a structure begins 55 55 27
+-- 20: a structure begins 55 55 27
 unfoldable pub structureVerdict : ℕ → List ℕ → Verdict
 structureVerdict at u =
     first

@@ -129,7 +129,7 @@ fn judge_structures(user: &[u16], dc: u16, k: usize) -> Verdict
     Verdict::Accepted
 }
 
-// 6 of the structure that begins at index i of the user words.
+// 20 of the structure that begins at index i of the user words.
 fn judge_structure(user: &[u16], dc: u16, i: usize) -> Verdict
     requires { ⌜ i + 3 ≤ length (now user) ⌝ }
     requires { ⌜ i < 65536 ⌝ }

@@ -1,8 +1,10 @@
--- 6: bits that must be zero, as those of the alignment and of the stuffing. RULES, "Picture area" and "Order of checks".
-use Prim.Native.Nat.{ℕ, suc}
+-- 19: bits that must be zero, as those of the alignment and of the stuffing. RULES, "Picture area" and "Order of checks".
+use Prim.Native.Nat.{ℕ, suc, _≤_, _<_}
+use mathlib.Core.Path.{_≡_}
 use mathlib.Core.Bool.{not}
 use mathlib.Core.List.{List, [], _∷_}
 use lib.Dec.{eqb}
+use lib.ListN.{getD}
 use Rattle.refusal.specs.declared.Verdict.{Verdict}
 use Rattle.refusal.specs.declared.Verdict.the-variants.{Accepted}
 use Rattle.refusal.specs.declared.Reason.the-variants.{Unfixed}
@@ -20,3 +22,9 @@ zeroVerdict which at (b ∷ bs) =
 abbrev pub zeroChecks : Fixed → ℕ → List ℕ → List Verdict
 zeroChecks which at [] = []
 zeroChecks which at (b ∷ bs) = refuseIf (not (eqb b 0)) (Unfixed which) (Bit at) ∷ zeroChecks which (suc at) bs
+
+-- the first of the bits from bit `from` on that is not 0
+pub record FirstOne (xs : List ℕ) (from bit : ℕ) : Type 0 where
+  pub behind : from ≤ bit
+  pub zeros : (i : ℕ) → from ≤ i → i < bit → getD xs i 0 ≡ 0
+  pub one : getD xs bit 0 ≡ 1

@@ -61,7 +61,7 @@ innerChecks s =
     ∷ (descriptorsChecks 10 (descriptorsIn (userIn s))
     -- 13: DC is not 13 + 45k, for the k descriptors that are not 0
     ++ (refuseIf (not (eqb (byteOf (getD s 5 0)) (userLength (structuresIn (userIn s))))) (Unfit Structures) (Word 5)
-    -- 6: the fixed bytes of each structure
+    -- 20: run-in and framing code of each structure
     ∷ (structuresChecks 15 (structuresIn (userIn s)) (drop 9 (userIn s))
     -- 6: the footer
     ++ (refuseIf (not (eqb (getD (userIn s) (length s - 11) 0) 0x74)) (Unfixed Footer) (Word (length s - 5))
