@@ -209,8 +209,6 @@ static const struct defect defects[] = {
     { 6, "SDID 03", other_sdid },
     { 6, "first identifier 52", identifier },
     { 6, "format 03", format },
-    { 6, "run-in 54", run_in },
-    { 6, "framing code 26", framing },
     { 6, "footer 75", footer },
     { 7, "descriptor with line 5", line_5 },
     { 7, "descriptor with line 23", line_23 },
@@ -228,6 +226,8 @@ static const struct defect defects[] = {
     { 13, "LENGTH one less than DC", length_other },
     { 13, "a third descriptor without a structure", third_descriptor },
     { 13, "second descriptor 0, its structure there", second_descriptor_0 },
+    { 20, "run-in 54", run_in },
+    { 20, "framing code 26", framing },
 };
 
 /* ---- All ---- */

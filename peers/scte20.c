@@ -325,15 +325,15 @@ static const struct area_case cases[] = {
     { 5, "case A cut inside its construct", cut_in_construct },
     { 5, "cc_count 3 with one construct", count_says_more },
     { 5, "cc_count 31 with one construct", count_says_31 },
-    { 6, "marker 0 (case J)", marker_0 },
-    { 6, "alignment bits 1", alignment_1 },
-    { 6, "stuffing 00 FF", stuffing_ff },
     { 7, "field 0: 94 2C, then field 1: 94 2F", field_0 },
     { 8, "field falls: field 2 15 AD, field 1 94 2C", field_falls },
     { 8, "line equal: 94 2C, 94 2F both at 11", line_equal },
     { 8, "line falls: 94 2C at 11, 94 2F at 10", line_falls },
     { 9, "five of priority 0: 94 2C to 2F, 94 20", fifth_priority },
     { 10, "sampled video count 1, nothing behind it", sampled_video },
+    { 18, "marker 0 (case J)", marker_0 },
+    { 19, "alignment bits 1", alignment_1 },
+    { 19, "stuffing 00 FF", stuffing_ff },
 };
 
 /* ---- The carriage ---- */

@@ -14,7 +14,7 @@ def observations(lines):
         if line.startswith("== "):
             name = line[3:].strip()
             sections[name] = []
-        elif name and re.match(r"[ 1]?\d  ", line):
+        elif name and re.match(r"[ 12]?\d  ", line):
             sections[name].append([cell.strip() for cell in line.split(" | ")])
     return sections
 

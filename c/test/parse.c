@@ -270,17 +270,14 @@ static parsed skipped(vector_line *to, const char *why)
 }
 
 /*
- * ` STATE ` behind the operation: `1-2`, the rules with requests 1 and 2, or those with fewer. A file here holds only what is
- * right today. Gives the TAG, or null.
+ * ` STATE ` behind the operation: `1-2`, the rules with requests 1 and 2. By others the same input may have another number or
+ * place. Gives the TAG, or null.
  */
 static const char *behind_state(const char *at)
 {
-    static const char *const states[] = {" 1-2 ", " 1 ", " base "};
+    static const char state[] = " 1-2 ";
 
-    for (size_t i = 0; i < sizeof states / sizeof *states; i++)
-        if (strncmp(at, states[i], strlen(states[i])) == 0)
-            return at + strlen(states[i]);
-    return NULL;
+    return strncmp(at, state, strlen(state)) == 0 ? at + strlen(state) : NULL;
 }
 
 parsed parse_line(char *line, vector_line *to)

@@ -7,13 +7,13 @@ use mathlib.Core.Path.{_≡_, _∙_, ap, ap₂, refl, sym}
 use mathlib.Core.Bool.{not}
 use mathlib.Core.List.{List, [], _∷_, map}
 use lib.Dec.{eqb, ltb}
-use borrow.Author.Tests.{eq-eqb, ne-eqb, le-ltb}
+use borrow.Author.Tests.{eq-eqb, eqb-false, ne-eqb, le-ltb}
 use Rattle.lists.specs.Bytes.{Bytes}
 use Rattle.refusal.specs.declared.Verdict.the-variants.{Accepted}
 use Rattle.refusal.specs.declared.Reason.the-variants.{WordRange, WordParity}
 use Rattle.refusal.specs.declared.Item.the-variants.{Word}
 use Rattle.refusal.specs.Checks.{refuseIf, andThen}
-use Rattle.refusal.proofs.Checks.{accepted-andThen, andThen-accepted, accepted-equal}
+use Rattle.refusal.proofs.Checks.{accepted-refuseIf, accepted-andThen, andThen-accepted, accepted-equal, accepted-within}
 use Rattle.anc.specs.Words.{parityOf, wordOf, byteOf, wordVerdict, wordsVerdict, nineBitSum, checksumOf, sumVerdict}
 
 -- a parity is a bit
@@ -37,7 +37,7 @@ bytes-bytes [] = tt
 bytes-bytes (w ∷ ws) = (omega arith, bytes-bytes ws)
 
 -- a word fits ten bits
-word-low : (b : ℕ) → b < 256 → wordOf b ≤ 1023
+pub word-low : (b : ℕ) → b < 256 → wordOf b ≤ 1023
 unfolding wordOf
 word-low b h = omega (arith, parity-low b)
 
@@ -89,6 +89,14 @@ pub sum-accepted : (place : ℕ) (ws : List ℕ) → sumVerdict place (checksumO
 unfolding sumVerdict
 sum-accepted place ws =
     simp (le-ltb 1023 (checksumOf ws) (sum-low ws), ne-eqb (checksumOf ws / 512) (checksumOf ws / 256 % 2) (sum-inverse ws))
+
+-- and what is accepted fits ten bits, and has b9 inverse to b8
+pub accepted-sum : (place w : ℕ) → sumVerdict place w ≡ Accepted → (w ≤ 1023) × (w / 512 ≡ w / 256 % 2 → ⊥)
+unfolding sumVerdict
+accepted-sum place w e =
+    let range = accepted-andThen _ _ e in
+    let form = accepted-andThen _ _ (range .1) in
+    (accepted-within 1023 w _ _ (range .0), eqb-false (w / 512) (w / 256 % 2) (accepted-refuseIf _ _ _ (form .0)))
 
 -- in a byte's word the ones among b8 to b0 are even in number, and b9 is the inverse of b8
 pub word-even : (b : ℕ) → b < 256

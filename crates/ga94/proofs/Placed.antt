@@ -31,7 +31,7 @@ use Rattle.stuffing.specs.Zeros.{FirstOne}
 use Rattle.stuffing.proofs.Numbered.{zero-only, first-one}
 use Rattle.ga94.specs.Reading.{missing, identifierIn, additionalIn, countIn, headVerdict, markerVerdict, constructsVerdict, closingVerdict, contentVerdict}
 use Rattle.ga94.specs.Places.{Element, atsc-identifier, user-data-type-code, flags-byte, additional-data-flag, cc-count, em-data, construct, marker-bits, closing}
-use Rattle.ga94.specs.Places.{begins, bitCount, elementIn, HasIn, zerosIn, Complete, Stands}
+use Rattle.ga94.specs.Places.{firstBit, bitCount, elementIn, HasIn, zerosIn, Complete, Stands}
 use Rattle.ga94.specs.Places.{ends-5, identifier-6, type-code-6, additional-16, marker-18, closing-18, zeros-19}
 use Rattle.ga94.proofs.Constructs.{accepted-missing, constructs-within}
 
@@ -49,14 +49,14 @@ module _ (body : List ℕ) (bytes : Bytes body) where
   check-only = bit-only (8 * length body) (Stands xs)
 
   -- an element that fills k bytes from byte i on
-  missing-only : (e : Element) (i k : ℕ) → begins e ≡ 8 * i → bitCount e ≡ 8 * k → HasIn xs e → i ≤ length body → Only Here (missing i k body)
+  missing-only : (e : Element) (i k : ℕ) → firstBit e ≡ 8 * i → bitCount e ≡ 8 * k → HasIn xs e → i ≤ length body → Only Here (missing i k body)
   unfolding missing
   missing-only e i k b c has h =
       check-only (ltb (length body) (i + k)) Ends (8 * i) (omega arith) (λ t.
       let few : length body < i + k = ltb-true (length body) (i + k) t in
       ends-5 e refl has (sym b) (omega (arith, long)) (omega (arith, long, c)))
 
-  complete : (e : Element) (i k : ℕ) → begins e + bitCount e ≤ 8 * (i + k) → HasIn xs e → i + k ≤ length body → Complete xs e (begins e)
+  complete : (e : Element) (i k : ℕ) → firstBit e + bitCount e ≤ 8 * (i + k) → HasIn xs e → i + k ≤ length body → Complete xs e (firstBit e)
   complete e i k inner has there = record { has = has; here = refl; all = omega (arith, long, inner, there) }
 
   -- THE HEAD

@@ -105,7 +105,7 @@ refused-zero = accepting.refused-zero
 
 -- WHAT THE LAYOUT HAS THERE
 
--- In the layout of every legal value each element stands where `begins` (specs/Places) says, and is the value's number:
+-- In the layout of every legal value each element stands where `firstBit` (specs/Places) says, and is the value's number:
 -- the marker_bits of a construct are 1 1 1 1 1, the closing ones FF.
 pub layout-elements : (c : Content) → Legal c → (e : Element) → Has (length (c .records)) e
     → elementIn (bitsOf (layout c)) e ≡ valueIn c e

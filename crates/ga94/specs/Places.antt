@@ -27,16 +27,16 @@ pub data Element : Type 0 where
   closing : ℕ → Element
 
 -- the bit of the body at which an element begins
-abbrev pub begins : Element → ℕ
-begins atsc-identifier = 0
-begins user-data-type-code = 32
-begins flags-byte = 40
-begins additional-data-flag = 42
-begins cc-count = 43
-begins em-data = 48
-begins (construct i) = 8 * (7 + 3 * i)
-begins (marker-bits i) = 8 * (7 + 3 * i)
-begins (closing n) = 8 * (7 + 3 * n)
+abbrev pub firstBit : Element → ℕ
+firstBit atsc-identifier = 0
+firstBit user-data-type-code = 32
+firstBit flags-byte = 40
+firstBit additional-data-flag = 42
+firstBit cc-count = 43
+firstBit em-data = 48
+firstBit (construct i) = 8 * (7 + 3 * i)
+firstBit (marker-bits i) = 8 * (7 + 3 * i)
+firstBit (closing n) = 8 * (7 + 3 * n)
 
 -- how many bits it has
 abbrev pub bitCount : Element → ℕ
@@ -52,7 +52,7 @@ bitCount (closing n) = 8
 
 -- the number that stands there
 abbrev pub elementIn : List ℕ → Element → ℕ
-elementIn xs e = field xs (begins e) (bitCount e)
+elementIn xs e = field xs (firstBit e) (bitCount e)
 
 -- which elements a body with this cc_count has
 abbrev pub Has : ℕ → Element → Type 0
@@ -78,14 +78,14 @@ zerosIn xs = 8 * (8 + 3 * elementIn xs cc-count)
 -- an element that the body has begins at the bit, and all of it is there
 pub record Complete (xs : List ℕ) (e : Element) (bit : ℕ) : Type 0 where
   pub has : HasIn xs e
-  pub here : bit ≡ begins e
+  pub here : bit ≡ firstBit e
   pub all : bit + bitCount e ≤ length xs
 
 -- what is wrong at the bit of a body, for each number that reading gives
 pub data Stands (xs : List ℕ) (number bit : ℕ) : Type 0 where
   -- an element begins there, and fewer bits are left than it has
   ends-5 : (e : Element) → number ≡ 5
-      → HasIn xs e → bit ≡ begins e → bit ≤ length xs → length xs < bit + bitCount e
+      → HasIn xs e → bit ≡ firstBit e → bit ≤ length xs → length xs < bit + bitCount e
       → Stands xs number bit
   -- another identifier, or another type; an area has no GA94 unit of this kind
   identifier-6 : number ≡ 6

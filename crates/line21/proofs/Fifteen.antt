@@ -24,10 +24,10 @@ use Rattle.line21.specs.Layout.{layout}
 use Rattle.line21.specs.Writing.{unitVerdict, unitsVerdict, valueVerdict}
 use Rattle.line21.proofs.Numbers.{checked-legal}
 
-abbrev Is15 : Refusal → Type 0
+abbrev pub Is15 : Refusal → Type 0
 Is15 r = r ≡ refused 15 0
 
-unit-15 : (u : AccessUnit) → Gives Is15 (unitVerdict u)
+pub unit-15 : (u : AccessUnit) → Gives Is15 (unitVerdict u)
 unfolding unitVerdict
 unit-15 u =
     andThen-gives Is15 _ _ (refuseIf-gives Is15 (ltb 1 (u .«cc_valid_1»)) (Unholdable CcValid) Whole refl)

@@ -11,7 +11,9 @@ pub mod LentBack
 pub mod Sequence
 pub mod Accepting
 pub mod Refusing
+pub mod Placed
 pub mod Writing
+pub mod Unplaced
 pub mod BothWays
 pub mod LentTheorems
 pub mod Determined

@@ -16,16 +16,16 @@ use Rattle.line21.specs.Order.{readingChecks}
 use Rattle.line21.proofs.Answers.{answer-refusal, refused-nothing}
 use Rattle.line21.proofs.Sequence.{reading-order}
 
-pub refused-2 : (s : List ℕ) (r : Answer) → Reads s r → length s ≡ 0 → r .refusal ≡ refused 2 0
+pub refused-2 : (s : List ℕ) (r : Answer) → Reads s r → length s ≡ 0 → r .refusal ≡ refused 2 (length s)
 unfolding lengthVerdict
 refused-2 s r p e = ap (λ (a : Answer). a .refusal) (p .answer) ∙ simp (eq-eqb (length s) 0 e)
 
-pub refused-1 : (s : List ℕ) (r : Answer) → Reads s r → 1456 < length s → r .refusal ≡ refused 1 0
+pub refused-1 : (s : List ℕ) (r : Answer) → Reads s r → 1456 < length s → r .refusal ≡ refused 1 (length s)
 unfolding lengthVerdict
 refused-1 s r p h = ap (λ (a : Answer). a .refusal) (p .answer) ∙ simp (ne-eqb (length s) 0 (omega arith), lt-ltb 1456 (length s) h)
 
 pub refused-13 : (s : List ℕ) (r : Answer) → Reads s r → 0 < length s → length s ≤ 1456 → ((length s - 1) % 5 ≡ 0 → ⊥)
-    → r .refusal ≡ refused 13 0
+    → r .refusal ≡ refused 13 (length s)
 unfolding lengthVerdict
 refused-13 s r p some within h =
     ap (λ (a : Answer). a .refusal) (p .answer)

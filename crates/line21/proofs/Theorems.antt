@@ -1,7 +1,7 @@
 -- The theorems of the Line 21 payload (docs/RULES.md, "Demands", "Line 21 payload" and "Order of checks"). What they
 -- speak of is defined in specs/: a value and when it is legal in Value; its bytes in Layout, without the reader; what
 -- reading answers in Reading; what writing answers and leaves in Writing; units as bytes in a lent array in Lent; the
--- checks of each call, as one list, in Order.
+-- checks of each call, as one list, in Order; what is wrong with the length that a refusal tells in Places.
 -- How to read it: docs/NOTATION.md.
 --
 -- The contracts of `read`, `read_head`, `read_unit` and `read_into` are the promises `Reads`, `ReadsHead`, `ReadsUnit`
@@ -31,12 +31,15 @@ use Rattle.line21.specs.Reading.{lengthVerdict, headOf, Reads, ReadsHead
 use Rattle.line21.specs.Writing.{valueVerdict, Writes}
 use Rattle.line21.specs.Lent.{accessUnitsBytes, accessUnitsIn, payloadIn, ReadsInto}
 use Rattle.line21.specs.Order.{readingChecks, writingChecks}
+use Rattle.line21.specs.Places.{Stands}
 use Rattle.line21.proofs.Answers as answers
 use Rattle.line21.proofs.Accepting as accepting
 use Rattle.line21.proofs.Refusing as refusing
+use Rattle.line21.proofs.Placed as placed
 use Rattle.line21.proofs.Sequence as sequence
 use Rattle.line21.proofs.LentUnits as lent-units
 use Rattle.line21.proofs.Writing as writing
+use Rattle.line21.proofs.Unplaced as unplaced
 use Rattle.line21.proofs.BothWays as both-ways
 use Rattle.line21.proofs.LentTheorems as lent-theorems
 use Rattle.line21.proofs.Determined as determined
@@ -66,15 +69,15 @@ pub any-data : (u : AccessUnit) (a b c d : ℕ) → a < 256 → b < 256 → c < 
     → LegalAccessUnit u → LegalAccessUnit (withData u a b c d)
 any-data = accepting.any-data
 
--- Bad input gets 2, 1 or 13, in this order,
-pub refused-2 : (s : List ℕ) (r : Answer) → Reads s r → length s ≡ 0 → r .refusal ≡ refused 2 0
+-- Bad input gets 2, 1 or 13, in this order, and its length as place,
+pub refused-2 : (s : List ℕ) (r : Answer) → Reads s r → length s ≡ 0 → r .refusal ≡ refused 2 (length s)
 refused-2 = refusing.refused-2
 
-pub refused-1 : (s : List ℕ) (r : Answer) → Reads s r → 1456 < length s → r .refusal ≡ refused 1 0
+pub refused-1 : (s : List ℕ) (r : Answer) → Reads s r → 1456 < length s → r .refusal ≡ refused 1 (length s)
 refused-1 = refusing.refused-1
 
 pub refused-13 : (s : List ℕ) (r : Answer) → Reads s r → 0 < length s → length s ≤ 1456 → ((length s - 1) % 5 ≡ 0 → ⊥)
-    → r .refusal ≡ refused 13 0
+    → r .refusal ≡ refused 13 (length s)
 refused-13 = refusing.refused-13
 
 -- and no other input is refused.
@@ -101,6 +104,22 @@ pub read-into-as-read : (s lent : List ℕ) (r : Head) (exit : List ℕ) → Rea
     → (r ≡ headOf a) × (a .refusal .number ≡ 0 → exit ≡ accessUnitsBytes (a .payload .units))
     × ((a .refusal .number ≡ 0 → ⊥) → exit ≡ lent)
 read-into-as-read = lent-theorems.read-into-as-read
+
+-- WHAT STANDS AT THE PLACE
+
+-- The place of a refusal is the length of the payload,
+pub place-length : (s : List ℕ) (r : Answer) → Reads s r → (r .refusal .number ≡ 0 → ⊥) → r .refusal .place ≡ length s
+place-length = placed.place-length
+
+-- and what is wrong with this length is a case of `Stands` with the refusal's number: none, too long, no whole units.
+pub place-means : (s : List ℕ) (r : Answer) → Reads s r → (r .refusal .number ≡ 0 → ⊥)
+    → Stands s (r .refusal .number) (r .refusal .place)
+place-means = placed.place-means
+
+-- Each case is a fault: a payload of which one holds is refused.
+pub stands-refused : (s : List ℕ) (r : Answer) → Reads s r → (number place : ℕ) → Stands s number place
+    → r .refusal .number ≡ 0 → ⊥
+stands-refused = placed.stands-refused
 
 -- WRITING
 
@@ -142,6 +161,11 @@ legal-short = writing.legal-short
 pub no-room-refused : (p : Payload) (out : List ℕ) (r : Written) (exit : List ℕ) → Writes p out r exit
     → LegalPayload p → length out < length (layout (held p)) → r .refusal ≡ refused 14 0
 no-room-refused = writing.no-room-refused
+
+-- Writing has no place to tell: it is 0, whatever the answer.
+pub write-place : (p : Payload) (out : List ℕ) (r : Written) (exit : List ℕ) → Writes p out r exit
+    → r .refusal .place ≡ 0
+write-place = unplaced.write-place
 
 -- A refused call counted nothing and changed nothing.
 pub refused-untouched : (p : Payload) (out : List ℕ) (r : Written) (exit : List ℕ) → Writes p out r exit

@@ -4,3 +4,4 @@ pub mod Reading
 pub mod Writing
 pub mod Lent
 pub mod Order
+pub mod Places

@@ -80,23 +80,25 @@ module _ (k : Kind) where
           told = ap (λ (f : Found). answerOf k (foundVerdict k f s) (foundContent k f s)) e;
         }
 
+    -- the only caption unit is of bytes, and the units around it are foreign
+    pub alone-foreign : (unit end : ℕ) (w : Alone (ours k) s unit end) → Each (Foreign k) (w .before) × Bytes (w .body) × Each (Foreign k) (w .after)
+    alone-foreign unit end w =
+        let all = each-bytes (w .before ++ (w .body ∷ w .after)) (each-append Clean (w .before) (w .body ∷ w .after) (w .clean-before) (w .clean, w .clean-after)) (w .short) (w .whole) in
+        let parts = append-each Bytes (w .before) (w .body ∷ w .after) all in
+        (foreign (w .before) (w .clean-before) (parts .0) (w .foreign-before), parts .1 .0, foreign (w .after) (w .clean-after) (parts .1 .1) (w .foreign-after))
+
     captioned-back : (unit end : ℕ) → captionsIn k s ≡ found.At unit end → contentVerdict k (part (unit + 4) end s) ≡ Accepted → Back k s
     captioned-back unit end e ok =
         let w : Alone (ours k) s unit end = found-at (ours k) s unit end e in
-        let all = each-bytes (w .before ++ (w .body ∷ w .after)) (each-append Clean (w .before) (w .body ∷ w .after) (w .clean-before) (w .clean, w .clean-after)) (w .short) (w .whole) in
-        let parts = append-each Bytes (w .before) (w .body ∷ w .after) all in
+        let around = alone-foreign unit end w in
         let good : contentVerdict k (w .body) ≡ Accepted = subst (λ (b : List ℕ). contentVerdict k b ≡ Accepted) (w .lies) ok in
         let c = valueOf k (w .body) in
-        let laid : bodyOf k c ≡ w .body = value-body k (w .body) (parts .1 .0) good in
+        let laid : bodyOf k c ≡ w .body = value-body k (w .body) (around .1) good in
         let same : layout k (captioned (w .before) c (w .after)) ≡ s = ap (λ (b : List ℕ). units.layout (w .before ++ (b ∷ w .after))) laid ∙ w .whole in
         record {
           value = captioned (w .before) c (w .after);
           legal = record {
-            units = (
-              foreign (w .before) (w .clean-before) (parts .0) (w .foreign-before),
-              value-legal k (w .body) (parts .1 .0) good,
-              foreign (w .after) (w .clean-after) (parts .1 .1) (w .foreign-after),
-            );
+            units = (around .0, value-legal k (w .body) (around .1) good, around .2);
             short = subst (λ (t : List ℕ). length t ≤ 16384) (sym same) (w .short);
           };
           same = same;

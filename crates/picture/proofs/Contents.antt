@@ -27,7 +27,7 @@ use Rattle.scte20.proofs.Sizes as scte20-sizes
 use Rattle.scte20.proofs.Sizes.{begins}
 use Rattle.scte20.proofs.Contents as scte20-contents
 use Rattle.scte20.proofs.Layouts as scte20-layouts
-use Rattle.scte20.proofs.Numbered as scte20-numbered
+use Rattle.scte20.proofs.Placed as scte20-placed
 use Rattle.scte20.proofs.Quiet as scte20-quiet
 use Rattle.scte20.proofs.Sequence as scte20-sequence
 use Rattle.scte20.proofs.Writable as scte20-writable
@@ -37,13 +37,13 @@ use Rattle.ga94.specs.Value as ga94
 use Rattle.ga94.proofs.Sizes as ga94-sizes
 use Rattle.ga94.proofs.Contents as ga94-contents
 use Rattle.ga94.proofs.Layouts as ga94-layouts
-use Rattle.ga94.proofs.Numbered as ga94-numbered
+use Rattle.ga94.proofs.Placed as ga94-placed
 use Rattle.ga94.proofs.Quiet as ga94-quiet
 use Rattle.ga94.proofs.Sequence as ga94-sequence
 use Rattle.ga94.proofs.Writable as ga94-writable
 use Rattle.ga94.proofs.Lending as ga94-lending
 use Rattle.ga94.proofs.Theorems as ga94-theorems
-use Rattle.picture.specs.Kinds.{Content, LegalContent, none, bodyOf, contentVerdict, valueOf, highest, bodyChecks}
+use Rattle.picture.specs.Kinds.{Content, LegalContent, none, bodyOf, contentVerdict, valueOf, Stands, bodyChecks}
 use Rattle.picture.specs.Kinds.{CaptionUnit, stored, held, LegalCaptionUnit, Typed, stuffing, wholeVerdict, writeVerdict, ForValue, valueChecks}
 use Rattle.picture.specs.Kinds.{Numbers, count, width, places, unitIn, numbersOf, bytesOf}
 
@@ -84,11 +84,11 @@ pub only-one : (k : Kind) (c d : Content k) → LegalContent k c → LegalConten
 only-one Scte20 c d h g e = scte20-theorems.only-one c d h g e
 only-one Ga94 c d h g e = ga94-theorems.only-one c d h g e
 
--- a body within the limit is refused at a bit of it or at its end
-pub content-placed : (k : Kind) (s : List ℕ) → length s ≤ 16384 → (reason : Reason) (item : Item) → contentVerdict k s ≡ Refused reason item
-    → AtBit 5 (highest k) (8 * length s) reason item
-content-placed Scte20 s short reason item e = scte20-numbered.content-placed s short reason item e
-content-placed Ga94 s short reason item e = ga94-numbered.content-placed s short reason item e
+-- a body within the limit is refused at a bit of it or at its end, and there stands what the number says
+pub content-placed : (k : Kind) (s : List ℕ) → Bytes s → length s ≤ 16384 → (reason : Reason) (item : Item) → contentVerdict k s ≡ Refused reason item
+    → AtBit (8 * length s) (Stands k s) reason item
+content-placed Scte20 s b short reason item e = scte20-placed.content-placed s short reason item e
+content-placed Ga94 s b short reason item e = ga94-placed.content-placed s b short reason item e
 
 pub body-order : (k : Kind) (s : List ℕ) → contentVerdict k s ≡ first (bodyChecks k s)
 body-order Scte20 s = scte20-sequence.reading-order s

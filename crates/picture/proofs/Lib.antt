@@ -9,6 +9,7 @@ pub mod Sequence
 pub mod Replaced
 pub mod Spots
 pub mod Accepting
+pub mod Standing
 pub mod Refusing
 pub mod Writing
 pub mod Replacing

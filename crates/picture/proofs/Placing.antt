@@ -5,6 +5,7 @@ use native.Mathlib.Omega.{arith}
 use mathlib.Core.Path.{_≡_, _∙_, ap, sym, subst}
 use mathlib.Core.List.{List}
 use lib.ListN.{length}
+use Rattle.lists.specs.Bytes.{Bytes}
 use Rattle.lists.specs.Part.{part}
 use Rattle.lists.proofs.Part.{length-part}
 use Rattle.refusal.specs.declared.Reason.{Reason}
@@ -19,6 +20,7 @@ use Rattle.picture.specs.Kinds.{contentVerdict}
 use Rattle.picture.specs.Reading.{captionsIn}
 use Rattle.picture.specs.Inside.{Near}
 use Rattle.picture.proofs.Contents.{content-placed}
+use Rattle.picture.proofs.Areas.{alone-foreign}
 
 module _ (k : Kind) where
   module _ (s : List ℕ) (unit end : ℕ) (e : captionsIn k s ≡ found.At unit end) where
@@ -31,8 +33,10 @@ module _ (k : Kind) where
     body-short : length (part (unit + 4) end s) ≤ 16384
     body-short = omega (arith, length-part s (unit + 4) end (unit-within .1), unit-within .1, unit-within .2)
 
-    pub body-near : (reason : Reason) (item : Item) → contentVerdict k (part (unit + 4) end s) ≡ Refused reason item → Near item
-    body-near reason item refused =
-        let bit = content-placed k (part (unit + 4) end s) body-short reason item refused in
+    pub body-near : Bytes s → (reason : Reason) (item : Item) → contentVerdict k (part (unit + 4) end s) ≡ Refused reason item → Near item
+    body-near bytes reason item refused =
+        let w : Alone (ours k) s unit end = found-at (ours k) s unit end e in
+        let mine : Bytes (part (unit + 4) end s) = subst Bytes (sym (w .lies)) (alone-foreign k s bytes unit end w .1) in
+        let bit = content-placed k (part (unit + 4) end s) mine body-short reason item refused in
         let within : bit .bit ≤ 1048576 = omega (arith, bit .within, body-short) in
         subst Near (sym (bit .here)) within

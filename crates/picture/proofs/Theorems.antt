@@ -18,23 +18,25 @@ use mathlib.Core.Path.{_≡_}
 use mathlib.Core.Logic.{_↔_}
 use mathlib.Core.Bool.{true, false}
 use mathlib.Core.List.{List, [], _∷_, _++_}
-use lib.ListN.{length, take}
+use lib.ListN.{length, take, drop}
 use Rattle.lists.specs.Each.{Each}
 use Rattle.lists.specs.Bytes.{Bytes}
 use Rattle.lists.specs.Room.{filled, over}
 use Rattle.refusal.specs.declared.Reason.{Reason}
 use Rattle.refusal.specs.declared.Item.{Item}
+use Rattle.refusal.specs.declared.Item.the-variants.{Bit}
 use Rattle.refusal.specs.declared.Verdict.the-variants.{Accepted, Refused}
 use Rattle.refusal.specs.declared.Written.{Written}
 use Rattle.refusal.specs.Numbers.{numberOf, refusalOf}
 use Rattle.refusal.specs.Checks.{first}
 use Rattle.refusal.specs.Answers.{accepted, refused, written}
+use Rattle.bits.specs.Bits.{bitsOf}
 use Rattle.units.specs.Layout.{Clean, startCode}
 use Rattle.units.specs.Layout as units
 use Rattle.units.specs.Split.{bodiesOf, ofKind}
 use Rattle.kind.specs.declared.Kind.{Kind}
 use Rattle.kind.specs.Ours.{ours}
-use Rattle.picture.specs.Kinds.{Content, LegalContent, none, bodyOf, contentVerdict, highest}
+use Rattle.picture.specs.Kinds.{Content, LegalContent, none, bodyOf, contentVerdict, Stands}
 use Rattle.picture.specs.Kinds.{CaptionUnit, stored, held, LegalCaptionUnit, stuffing, wholeVerdict, writeVerdict}
 use Rattle.picture.specs.Kinds.{ForValue, Numbers, count, width, places, unitIn, bytesOf}
 use Rattle.picture.specs.declared.Spot.{Spot}
@@ -43,11 +45,13 @@ use Rattle.picture.specs.Reading.{areaVerdict, Answer, shown, Reads, Ali
 use Rattle.picture.specs.Lent.{Head, headOf, ReadsInto}
 use Rattle.picture.specs.Inside.{ReadsOld}
 use Rattle.picture.specs.Writing.{unitBytes, Writes, replaceVerdict, Replaces}
+use Rattle.picture.specs.Places.{areaBit, InUnit}
 use Rattle.picture.specs.Order.{readingChecks, writingChecks, replacingChecks}
 use Rattle.picture.proofs.Accepting as accepting
 use Rattle.picture.proofs.Unique as unique
 use Rattle.picture.proofs.Sequence as sequence
 use Rattle.picture.proofs.Refusing as refusing
+use Rattle.picture.proofs.Standing as standing
 use Rattle.picture.proofs.CleanBody as clean-body
 use Rattle.picture.proofs.Writing as writing
 use Rattle.picture.proofs.Replaced as value-replaced
@@ -116,15 +120,36 @@ pub refused-4 : (k : Kind) (bs : List (List ℕ)) (r : Answer k) → Reads k (un
     → length (units.layout bs) ≤ 16384 → 2 ≤ length (ofKind (ours k) bs) → r .refusal ≡ refused 4 0
 refused-4 = refusing.refused-4
 
--- 5 on: the caption unit's own, at the unit's first byte.
+-- 5 on: the caption unit's own, at the bit of the area where the failing element of its body begins, and there stands
+-- what `Stands` (specs/Kinds) says of the number.
 pub refused-content : (k : Kind) (before : List (List ℕ)) (body : List ℕ) (after : List (List ℕ)) (r : Answer k)
     → Reads k (units.layout (before ++ (body ∷ after))) r
-    → Each (Foreign k) before → Clean body → ours k body ≡ true → Each (Foreign k) after
+    → Each (Foreign k) before → Clean body → Bytes body → ours k body ≡ true → Each (Foreign k) after
     → length (units.layout (before ++ (body ∷ after))) ≤ 16384
     → (reason : Reason) (item : Item) → contentVerdict k body ≡ Refused reason item
-    → (r .refusal ≡ refused (numberOf reason) (length (units.layout before)))
-    × (5 ≤ numberOf reason) × (numberOf reason ≤ highest k)
+    → (bit : ℕ) × (r .refusal ≡ refused (numberOf reason) (areaBit before bit)) × (item ≡ Bit bit)
+    × Stands k body (numberOf reason) bit
 refused-content = refusing.refused-content
+
+-- WHAT STANDS AT THE PLACE
+
+-- 1 to 4 have place 0.
+pub place-outside : (k : Kind) (s : List ℕ) (r : Answer k) → Reads k s r
+    → r .refusal .number ≤ 4 → r .refusal .place ≡ 0
+place-outside = standing.place-outside
+
+-- Every other refusal comes from inside the body of the only caption unit. The place is a bit of that body, counted from
+-- the area's first, and there stands what is wrong (`InUnit`, specs/Places): for each number, from the bits alone, what
+-- `Stands` of crates `scte20` and `ga94` says. 6 is not among them.
+pub place-inside : (k : Kind) (s : List ℕ) (r : Answer k) → Reads k s r
+    → 5 ≤ r .refusal .number → InUnit k s (r .refusal .number) (r .refusal .place)
+place-inside = standing.place-inside
+
+-- From that place on the area has the bits of the body from that bit on, and then those of the units behind it.
+pub area-bits : (before : List (List ℕ)) (body : List ℕ) (after : List (List ℕ)) (bit : ℕ) → bit ≤ 8 * length body
+    → drop (areaBit before bit) (bitsOf (units.layout (before ++ (body ∷ after))))
+    ≡ drop bit (bitsOf body) ++ bitsOf (units.layout after)
+area-bits = standing.area-bits
 
 -- NO START CODE IS MADE
 

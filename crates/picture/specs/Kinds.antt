@@ -4,6 +4,7 @@ use Prim.Native.Nat.{ℕ}
 use mathlib.Core.List.{List}
 use Rattle.refusal.specs.declared.Refusal.{Refusal}
 use Rattle.refusal.specs.declared.Verdict.{Verdict}
+use Rattle.bits.specs.Bits.{bitsOf}
 use Rattle.kind.specs.declared.Kind.{Kind}
 use Rattle.kind.specs.declared.Kind.the-variants.{Scte20, Ga94}
 use Rattle.scte20.specs.declared.Numbers as scte20-numbers
@@ -14,6 +15,7 @@ use Rattle.scte20.specs.Reading as scte20-reading
 use Rattle.scte20.specs.Writing as scte20-writing
 use Rattle.scte20.specs.Lent as scte20-lent
 use Rattle.scte20.specs.Order as scte20-order
+use Rattle.scte20.specs.Places as scte20-places
 use Rattle.ga94.specs.declared.Numbers as ga94-numbers
 use Rattle.ga94.specs.Value as ga94
 use Rattle.ga94.specs.Layout as ga94-layout
@@ -21,6 +23,7 @@ use Rattle.ga94.specs.Reading as ga94-reading
 use Rattle.ga94.specs.Writing as ga94-writing
 use Rattle.ga94.specs.Lent as ga94-lent
 use Rattle.ga94.specs.Order as ga94-order
+use Rattle.ga94.specs.Places as ga94-places
 
 -- THE VALUE
 
@@ -52,10 +55,10 @@ abbrev pub valueOf : (k : Kind) → List ℕ → Content k
 valueOf Scte20 s = scte20-reading.valueOf s
 valueOf Ga94 s = ga94-reading.valueOf s
 
--- the highest number that a check of a body gives; the lowest is 5
-abbrev pub highest : Kind → ℕ
-highest Scte20 = 10
-highest Ga94 = 16
+-- what is wrong at a bit of a body, for each number that reading it gives
+abbrev pub Stands : Kind → List ℕ → ℕ → ℕ → Type 0
+Stands Scte20 s number bit = scte20-places.Stands (bitsOf s) number bit
+Stands Ga94 s number bit = ga94-places.Stands (bitsOf s) number bit
 
 -- all checks of a body, in the order of RULES
 abbrev pub bodyChecks : Kind → List ℕ → List Verdict

@@ -5,3 +5,4 @@ pub mod Writing
 pub mod Lent
 pub mod Inside
 pub mod Order
+pub mod Places

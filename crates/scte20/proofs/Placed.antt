@@ -36,7 +36,7 @@ use Rattle.scte20.specs.Layout.{padding}
 use Rattle.scte20.specs.Rules.{falls, notRising, recordVerdict}
 use Rattle.scte20.specs.Reading.{missing, constructAt, markerVerdict, constructsVerdict, sampledVerdict, restVerdict, headVerdict, flagIn, countIn, flagVerdict, contentVerdict}
 use Rattle.scte20.specs.Places.{Element, user-data-type-code, reserved-bits, vbi-data-flag, cc-count, construct, cc-priority, field-number, line-offset, marker, video-count}
-use Rattle.scte20.specs.Places.{begins, bitCount, elementIn, HasIn, bitsIn, zerosIn, urgentIn, Complete, Stands}
+use Rattle.scte20.specs.Places.{firstBit, bitCount, elementIn, HasIn, bitsIn, zerosIn, urgentIn, Complete, Stands}
 use Rattle.scte20.specs.Places.{ends-5, type-code-6, field-zero-7, field-falls-8, line-stays-8, fifth-9, video-count-10, marker-18, zeros-19}
 use Rattle.scte20.proofs.Constructs.{accepted-missing, constructs-within}
 use Rattle.scte20.proofs.Stepwise.{behind}
@@ -66,10 +66,10 @@ module _ (xs : List ℕ) (are : AreBits xs) where
   check-only : (fault : Bool) (reason : Reason) (b : ℕ) → b ≤ length xs → (fault ≡ true → Stands xs (numberOf reason) b) → Only Here (refuseIf fault reason (Bit b))
   check-only = bit-only (length xs) (Stands xs)
 
-  missing-only : (e : Element) → HasIn xs e → begins e ≤ length xs → Only Here (missing (begins e) (bitCount e) xs)
+  missing-only : (e : Element) → HasIn xs e → firstBit e ≤ length xs → Only Here (missing (firstBit e) (bitCount e) xs)
   unfolding missing
   missing-only e has h =
-      check-only (ltb (length xs) (begins e + bitCount e)) Ends (begins e) h (λ t. ends-5 e refl has refl h (ltb-true (length xs) (begins e + bitCount e) t))
+      check-only (ltb (length xs) (firstBit e + bitCount e)) Ends (firstBit e) h (λ t. ends-5 e refl has refl h (ltb-true (length xs) (firstBit e + bitCount e) t))
 
   -- the zeros behind the items, which take `at` bits
   rest-only : (at : ℕ) → at ≡ zerosIn xs → at ≤ length xs → Only Here (restVerdict at xs)
@@ -103,7 +103,7 @@ module _ (xs : List ℕ) (are : AreBits xs) where
     abbrev at : ℕ → ℕ
     at i = 21 + 26 * i
 
-    complete : (e : Element) (i : ℕ) → HasIn xs e → begins e + bitCount e ≤ at i + 26 → at i + 26 ≤ length xs → Complete xs e (begins e)
+    complete : (e : Element) (i : ℕ) → HasIn xs e → firstBit e + bitCount e ≤ at i + 26 → at i + 26 ≤ length xs → Complete xs e (firstBit e)
     complete e i has inner there = record { has = has; here = refl; all = omega (arith, inner, there) }
 
     -- what the records behind the first i constructs say, in bits

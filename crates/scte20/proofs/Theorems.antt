@@ -109,7 +109,7 @@ refused-zero = accepting.refused-zero
 
 -- WHAT THE LAYOUT HAS THERE
 
--- In the layout of every legal value each element stands where `begins` (specs/Places) says, and is the value's number:
+-- In the layout of every legal value each element stands where `firstBit` (specs/Places) says, and is the value's number:
 -- a marker 1, non_real_time_video_count 0.
 pub layout-elements : (c : Content) → Legal c → (e : Element) → Has (c .flag) (length (c .records)) e
     → elementIn (bitsOf (layout c)) e ≡ valueIn c e

@@ -29,17 +29,17 @@ pub data Element : Type 0 where
   video-count : ℕ → Element
 
 -- the bit of the body at which an element begins
-abbrev pub begins : Element → ℕ
-begins user-data-type-code = 0
-begins reserved-bits = 8
-begins vbi-data-flag = 15
-begins cc-count = 16
-begins (construct i) = 21 + 26 * i
-begins (cc-priority i) = 21 + 26 * i
-begins (field-number i) = 21 + 26 * i + 2
-begins (line-offset i) = 21 + 26 * i + 4
-begins (marker i) = 21 + 26 * i + 25
-begins (video-count n) = 21 + 26 * n
+abbrev pub firstBit : Element → ℕ
+firstBit user-data-type-code = 0
+firstBit reserved-bits = 8
+firstBit vbi-data-flag = 15
+firstBit cc-count = 16
+firstBit (construct i) = 21 + 26 * i
+firstBit (cc-priority i) = 21 + 26 * i
+firstBit (field-number i) = 21 + 26 * i + 2
+firstBit (line-offset i) = 21 + 26 * i + 4
+firstBit (marker i) = 21 + 26 * i + 25
+firstBit (video-count n) = 21 + 26 * n
 
 -- how many bits it has
 abbrev pub bitCount : Element → ℕ
@@ -56,7 +56,7 @@ bitCount (video-count n) = 4
 
 -- the number that stands there
 abbrev pub elementIn : List ℕ → Element → ℕ
-elementIn xs e = field xs (begins e) (bitCount e)
+elementIn xs e = field xs (firstBit e) (bitCount e)
 
 -- which elements a body with this flag and this cc_count has
 abbrev pub Has : ℕ → ℕ → Element → Type 0
@@ -95,14 +95,14 @@ urgentIn xs f (suc i) =
 -- an element that the body has begins at the bit, and all of it is there
 pub record Complete (xs : List ℕ) (e : Element) (bit : ℕ) : Type 0 where
   pub has : HasIn xs e
-  pub here : bit ≡ begins e
+  pub here : bit ≡ firstBit e
   pub all : bit + bitCount e ≤ length xs
 
 -- what is wrong at the bit of a body, for each number that reading gives
 pub data Stands (xs : List ℕ) (number bit : ℕ) : Type 0 where
   -- an element begins there, and fewer bits are left than it has
   ends-5 : (e : Element) → number ≡ 5
-      → HasIn xs e → bit ≡ begins e → bit ≤ length xs → length xs < bit + bitCount e
+      → HasIn xs e → bit ≡ firstBit e → bit ≤ length xs → length xs < bit + bitCount e
       → Stands xs number bit
   -- user_data_type_code is not 03; an area has no caption unit of this kind
   type-code-6 : number ≡ 6

@@ -7,7 +7,7 @@ use lib.ListN.{length, getD}
 use Rattle.refusal.specs.declared.Verdict.the-variants.{Accepted}
 use Rattle.refusal.proofs.Checks.{accepted-andThen, accepted-equal, accepted-within}
 use Rattle.anc.specs.Words.{wordsVerdict, sumVerdict, checksumOf}
-use Rattle.sdp.specs.User.{headVerdict, tailVerdict}
+use Rattle.sdp.specs.User.{headVerdict, tailVerdict, userVerdict}
 use Rattle.sdp.proofs.Accepted.{Head, accepted-head, Tail, accepted-tail}
 use Rattle.subtitling.specs.Reading.{coveredIn, userIn, lastWord, formVerdict, headerVerdict, checksumVerdict, packetVerdict}
 
@@ -63,6 +63,7 @@ accepted-checksum s e = accepted-equal _ _ _ _ e
 pub record Whole (s : List ℕ) : Type 0 where
   pub form : Form s
   pub header : Header s
+  pub user : userVerdict 5 (userIn s) ≡ Accepted
   pub head : Head 5 (userIn s)
   pub tail : Tail 5 (userIn s)
   pub checksum : lastWord s ≡ checksumOf (coveredIn s)
@@ -78,6 +79,7 @@ accepted-packet s e =
     record {
       form = accepted-form s (form .0);
       header = accepted-header s (header .0);
+      user = user .0;
       head = accepted-head 5 (userIn s) (both .0);
       tail = accepted-tail 5 (userIn s) (both .1);
       checksum = accepted-checksum s (checksum .0);

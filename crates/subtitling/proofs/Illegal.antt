@@ -26,10 +26,10 @@ use Rattle.sdp.specs.SlotVerdict.{allZero, unwritable, slotVerdict, slotsVerdic
 use Rattle.subtitling.specs.Writing.{valueVerdict}
 use Rattle.sdp.proofs.Numbers.{checked-legal}
 
-abbrev Is15or7 : Refusal → Type 0
+abbrev pub Is15or7 : Refusal → Type 0
 Is15or7 r = (r ≡ refused 15 0) ⊎ (r ≡ refused 7 0)
 
-slot-gives : (x : SlotRow) → Gives Is15or7 (slotVerdict x)
+pub slot-gives : (x : SlotRow) → Gives Is15or7 (slotVerdict x)
 unfolding slotVerdict lineVerdict
 slot-gives x =
     let s = x .slot in

@@ -10,7 +10,10 @@ pub mod Pieces
 pub mod Illegal
 pub mod Accepting
 pub mod Refusing
+pub mod Placed
+pub mod RightPlaces
 pub mod Writing
+pub mod Unplaced
 pub mod SlotTheorems
 pub mod BothWays
 pub mod LentTheorems

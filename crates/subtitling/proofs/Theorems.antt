@@ -1,7 +1,8 @@
 -- The theorems of the subtitling packet (docs/RULES.md, "Demands", "Subtitling packet" and "Order of checks"). What
 -- they speak of is defined in specs/: its words in Layout, without the reader; what reading answers in Reading; what
--- writing answers and leaves in Writing; the checks of each call, as one list, in Order. A value, when it is legal, its
--- user bytes and the rules over them are those of `sdp`, which has a page of theorems too.
+-- writing answers and leaves in Writing; the checks of each call, as one list, in Order; what stands at the place of a
+-- refusal in Places. A value, when it is legal, its user bytes and the rules over them are those of `sdp`, which has a
+-- page of theorems too.
 -- How to read it: docs/NOTATION.md.
 --
 -- The contracts of `read`, `read_rows` and `read_into` are the promises `Reads`, `ReadsRows` and `ReadsInto`; that of
@@ -10,7 +11,7 @@
 -- `Writes p rows out r exit`: writing p with its rows to an output that held `out` answers r and leaves `exit`. So each
 -- theorem speaks of every call.
 -- Assumes nothing.
-use Prim.Native.Nat.{ℕ, _+_, _*_, _≤_, _<_}
+use Prim.Native.Nat.{ℕ, _+_, _-_, _*_, _≤_, _<_}
 use mathlib.Core.Path.{_≡_}
 use mathlib.Core.Logic.{_⊎_, _↔_}
 use mathlib.Core.List.{List}
@@ -22,21 +23,27 @@ use Rattle.refusal.specs.declared.Verdict.the-variants.{Accepted}
 use Rattle.refusal.specs.Checks.{first}
 use Rattle.refusal.specs.Numbers.{refusalOf}
 use Rattle.refusal.specs.Answers.{accepted, refused, written}
+use Rattle.anc.specs.Words.{byteOf}
 use Rattle.sdp.specs.declared.Packet.{Packet}
 use Rattle.sdp.specs.Value.{SlotRow, Sdp, Legal, none, held, numbersOf, rowsOf}
-use Rattle.sdp.specs.Layout.{descriptorsOf, count}
+use Rattle.sdp.specs.Layout.{descriptorsOf, count, userBytes}
 use Rattle.sdp.specs.SlotVerdict.{slotVerdict}
 use Rattle.sdp.specs.SlotFaults.{Holdable, Unwritable, NoLine}
+use Rattle.sdp.specs.Places.{userWord}
 use Rattle.subtitling.specs.declared.Answer.{Answer}
 use Rattle.subtitling.specs.Layout.{layout}
-use Rattle.subtitling.specs.Reading.{packetVerdict, Reads, ReadsRows, ReadsInto}
+use Rattle.subtitling.specs.Reading.{userIn, packetVerdict, Reads, ReadsRows, ReadsInto}
 use Rattle.subtitling.specs.Writing.{valueVerdict, Writes}
 use Rattle.subtitling.specs.Order.{readingChecks, writingChecks, Reached}
+use Rattle.subtitling.specs.Places.{flagWords, identifierBytes, FlagBroken, Stands}
 use Rattle.sdp.proofs.Beside as beside
 use Rattle.subtitling.proofs.Accepting as accepting
 use Rattle.subtitling.proofs.Refusing as refusing
+use Rattle.subtitling.proofs.Placed as placed
+use Rattle.subtitling.proofs.RightPlaces as right-places
 use Rattle.subtitling.proofs.Sequence as sequence
 use Rattle.subtitling.proofs.Writing as writing
+use Rattle.subtitling.proofs.Unplaced as unplaced
 use Rattle.subtitling.proofs.SlotTheorems as slot-theorems
 use Rattle.subtitling.proofs.BothWays as both-ways
 use Rattle.subtitling.proofs.LentTheorems as lent-theorems
@@ -101,17 +108,52 @@ pub accepted-size : (s : List ℕ) (r : Answer) → Reads s r → r .refusal .nu
     → (k : ℕ) × (k ≤ 5) × (length s ≡ 20 + 45 * k)
 accepted-size = accepting.accepted-size
 
--- Longer ones are refused with 1, shorter ones with 5, whatever they hold.
-pub refused-1 : (s : List ℕ) (r : Answer) → Reads s r → 245 < length s → r .refusal ≡ refused 1 0
+-- Longer ones are refused with 1, shorter ones with 5, whatever they hold. The place is the number of words.
+pub refused-1 : (s : List ℕ) (r : Answer) → Reads s r → 245 < length s → r .refusal ≡ refused 1 (length s)
 refused-1 = refusing.refused-1
 
-pub refused-5 : (s : List ℕ) (r : Answer) → Reads s r → length s < 20 → r .refusal ≡ refused 5 0
+pub refused-5 : (s : List ℕ) (r : Answer) → Reads s r → length s < 20 → r .refusal ≡ refused 5 (length s)
 refused-5 = refusing.refused-5
 
--- One of the right length whose first three words are not the flag is refused with 2, whatever follows.
+-- One of the right length whose first three words are not the flag is refused with 2, whatever follows, at the first of
+-- them that is another.
 pub refused-2 : (s : List ℕ) (r : Answer) → Reads s r → 20 ≤ length s → length s ≤ 245
-    → (getD s 0 0 ≡ 0x000 → getD s 1 0 ≡ 0x3FF → getD s 2 0 ≡ 0x3FF → ⊥) → r .refusal ≡ refused 2 0
+    → (getD s 0 0 ≡ 0x000 → getD s 1 0 ≡ 0x3FF → getD s 2 0 ≡ 0x3FF → ⊥)
+    → (word : ℕ) × FlagBroken s word × (r .refusal ≡ refused 2 word)
 refused-2 = refusing.refused-2
+
+-- WHAT STANDS AT THE PLACE
+
+-- A refusal's place is a word, or with 1 and 5 the number of words, and what is wrong there is a case of `Stands` with
+-- its number, told of the words alone.
+pub place-means : (s : List ℕ) (r : Answer) → Reads s r → (r .refusal .number ≡ 0 → ⊥)
+    → Stands s (r .refusal .number) (r .refusal .place)
+place-means = placed.place-means
+
+-- Each case is a fault: where one stands, at any word, the packet is refused.
+pub stands-refused : (s : List ℕ) (r : Answer) → Reads s r → (number word : ℕ) → Stands s number word
+    → r .refusal .number ≡ 0 → ⊥
+stands-refused = right-places.stands-refused
+
+-- What is said of user byte i is said of the byte of word 6 + i.
+pub user-byte : (s : List ℕ) → 20 ≤ length s → (i : ℕ) → i < length (userIn s)
+    → getD (userIn s) i 0 ≡ byteOf (getD s (userWord 5 i) 0)
+user-byte = right-places.user-byte
+
+pub user-count : (s : List ℕ) → 20 ≤ length s → length (userIn s) ≡ length s - 7
+user-count = sequence.length-userIn
+
+-- A layout has the words and bytes that `Stands` asks for: the flag,
+pub layout-flag : (v : Sdp) (i : ℕ) → i < 3 → getD (layout v) i 0 ≡ getD flagWords i 0
+layout-flag = right-places.layout-flag
+
+-- DID and SDID,
+pub layout-identifier : (v : Sdp) (i : ℕ) → i < 2 → byteOf (getD (layout v) (3 + i) 0) ≡ getD identifierBytes i 0
+layout-identifier = right-places.layout-identifier
+
+-- and the user bytes of the value, whose fixed bytes are on the page of `sdp` (`layout-constant`, `layout-run-in`).
+pub layout-user : (v : Sdp) → Legal v → userIn (layout v) ≡ userBytes v
+layout-user = right-places.layout-user
 
 -- WRITING
 
@@ -180,6 +222,11 @@ pub no-room-refused : (p : Packet) (rows : List (List ℕ)) (out : List ℕ) (r 
     → Writes p rows out r exit → Legal (held p rows)
     → length out < length (layout (held p rows)) → r .refusal ≡ refused 14 0
 no-room-refused = writing.no-room-refused
+
+-- Writing has no place to tell: it is 0, whatever the answer.
+pub write-place : (p : Packet) (rows : List (List ℕ)) (out : List ℕ) (r : Written) (exit : List ℕ)
+    → Writes p rows out r exit → r .refusal .place ≡ 0
+write-place = unplaced.write-place
 
 -- A refused call counted nothing and changed nothing.
 pub refused-untouched : (p : Packet) (rows : List (List ℕ)) (out : List ℕ) (r : Written) (exit : List ℕ)
