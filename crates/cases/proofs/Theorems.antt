@@ -18,8 +18,8 @@ pub two-fault-cases : Each Decided two-faults
 two-fault-cases = faults.two-fault-cases
 
 -- No row is lost.
-pub starred-count : length table ≡ 24
+pub starred-count : length table ≡ 26
 starred-count = starred.starred-count
 
-pub two-fault-count : length two-faults ≡ 63
+pub two-fault-count : length two-faults ≡ 73
 two-fault-count = faults.two-fault-count

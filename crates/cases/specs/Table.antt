@@ -125,6 +125,10 @@ headLine =
     ∷ 0x6C ∷ 0x69 ∷ 0x6E ∷ 0x65 ∷ 0x20
     ∷ 0x64 ∷ 0x61 ∷ 0x74 ∷ 0x61 ∷ 0x0A ∷ []
 
+-- refused, and a space
+abbrev refusedText : List ℕ
+refusedText = 0x72 ∷ 0x65 ∷ 0x66 ∷ 0x75 ∷ 0x73 ∷ 0x65 ∷ 0x64 ∷ 0x20 ∷ []
+
 abbrev pub table : List Case
 table =
     -- case A: 00 00 01 B2 03 81 08 AC A4 D2 00: reserved 64, flag 1, one record, z = 0
@@ -135,24 +139,24 @@ table =
     ∷ area Scte20 (layoutUnit (0x03 ∷ 0x81 ∷ 0x00 ∷ 0x00 ∷ [])) accepted (withoutRecords 1 ∷ [])
     -- case D: 00 00 01 B2 03 80: flag 0
     ∷ area Scte20 (layoutUnit (0x03 ∷ 0x80 ∷ [])) accepted (withoutRecords 0 ∷ [])
-    -- case E: 00 00 01 B2 03: 5
-    ∷ area Scte20 (layoutUnit (0x03 ∷ [])) (refused 5 0) []
-    -- case F: A without its last byte: 5
-    ∷ area Scte20 (take 10 (marked 0xD2)) (refused 5 0) []
+    -- case E: 00 00 01 B2 03: 5 at reserved, bit 8 of the body
+    ∷ area Scte20 (layoutUnit (0x03 ∷ [])) (refused 5 40) []
+    -- case F: A without its last byte: 5 at the sampled video count, of which one bit is left
+    ∷ area Scte20 (take 10 (marked 0xD2)) (refused 5 79) []
     -- case G: empty area: none
     ∷ area Scte20 [] accepted []
     -- case H: 00 00 01 B3: 2
     ∷ area Scte20 (0x00 ∷ 0x00 ∷ 0x01 ∷ 0xB3 ∷ []) (refused 2 0) []
     -- case I: A twice: 4
     ∷ area Scte20 (marked 0xD2 ++ marked 0xD2) (refused 4 0) []
-    -- case J: A with D2 made D0 (marker): 6
-    ∷ area Scte20 (marked 0xD0) (refused 6 0) []
+    -- case J: A with D2 made D0 (marker): 18 at the marker
+    ∷ area Scte20 (marked 0xD0) (refused 18 78) []
     -- case Q: 00 00 01 B2 47 41 39 34 03 C1 FF FC 94 2C FF: flags 1, 1, 0, em_data 255, one record, z = 0
     ∷ area Ga94 q accepted (withPair ∷ [])
-    -- case R: 00 00 01 B2 47 41 39 34: 5
-    ∷ area Ga94 (take 8 q) (refused 5 0) []
-    -- case S: Q with C1 made E1 (third flag): 16
-    ∷ area Ga94 (flagged 0xE1) (refused 16 0) []
+    -- case R: 00 00 01 B2 47 41 39 34: 5 at the type, with which the body ends
+    ∷ area Ga94 (take 8 q) (refused 5 64) []
+    -- case S: Q with C1 made E1 (third flag): 16 at that flag
+    ∷ area Ga94 (flagged 0xE1) (refused 16 74) []
     -- case T: A, then Q, for SCTE 20: as A
     ∷ area Scte20 (marked 0xD2 ++ q) accepted (withRecord 0 ∷ [])
     -- case U: A, then Q, for GA94: as Q
@@ -166,13 +170,16 @@ table =
     ∷ prints (layoutUnit (0x03 ∷ 0x80 ∷ [])) headLine
     -- cclist G: none
     ∷ prints [] (0x6E ∷ 0x6F ∷ 0x6E ∷ 0x65 ∷ 0x0A ∷ [])
-    -- cclist E: refused 5 at 0
-    ∷ prints (layoutUnit (0x03 ∷ []))
-    (0x72 ∷ 0x65 ∷ 0x66 ∷ 0x75 ∷ 0x73 ∷ 0x65 ∷ 0x64 ∷ 0x20 ∷ 0x35 ∷ 0x20 ∷ 0x61 ∷ 0x74 ∷ 0x20 ∷ 0x30 ∷ 0x0A ∷ [])
+    -- cclist E: refused 5 at 40
+    ∷ prints (layoutUnit (0x03 ∷ [])) (refusedText ++ (0x35 ∷ 0x20 ∷ 0x61 ∷ 0x74 ∷ 0x20 ∷ 0x34 ∷ 0x30 ∷ 0x0A ∷ []))
+    -- cclist F: refused 5 at 79
+    ∷ prints (take 10 (marked 0xD2)) (refusedText ++ (0x35 ∷ 0x20 ∷ 0x61 ∷ 0x74 ∷ 0x20 ∷ 0x37 ∷ 0x39 ∷ 0x0A ∷ []))
+    -- cclist J: refused 18 at 78
+    ∷ prints (marked 0xD0) (refusedText ++ (0x31 ∷ 0x38 ∷ 0x20 ∷ 0x61 ∷ 0x74 ∷ 0x20 ∷ 0x37 ∷ 0x38 ∷ 0x0A ∷ []))
     -- case K: 20 words: five empty slots, counter 0
     ∷ packet (words 0x252) accepted empty
-    -- case L: K with last word 253: 12
-    ∷ packet (words 0x253) (refused 12 0) sdp.none
+    -- case L: K with last word 253: 12 at that word
+    ∷ packet (words 0x253) (refused 12 19) sdp.none
     -- case M: payload 00 80 94 2C 00 00: valid 1, 0; padding 0; 94 2C, 00 00
     ∷ payload (0x00 ∷ 0x80 ∷ 0x94 ∷ 0x2C ∷ 0x00 ∷ 0x00 ∷ []) accepted (units 0x00 (unit 1 0 0 0x94 0x2C 0x00 0x00 ∷ []))
     -- case N: payload 00: no units

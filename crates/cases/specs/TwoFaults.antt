@@ -1,6 +1,6 @@
 -- Inputs with two faults, and which of them decides: RULES, "Order of checks". A row names the call, its input, the
--- reason of the fault that decides, and its number (and the place, where there is one). The reason tells apart what
--- shares a number.
+-- reason of the fault that decides, its number and its place. The reason tells apart what shares a number. Writing has
+-- place 0.
 use Prim.Native.Nat.{ℕ}
 use mathlib.Core.Path.{_≡_}
 use mathlib.Core.List.{List, [], _∷_, _++_}
@@ -38,8 +38,8 @@ use Rattle.cases.specs.Table.{marked, q, unit}
 -- place
 pub data FaultCase : Type 0 where
   area : Kind → List ℕ → Reason → ℕ → ℕ → FaultCase
-  packet : List ℕ → Reason → ℕ → FaultCase
-  payload : List ℕ → Reason → ℕ → FaultCase
+  packet : List ℕ → Reason → ℕ → ℕ → FaultCase
+  payload : List ℕ → Reason → ℕ → ℕ → FaultCase
   writeUnit : (kind : Kind) → kinds.CaptionUnit kind → ℕ → Reason → ℕ → FaultCase
   writePacket : sdp.Sdp → ℕ → Reason → ℕ → FaultCase
   writePayload : Payload → ℕ → Reason → ℕ → FaultCase
@@ -55,8 +55,8 @@ Decides verdict reason number place = (why verdict ≡ reason ∷ []) × (refusa
 
 abbrev pub Decided : FaultCase → Type 0
 Decided (area kind s reason number place) = Decides (areaVerdict kind s) reason number place
-Decided (packet s reason number) = Decides (packetVerdict s) reason number 0
-Decided (payload s reason number) = Decides (lengthVerdict (length s)) reason number 0
+Decided (packet s reason number place) = Decides (packetVerdict s) reason number place
+Decided (payload s reason number place) = Decides (lengthVerdict (length s)) reason number place
 Decided (writeUnit kind u room reason number) =
     Decides (kinds.writeVerdict kind u (length (unitBytes kind (kinds.held kind u))) room) reason number 0
 Decided (writePacket v room reason number) = Decides (packets.valueVerdict v room) reason number 0
@@ -109,6 +109,14 @@ k did first long format line foot total cs =
     0x000 ∷ 0x3FF ∷ 0x3FF ∷ did ∷ 0x102 ∷ 0x10D ∷ first ∷ 0x115 ∷ long ∷ format
     ∷ line ∷ 0x200 ∷ 0x200 ∷ 0x200 ∷ 0x200 ∷ foot ∷ 0x200 ∷ 0x200 ∷ total ∷ cs ∷ []
 
+-- a packet of one structure of 55 55 27 and zeros, its first slot on line 6, with some of its words changed: the second
+-- descriptor, the run-in, the framing code, the footer; the checksums are not those of these words
+abbrev one : ℕ → ℕ → ℕ → ℕ → ℕ → List ℕ
+one line first second framing foot =
+    0x000 ∷ 0x3FF ∷ 0x3FF ∷ 0x143 ∷ 0x102 ∷ 0x23A ∷ 0x151 ∷ 0x115 ∷ 0x23A ∷ 0x102
+    ∷ 0x206 ∷ line ∷ 0x200 ∷ 0x200 ∷ 0x200 ∷ first ∷ second ∷ framing
+    ∷ (replicate 42 0x200 ++ (foot ∷ 0x200 ∷ 0x200 ∷ 0x200 ∷ 0x200 ∷ []))
+
 -- a value of caption content, held in a struct: reserved 64, flag 1
 abbrev value : List Record → ℕ → CaptionUnit
 value rs z = scte20.stored (record { reserved = 64; flag = 1; records = rs; z = z })
@@ -152,75 +160,96 @@ two-faults =
     ∷ area Scte20 (a ++ (a ++ (0x00 ∷ 0x00 ∷ 0x01 ∷ 0xB3 ∷ []))) StartCode 3 0
     -- 4 and content: two caption units, each with its marker 0
     ∷ area Scte20 (j ++ j) SecondUnit 4 0
-    -- 6 and 5: cc_count 31, and one construct there, its marker 0
-    ∷ area Scte20 (layoutUnit (0x03 ∷ 0x81 ∷ 0xF8 ∷ 0xAC ∷ 0xA4 ∷ 0xD0 ∷ 0x00 ∷ [])) (Unfixed fixed.Marker) 6 0
+    -- 18 and 5: cc_count 31, and one construct there, its marker 0
+    ∷ area Scte20 (layoutUnit (0x03 ∷ 0x81 ∷ 0xF8 ∷ 0xAC ∷ 0xA4 ∷ 0xD0 ∷ 0x00 ∷ [])) (Unfixed fixed.Marker) 18 78
     -- 5 and 7: a second construct of field 0, with only 25 bits left; the unit behind a foreign one
-    ∷ area Scte20 (foreign ++ layoutUnit (0x03 ∷ 0x81 ∷ 0x10 ∷ 0xAC ∷ 0xA4 ∷ 0xD2 ∷ 0x0B ∷ 0x29 ∷ 0x34 ∷ [])) Ends 5 5
+    ∷ area Scte20 (foreign ++ layoutUnit (0x03 ∷ 0x81 ∷ 0x10 ∷ 0xAC ∷ 0xA4 ∷ 0xD2 ∷ 0x0B ∷ 0x29 ∷ 0x34 ∷ [])) Ends 5 119
     -- 7 and 8, and what would be a fifth priority 0: field 0 behind four of field 1
-    ∷ area Scte20 (fifth (0x38 ∷ 0xA4 ∷ 0xD2 ∷ 0x00 ∷ [])) FieldNumberZero 7 0
-    -- 7 and 6: field 0, and the marker 0
-    ∷ area Scte20 (layoutUnit (0x03 ∷ 0x81 ∷ 0x08 ∷ 0x2C ∷ 0xA4 ∷ 0xD0 ∷ 0x00 ∷ [])) FieldNumberZero 7 0
+    ∷ area Scte20 (fifth (0x38 ∷ 0xA4 ∷ 0xD2 ∷ 0x00 ∷ [])) FieldNumberZero 7 159
+    -- 7 and 18: field 0, and the marker 0
+    ∷ area Scte20 (layoutUnit (0x03 ∷ 0x81 ∷ 0x08 ∷ 0x2C ∷ 0xA4 ∷ 0xD0 ∷ 0x00 ∷ [])) FieldNumberZero 7 55
     -- 8 and 9: a fifth priority 0, whose line does not rise
-    ∷ area Scte20 (fifth (0xB4 ∷ 0xA4 ∷ 0xD2 ∷ 0x00 ∷ [])) LineDoesNotRise 8 0
-    -- 9 and 6: a fifth priority 0, its marker 0
-    ∷ area Scte20 (fifth (0xB8 ∷ 0xA4 ∷ 0xD0 ∷ 0x00 ∷ [])) FifthPriority 9 0
-    -- 6 and 10: a marker 0, and a sampled video count of 1
-    ∷ area Scte20 (layoutUnit (0x03 ∷ 0x81 ∷ 0x08 ∷ 0xAC ∷ 0xA4 ∷ 0xD0 ∷ 0x20 ∷ [])) (Unfixed fixed.Marker) 6 0
-    -- 10 and 6: a sampled video count of 1, and an alignment bit 1
-    ∷ area Scte20 (layoutUnit (0x03 ∷ 0x81 ∷ 0x08 ∷ 0xAC ∷ 0xA4 ∷ 0xD2 ∷ 0x21 ∷ [])) SampledVideo 10 0
-    -- 6 and 6: an alignment bit 1, and a stuffing byte 01
-    ∷ area Scte20 (layoutUnit (0x03 ∷ 0x81 ∷ 0x08 ∷ 0xAC ∷ 0xA4 ∷ 0xD2 ∷ 0x01 ∷ 0x01 ∷ [])) (Unfixed fixed.Alignment) 6 0
+    ∷ area Scte20 (fifth (0xB4 ∷ 0xA4 ∷ 0xD2 ∷ 0x00 ∷ [])) LineDoesNotRise 8 161
+    -- 9 and 18: a fifth priority 0, its marker 0
+    ∷ area Scte20 (fifth (0xB8 ∷ 0xA4 ∷ 0xD0 ∷ 0x00 ∷ [])) FifthPriority 9 157
+    -- 18 and 10: a marker 0, and a sampled video count of 1
+    ∷ area Scte20 (layoutUnit (0x03 ∷ 0x81 ∷ 0x08 ∷ 0xAC ∷ 0xA4 ∷ 0xD0 ∷ 0x20 ∷ [])) (Unfixed fixed.Marker) 18 78
+    -- 18 and 19: a marker 0, and an alignment bit 1
+    ∷ area Scte20 (layoutUnit (0x03 ∷ 0x81 ∷ 0x08 ∷ 0xAC ∷ 0xA4 ∷ 0xD0 ∷ 0x01 ∷ [])) (Unfixed fixed.Marker) 18 78
+    -- 10 and 19: a sampled video count of 1, and an alignment bit 1
+    ∷ area Scte20 (layoutUnit (0x03 ∷ 0x81 ∷ 0x08 ∷ 0xAC ∷ 0xA4 ∷ 0xD2 ∷ 0x21 ∷ [])) SampledVideo 10 79
+    -- 19 and 19: an alignment bit 1, and a stuffing byte 01
+    ∷ area Scte20 (layoutUnit (0x03 ∷ 0x81 ∷ 0x08 ∷ 0xAC ∷ 0xA4 ∷ 0xD2 ∷ 0x01 ∷ 0x01 ∷ [])) (Unfixed fixed.Alignment) 19 87
+    -- 19 and 19: two alignment bits 1, of which the first decides
+    ∷ area Scte20 (layoutUnit (0x03 ∷ 0x81 ∷ 0x08 ∷ 0xAC ∷ 0xA4 ∷ 0xD2 ∷ 0x05 ∷ [])) (Unfixed fixed.Alignment) 19 85
+    -- 19 and 19: two bits 1 in the stuffing behind flag 0, in a unit behind a foreign one
+    ∷ area Scte20 (foreign ++ layoutUnit (0x03 ∷ 0x80 ∷ 0x00 ∷ 0x30 ∷ [])) (Unfixed fixed.Stuffing) 19 98
     -- READING AN AREA FOR GA94
     -- 3 and 4: a second GA94 unit before a bad start code
     ∷ area Ga94 (q ++ (q ++ (0x00 ∷ 0x00 ∷ 0x01 ∷ 0xB3 ∷ []))) StartCode 3 0
     -- 4 and content: two GA94 units, each without its type
     ∷ area Ga94 (layoutUnit (ga94 []) ++ layoutUnit (ga94 [])) SecondUnit 4 0
     -- 16 and 5: the third flag, and no em_data; the unit behind a foreign one
-    ∷ area Ga94 (foreign ++ layoutUnit (ga94 (0x03 ∷ 0xE1 ∷ []))) AdditionalData 16 5
-    -- 16 and 6: the third flag, and a marker bit 0
-    ∷ area Ga94 (layoutUnit (ga94 (0x03 ∷ 0xE1 ∷ 0xFF ∷ 0xF4 ∷ 0x94 ∷ 0x2C ∷ 0xFF ∷ []))) AdditionalData 16 0
-    -- 5 and 6: a construct of which two bytes are there, with a marker bit 0
-    ∷ area Ga94 (layoutUnit (ga94 (0x03 ∷ 0xC1 ∷ 0xFF ∷ 0xF4 ∷ 0x94 ∷ []))) Ends 5 0
-    -- 6 and 5: cc_count 31, and one construct there, with a marker bit 0
-    ∷ area Ga94 (layoutUnit (ga94 (0x03 ∷ 0xDF ∷ 0xFF ∷ 0xF4 ∷ 0x94 ∷ 0x2C ∷ []))) (Unfixed fixed.Marker) 6 0
-    -- 6 and 6: marker_bits FE in the place of FF, and a stuffing byte 02
-    ∷ area Ga94 (layoutUnit (ga94 (0x03 ∷ 0xC0 ∷ 0xFF ∷ 0xFE ∷ 0x02 ∷ []))) (Unfixed fixed.Marker) 6 0
+    ∷ area Ga94 (foreign ++ layoutUnit (ga94 (0x03 ∷ 0xE1 ∷ []))) AdditionalData 16 114
+    -- 16 and 18: the third flag, and a marker bit 0
+    ∷ area Ga94 (layoutUnit (ga94 (0x03 ∷ 0xE1 ∷ 0xFF ∷ 0xF4 ∷ 0x94 ∷ 0x2C ∷ 0xFF ∷ []))) AdditionalData 16 74
+    -- 5 and 18: a construct of which two bytes are there, with a marker bit 0
+    ∷ area Ga94 (layoutUnit (ga94 (0x03 ∷ 0xC1 ∷ 0xFF ∷ 0xF4 ∷ 0x94 ∷ []))) Ends 5 88
+    -- 18 and 5: cc_count 31, and one construct there, with a marker bit 0
+    ∷ area Ga94 (layoutUnit (ga94 (0x03 ∷ 0xDF ∷ 0xFF ∷ 0xF4 ∷ 0x94 ∷ 0x2C ∷ []))) (Unfixed fixed.Marker) 18 88
+    -- 18 and 18: marker_bits 11110 in the second construct, and FE in the place of FF
+    ∷ area Ga94 (layoutUnit (ga94 (0x03 ∷ 0xC2 ∷ 0xFF ∷ 0xFC ∷ 0x94 ∷ 0x2C ∷ 0xF4 ∷ 0x94 ∷ 0x2C ∷ 0xFE ∷ [])))
+    (Unfixed fixed.Marker) 18 112
+    -- 18 and 19: marker_bits FE in the place of FF, and a stuffing byte 02
+    ∷ area Ga94 (layoutUnit (ga94 (0x03 ∷ 0xC0 ∷ 0xFF ∷ 0xFE ∷ 0x02 ∷ []))) (Unfixed fixed.Marker) 18 88
+    -- 19 and 19: two bits 1 in the stuffing
+    ∷ area Ga94 (layoutUnit (ga94 (0x03 ∷ 0xC0 ∷ 0xFF ∷ 0xFF ∷ 0x00 ∷ 0x05 ∷ []))) (Unfixed fixed.Stuffing) 19 109
     -- a fault of SCTE 20 and one of GA94: each is the fault of its own reading
-    ∷ area Ga94 (j ++ layoutUnit (ga94 (0x03 ∷ 0xE0 ∷ []))) AdditionalData 16 11
-    ∷ area Scte20 (layoutUnit (ga94 (0x03 ∷ 0xE0 ∷ [])) ++ j) (Unfixed fixed.Marker) 6 10
+    ∷ area Ga94 (j ++ layoutUnit (ga94 (0x03 ∷ 0xE0 ∷ []))) AdditionalData 16 162
+    ∷ area Scte20 (layoutUnit (ga94 (0x03 ∷ 0xE0 ∷ [])) ++ j) (Unfixed fixed.Marker) 18 158
     -- READING A PACKET
     -- 1 and 2: 246 words, and no flag
-    ∷ packet (replicate 246 1) TooLong 1
+    ∷ packet (replicate 246 1) TooLong 1 246
     -- 5 and 2: 19 words, and no flag
-    ∷ packet (replicate 19 1) Ends 5
+    ∷ packet (replicate 19 1) Ends 5 19
     -- 2 and 11: no flag, and words above 1023
-    ∷ packet (replicate 20 1024) NoStart 2
+    ∷ packet (replicate 20 1024) NoStart 2 0
+    -- 2 and 2: the second and the third word are not the flag's
+    ∷ packet (0x000 ∷ replicate 19 1) NoStart 2 1
     -- 11 and 6: the last user word's parity, and DID 44
-    ∷ packet (k 0x244 0x151 0x10D 0x102 0x200 0x274 0x117 0x252) WordParity 11
+    ∷ packet (k 0x244 0x151 0x10D 0x102 0x200 0x274 0x117 0x252) WordParity 11 18
     -- 11 and 6: CS above 1023, and DID 44
-    ∷ packet (k 0x244 0x151 0x10D 0x102 0x200 0x274 0x217 0x652) WordRange 11
+    ∷ packet (k 0x244 0x151 0x10D 0x102 0x200 0x274 0x217 0x652) WordRange 11 19
     -- 6 and 13: DID 44, and LENGTH 0E
-    ∷ packet (k 0x244 0x151 0x10E 0x102 0x200 0x274 0x217 0x252) (Unfixed fixed.Identifier) 6
+    ∷ packet (k 0x244 0x151 0x10E 0x102 0x200 0x274 0x217 0x252) (Unfixed fixed.Identifier) 6 3
     -- 13 and 6: a word less than DC says, and 52 in the place of 51
     ∷ packet (take 19 (k 0x143 0x152 0x10D 0x102 0x200 0x274 0x200 0x252) ++ (0x200 ∷ 0x252 ∷ []))
-    (Unfit misfit.DataCount) 13
+    (Unfit misfit.DataCount) 13 5
     -- 6 and 13: 52 in the place of 51, and LENGTH 0E
-    ∷ packet (k 0x143 0x152 0x10E 0x102 0x200 0x274 0x217 0x252) (Unfixed fixed.Identifier) 6
+    ∷ packet (k 0x143 0x152 0x10E 0x102 0x200 0x274 0x217 0x252) (Unfixed fixed.Identifier) 6 6
     -- 13 and 6: LENGTH 0E, and format 03
-    ∷ packet (k 0x143 0x151 0x10E 0x203 0x200 0x274 0x217 0x252) (Unfit misfit.SdpLength) 13
+    ∷ packet (k 0x143 0x151 0x10E 0x203 0x200 0x274 0x217 0x252) (Unfit misfit.SdpLength) 13 8
     -- 6 and 7: format 03, and a descriptor of line 1
-    ∷ packet (k 0x143 0x151 0x10D 0x203 0x101 0x274 0x217 0x252) (Unfixed fixed.FormatCode) 6
+    ∷ packet (k 0x143 0x151 0x10D 0x203 0x101 0x274 0x217 0x252) (Unfixed fixed.FormatCode) 6 9
     -- 7 and 13: a descriptor of line 1, and a DC that does not fit one structure
-    ∷ packet (k 0x143 0x151 0x10D 0x102 0x101 0x274 0x217 0x252) DescriptorLine 7
+    ∷ packet (k 0x143 0x151 0x10D 0x102 0x101 0x274 0x217 0x252) DescriptorLine 7 10
     -- 13 and 6: a DC that does not fit one structure, and the footer 75
-    ∷ packet (k 0x143 0x151 0x10D 0x102 0x206 0x175 0x217 0x252) (Unfit misfit.Structures) 13
+    ∷ packet (k 0x143 0x151 0x10D 0x102 0x206 0x175 0x217 0x252) (Unfit misfit.Structures) 13 5
+    -- 13 and 20: a DC that does not fit two structures, and 54 in the place of the first 55
+    ∷ packet (one 0x206 0x154 0x255 0x227 0x274) (Unfit misfit.Structures) 13 5
+    -- 20 and 20: 54 in the place of the second 55, and framing code 26
+    ∷ packet (one 0x200 0x255 0x154 0x126 0x274) (Unfixed fixed.RunIn) 20 16
+    -- 20 and 6: framing code 26, and the footer 75
+    ∷ packet (one 0x200 0x255 0x255 0x126 0x175) (Unfixed fixed.FramingCode) 20 17
+    -- 6 and 12: the footer 75, and the SDP checksum of a packet with a structure
+    ∷ packet (one 0x200 0x255 0x255 0x227 0x175) (Unfixed fixed.Footer) 6 60
     -- 6 and 12: the footer 75, and the SDP checksum
-    ∷ packet (k 0x143 0x151 0x10D 0x102 0x200 0x175 0x217 0x252) (Unfixed fixed.Footer) 6
+    ∷ packet (k 0x143 0x151 0x10D 0x102 0x200 0x175 0x217 0x252) (Unfixed fixed.Footer) 6 15
     -- 12 and 12: the SDP checksum, and CS
-    ∷ packet (k 0x143 0x151 0x10D 0x102 0x200 0x274 0x218 0x252) SdpChecksum 12
+    ∷ packet (k 0x143 0x151 0x10D 0x102 0x200 0x274 0x218 0x252) SdpChecksum 12 18
     -- READING A PAYLOAD
     -- 1 and 13: 1,458 bytes
-    ∷ payload (replicate 1458 0) TooLong 1
+    ∷ payload (replicate 1458 0) TooLong 1 1458
     -- WRITING A UNIT
     -- 15 and 15: z 16,385, and a record of priority 4
     ∷ writeUnit Scte20 (value (caption 4 1 10 ∷ []) 16385) 0 (Unholdable excess.Stuffing) 15
@@ -264,8 +293,8 @@ two-faults =
     -- 15 and 14: a padding of 64, and no room
     ∷ writePayload (payloadOf 1 (unit 0 0 64 0 0 0 0 ∷ [])) 0 (Unholdable excess.Padding) 15
     -- REPLACING
-    -- 6 and 15: an area whose caption unit, behind a foreign one, has its marker 0, and a value of z 16,385
-    ∷ replace Scte20 (foreign ++ j) (value [] 16385) 0 (Unfixed fixed.Marker) 6 5
+    -- 18 and 15: an area whose caption unit, behind a foreign one, has its marker 0, and a value of z 16,385
+    ∷ replace Scte20 (foreign ++ j) (value [] 16385) 0 (Unfixed fixed.Marker) 18 118
     -- 4 and 7: two caption units, and a value of field 0
     ∷ replace Scte20 (a ++ a) (value (caption 0 0 10 ∷ []) 0) 0 SecondUnit 4 0
     -- 15 and 14: a value of priority 4, and no room
@@ -273,7 +302,7 @@ two-faults =
     -- 1 and 14: a new area of 16,389 bytes, of which the new unit has 16,384, and no room
     ∷ replace Scte20 (foreign ++ a) (value [] 16376) 0 TooLong 1 0
     -- 16 and 15: a GA94 unit with the third flag, behind a foreign one, and a value of em_data 256
-    ∷ replace Ga94 (foreign ++ layoutUnit (ga94 (0x03 ∷ 0xE0 ∷ 0xFF ∷ 0xFF ∷ []))) (ga94Value 0 256 [] 0) 0 AdditionalData 16 5
+    ∷ replace Ga94 (foreign ++ layoutUnit (ga94 (0x03 ∷ 0xE0 ∷ 0xFF ∷ 0xFF ∷ []))) (ga94Value 0 256 [] 0) 0 AdditionalData 16 114
     -- 4 and 16: two GA94 units, and a value with the third flag
     ∷ replace Ga94 (q ++ q) (ga94Value 1 255 [] 0) 0 SecondUnit 4 0
     -- 1 and 14: a new area of 16,389 bytes, of which the new unit has 16,384, and no room

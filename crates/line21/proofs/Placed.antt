@@ -1,6 +1,6 @@
 -- Where reading a payload refuses: at its length, which is wrong.
 -- Assumes nothing.
-use Prim.Native.Nat.{ℕ, _+_, _-_, _*_, _%_, _≤_, _<_}
+use Prim.Native.Nat.{ℕ, _-_, _%_}
 use native.Mathlib.Omega.{arith}
 use mathlib.Core.Path.{_≡_, _∙_, ap, sym, subst, refl}
 use mathlib.Core.Bool.{not}

@@ -89,7 +89,7 @@ accepted-whole-units = refusing.accepted-whole-units
 pub reading-order : (s : List ℕ) → lengthVerdict (length s) ≡ first (readingChecks s)
 reading-order = sequence.reading-order
 
--- and the answer tells its number.
+-- and the answer tells its number and place.
 pub read-first : (s : List ℕ) (r : Answer) → Reads s r → r .refusal ≡ refusalOf (first (readingChecks s))
 read-first = refusing.read-first
 

@@ -1,5 +1,5 @@
--- What a refusal of a payload tells of its place: its length, from which each number follows, without the reader. RULES,
--- "Line 21 payload" and "Refusals"; 004, 3.2.1.
+-- What a refusal of a payload tells of its place, its length: from the bytes alone, without the reader. RULES, "Line 21
+-- payload" and "Refusals"; 004, 3.2.1.
 use Prim.Native.Nat.{ℕ, _+_, _*_, _<_}
 use mathlib.Core.Path.{_≡_}
 use mathlib.Core.List.{List}

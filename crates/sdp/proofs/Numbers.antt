@@ -4,7 +4,7 @@ use Prim.Native.Nat.{ℕ, zero, suc, _+_, _*_, _≤_}
 use native.Mathlib.Omega.{arith}
 use mathlib.Core.Path.{_≡_, _∙_, ap, sym, refl}
 use mathlib.Core.Logic.{inl, inr, ⊎-elim}
-use mathlib.Core.Bool.{Bool, true, false, not, _&&_, true≢false}
+use mathlib.Core.Bool.{true, false, not, _&&_, true≢false}
 use mathlib.Core.List.{List, [], _∷_, map}
 use borrow.Author.Tests.{le-ltb, eqb-true, eqb-false, ne-eqb, not-false}
 use lib.Dec.{eqb}
@@ -13,7 +13,7 @@ use Rattle.lists.specs.Each.{Each}
 use Rattle.lists.proofs.Each.{each-map, each-both}
 use Rattle.refusal.specs.declared.Verdict.the-variants.{Accepted}
 use Rattle.refusal.specs.declared.Item.the-variants.{Whole}
-use Rattle.refusal.proofs.Checks.{accepted-refuseIf, accepted-andThen, accepted-each, each-accepted, accepted-within}
+use Rattle.refusal.proofs.Checks.{accepted-refuseIf, both-hold, accepted-andThen, accepted-each, each-accepted, accepted-within}
 use Rattle.sdp.specs.declared.Slot.{Slot}
 use Rattle.sdp.specs.declared.Packet.{Packet}
 use Rattle.sdp.specs.Value.{SlotRow, Sdp, descriptor, zeroRow, together, emptyRow, LegalLine, FullSlot, LegalSlot, Legal, beside, held, Row, Typed}
@@ -23,10 +23,6 @@ use Rattle.sdp.specs.SlotVerdict.{allZero, unwritable, slotVerdict, slot
 use Rattle.sdp.proofs.Slots.{accepted-line, line-accepted, legal-below}
 
 -- ONE SLOT
-
-and-both : (a b : Bool) → (a && b) ≡ true → (a ≡ true) × (b ≡ true)
-and-both true b e = (refl, e)
-and-both false b e = absurd (true≢false (sym e))
 
 all-zero : (row : List ℕ) → allZero row ≡ true → row ≡ replicate (length row) 0
 all-zero [] e = refl
@@ -44,7 +40,7 @@ module _ (x : SlotRow) (typed : Row (x .row)) (small : Small (x .slot)) (legal :
   legal-none : x .slot .full ≡ 0 → not (eqb (descriptor (x .slot)) 0 && allZero (x .row)) ≡ false → LegalSlot x
   legal-none none e =
       let s = x .slot in
-      let both = and-both (eqb (descriptor s) 0) (allZero (x .row)) (not-false _ e) in
+      let both = both-hold (eqb (descriptor s) 0) (allZero (x .row)) (not-false _ e) in
       let nought : descriptor s ≡ 0 = eqb-true (descriptor s) 0 (both .0) in
       let line : s .line ≡ 0 = omega arith in
       let reserved : s .reserved ≡ 0 = omega arith in

@@ -1,14 +1,14 @@
 -- Where the rules over user bytes refuse: at the word of what is wrong.
 -- Assumes nothing.
-use Prim.Native.Nat.{ℕ, zero, suc, _+_, _-_, _*_, _%_, _≤_, _<_}
+use Prim.Native.Nat.{ℕ, zero, suc, _+_, _-_, _%_, _≤_, _<_}
 use native.Mathlib.Omega.{arith}
 use mathlib.Core.Path.{_≡_, _∙_, ap, sym, subst, refl}
 use mathlib.Core.Logic.{⊎-elim}
 use mathlib.Core.Bool.{Bool, true, not, _&&_, _||_, true≢false}
 use mathlib.Core.List.{List, [], _∷_}
-use borrow.Author.Tests.{ltb-true, ltb-false, eqb-false, not-true}
+use borrow.Author.Tests.{ltb-true, eqb-false, not-true}
 use lib.Dec.{eqb, ltb}
-use lib.ListN.{length, getD, take, drop, length-take}
+use lib.ListN.{length, getD, drop, length-take}
 use lib.Seq.{getD-take, getD-drop, drop-drop}
 use Rattle.lists.specs.Sum.{sum}
 use Rattle.lists.proofs.Part.{length-part}
@@ -41,10 +41,6 @@ unfolding lineVerdict
 refused-line l few e =
     ⊎-elim (λ legal. absurd (true≢false (sym e ∙ accepted-refuseIf _ DescriptorLine Whole (line-accepted Whole l legal)))) (λ none. none) (line-or-none l few)
 
--- one byte of an opening more
-opens-more : (u : List ℕ) (j n : ℕ) → OpensRight u j n → getD u (structureAt j + n) 0 ≡ getD structureOpening n 0 → OpensRight u j (suc n)
-opens-more u j = below-more (λ (i : ℕ). getD u (structureAt j + i) 0 ≡ getD structureOpening i 0)
-
 -- the bytes w from structure j on
 module _ (u : List ℕ) (j : ℕ) (w : List ℕ) (same : w ≡ drop (structureAt j) u) where
   structure-byte : (i : ℕ) → getD w i 0 ≡ getD u (structureAt j + i) 0
@@ -58,15 +54,19 @@ module _ (u : List ℕ) (j : ℕ) (w : List ℕ) (same : w ≡ drop (structureAt
   opens-none : OpensRight u j 0
   opens-none i low = let f : ⊥ = omega arith in absurd f
 
+  -- one byte more is right
+  opens-more : (n : ℕ) (reason : Reason) (item : Item) → OpensRight u j n
+      → refuseIf (not (eqb (getD w n 0) (getD structureOpening n 0))) reason item ≡ Accepted → OpensRight u j (suc n)
+  opens-more n reason item right ok =
+      below-more (λ (i : ℕ). getD u (structureAt j + i) 0 ≡ getD structureOpening i 0) n right (sym (structure-byte n) ∙ accepted-equal _ _ reason item ok)
+
   pub accepted-opens : (at : ℕ) → structureVerdict at w ≡ Accepted → OpensRight u j 3
   unfolding structureVerdict
   accepted-opens at e =
       let one = accepted-andThen _ _ e in
       let two = accepted-andThen _ _ (one .1) in
       let three = accepted-andThen _ _ (two .1) in
-      opens-more u j 2
-      (opens-more u j 1 (opens-more u j 0 opens-none (sym (structure-byte 0) ∙ accepted-equal _ _ _ _ (one .0))) (sym (structure-byte 1) ∙ accepted-equal _ _ _ _ (two .0)))
-      (sym (structure-byte 2) ∙ accepted-equal _ _ _ _ (three .0))
+      opens-more 2 _ _ (opens-more 1 _ _ (opens-more 0 _ _ opens-none (one .0)) (two .0)) (three .0)
 
 module _ (dc : ℕ) (u : List ℕ) where
   -- a refusal at a word, and what stands there
@@ -111,12 +111,11 @@ module _ (dc : ℕ) (u : List ℕ) where
     structure-only : Only Placed (structureVerdict at w)
     unfolding structureVerdict
     structure-only =
-        let right : (i byte : ℕ) (which : Fixed) (item : Item) → byte ≡ getD structureOpening i 0 → refuseIf (not (eqb (getD w i 0) byte)) (Unfixed which) item ≡ Accepted → getD u (structureAt j + i) 0 ≡ getD structureOpening i 0 =
-        λ i byte which item same-byte ok. sym (structure-byte u j w same i) ∙ accepted-equal _ _ _ _ ok ∙ same-byte in
-        andThen-only Placed _ _ (opening-only 0 at RunIn refl (omega arith) (omega arith) (opens-none u j w same)) (λ a.
-        let one : OpensRight u j 1 = opens-more u j 0 (opens-none u j w same) (right 0 0x55 RunIn (Word at) refl a) in
+        let none = opens-none u j w same in
+        andThen-only Placed _ _ (opening-only 0 at RunIn refl (omega arith) (omega arith) none) (λ a.
+        let one = opens-more u j w same 0 (Unfixed RunIn) (Word at) none a in
         andThen-only Placed _ _ (opening-only 1 (at + 1) RunIn refl (omega arith) refl one) (λ b.
-        let two : OpensRight u j 2 = opens-more u j 1 one (right 1 0x55 RunIn (Word (at + 1)) refl b) in
+        let two = opens-more u j w same 1 (Unfixed RunIn) (Word (at + 1)) one b in
         andThen-only Placed _ _ (opening-only 2 (at + 2) FramingCode refl (omega arith) refl two) (λ c.
         accepted-only Placed)))
 

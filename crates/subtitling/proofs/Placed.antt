@@ -1,9 +1,9 @@
 -- Where reading a packet refuses: at the word of what is wrong, or at the number of words.
 -- Assumes nothing.
-use Prim.Native.Nat.{ℕ, _+_, _-_, _%_, _≤_, _<_}
+use Prim.Native.Nat.{ℕ, _-_, _%_, _≤_, _<_}
 use native.Mathlib.Omega.{arith}
 use mathlib.Core.Path.{_≡_, _∙_, ap, sym, subst, refl}
-use mathlib.Core.Bool.{Bool, true, not}
+use mathlib.Core.Bool.{not}
 use mathlib.Core.List.{List}
 use borrow.Author.Tests.{ltb-true, eqb-false, not-true}
 use lib.Dec.{eqb, ltb}
@@ -21,14 +21,14 @@ use Rattle.refusal.specs.Numbers.{numberOf, placeOf, refusalOf}
 use Rattle.refusal.specs.Checks.{refuseIf}
 use Rattle.refusal.proofs.Checks.{accepted-within, accepted-equal}
 use Rattle.refusal.proofs.Only.{Only, accepted-only, refuseIf-only, andThen-only}
-use Rattle.anc.specs.Words.{parityOf, wordOf, byteOf, ByteWords, wordsVerdict, sumVerdict, checksumOf}
+use Rattle.anc.specs.Words.{parityOf, wordOf, byteOf, ByteWords, checksumOf}
 use Rattle.anc.proofs.Placed.{words-only, sum-only, accepted-byte-words}
 use Rattle.sdp.specs.User.{userVerdict}
 use Rattle.sdp.specs.Places.{UserStands}
 use Rattle.sdp.proofs.Placed as user
 use Rattle.subtitling.specs.declared.Answer.{Answer}
 use Rattle.subtitling.specs.Reading.{coveredIn, userIn, lastWord, formVerdict, headerVerdict, checksumVerdict, packetVerdict, Reads}
-use Rattle.subtitling.specs.Places.{flagWords, identifierBytes, FlagBroken}
+use Rattle.subtitling.specs.Places.{flagWords}
 use Rattle.subtitling.specs.Places.{Stands, long-1, short-5, flag-2, range-11, parity-11, inverse-11, identifier-6, data-count-13, user-words, checksum-12}
 use Rattle.subtitling.proofs.Accepted.{Form, accepted-form}
 use Rattle.subtitling.proofs.Refusing.{refused-in-order, flag-more}

@@ -2,13 +2,12 @@
 -- Assumes nothing.
 use Prim.Native.Nat.{ℕ, suc, _≤_, _<_}
 use native.Mathlib.Omega.{arith}
-use mathlib.Core.Path.{_≡_, _∙_, ap, sym, refl}
+use mathlib.Core.Path.{_≡_, _∙_, ap, refl}
 use mathlib.Core.Bool.{Bool, true, false, not}
 use mathlib.Core.List.{List}
 use borrow.Author.Tests.{eqb-true, eqb-false, lt-ltb, le-ltb}
 use lib.Dec.{eqb}
 use lib.ListN.{length, getD}
-use Rattle.refusal.specs.declared.Refusal.{Refusal}
 use Rattle.refusal.specs.declared.Verdict.{Verdict}
 use Rattle.refusal.specs.declared.Verdict.the-variants.{Accepted, Refused}
 use Rattle.refusal.specs.declared.Reason.the-variants.{NoStart}
@@ -86,8 +85,7 @@ pub refused-2 : (s : List ℕ) (r : Answer) → Reads s r → 20 ≤ length s �
 unfolding packetVerdict
 refused-2 s r p long short h =
     let two = form-refused s long short h in
-    let word = two .0 in
-    (
+    let word = two .0 in (
       word,
       two .1,
       ap (λ (a : Answer). a .refusal) p ∙ ap refusalOf (andThen-refused (formVerdict s) _ (told-refused (formVerdict s) 2 word (omega arith) (two .2))) ∙ two .2,

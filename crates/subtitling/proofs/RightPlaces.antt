@@ -6,11 +6,11 @@ use native.Mathlib.Omega.{arith}
 use mathlib.Core.Path.{_≡_, _∙_, ap, sym, subst, refl}
 use mathlib.Core.Logic.{⊎-elim}
 use mathlib.Core.List.{List}
-use lib.ListN.{length, getD, take, drop}
+use lib.ListN.{length, getD, drop}
 use lib.Seq.{getD-take, getD-drop}
 use Rattle.lists.specs.Part.{part}
 use Rattle.refusal.specs.declared.Verdict.the-variants.{Accepted}
-use Rattle.anc.specs.Words.{wordOf, byteOf, ByteWords}
+use Rattle.anc.specs.Words.{byteOf, ByteWords}
 use Rattle.anc.proofs.Words.{word-byte, word-low, accepted-sum}
 use Rattle.sdp.specs.Value.{Sdp, Legal}
 use Rattle.sdp.specs.Layout.{userBytes}

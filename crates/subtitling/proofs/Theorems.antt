@@ -81,7 +81,7 @@ refused-in-order = refusing.refused-in-order
 pub reading-order : (s : List ℕ) → packetVerdict s ≡ first (readingChecks s)
 reading-order = sequence.reading-order
 
--- and the answer tells its number.
+-- and the answer tells its number and place.
 pub read-first : (s : List ℕ) (r : Answer) → Reads s r → r .refusal ≡ refusalOf (first (readingChecks s))
 read-first = refusing.read-first
 

@@ -60,7 +60,8 @@ pub data Stands (s : List ℕ) (number word : ℕ) : Type 0 where
   data-count-13 : number ≡ 13 → 20 ≤ length s → word ≡ 5
       → (byteOf (getD s word 0) ≡ length s - 7 → ⊥)
       → Stands s number word
-  -- a user word, or DC against the descriptors. DC stands in word 5, so that user byte i is that of word 6 + i
+  -- a user word, or DC against the descriptors: DC stands in word 5, so that user byte i is that of word 6 + i. There
+  -- are at least 13 user bytes here, so that 5 is not given
   user-words : 20 ≤ length s
       → UserStands 5 (userIn s) number word
       → Stands s number word
