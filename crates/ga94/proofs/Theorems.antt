@@ -91,8 +91,8 @@ pub read-first : (body lent : List ℕ) (r : Head) (exit : List ℕ) → ReadsIn
     → r .verdict ≡ first (readingChecks body)
 read-first = accepting.read-first
 
--- It is at a bit of the body or at its end, where something stands as `Stands` (specs/Places) says of its number: 5, 16,
--- 18 or 19, and 6 for a body that does not begin with the identifier and 03, which is none of an area's GA94 units,
+-- It is at a bit of the body or at its end, and there stands what `Stands` (specs/Places) says of its number: 5, 16, 18
+-- or 19, and 6 for a body that does not begin with the identifier and 03, which is none of an area's GA94 units,
 pub refused-at : (body lent : List ℕ) (r : Head) (exit : List ℕ) → ReadsInto body lent r exit → length body ≤ 16384
     → (reason : Reason) (item : Item) → r .verdict ≡ Refused reason item
     → AtBit (8 * length body) (Stands (bitsOf body)) reason item
@@ -105,8 +105,8 @@ refused-zero = accepting.refused-zero
 
 -- WHAT THE LAYOUT HAS THERE
 
--- In the layout of every legal value each element stands where `firstBit` (specs/Places) says, and is the value's number:
--- the marker_bits of a construct are 1 1 1 1 1, the closing ones FF.
+-- In the layout of every legal value each element stands where `firstBit` (specs/Places) says, and is the value's
+-- number: the marker_bits of a construct are 1 1 1 1 1, the closing ones FF.
 pub layout-elements : (c : Content) → Legal c → (e : Element) → Has (length (c .records)) e
     → elementIn (bitsOf (layout c)) e ≡ valueIn c e
 layout-elements = elements.layout-elements

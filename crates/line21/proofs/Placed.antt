@@ -17,7 +17,7 @@ use Rattle.refusal.specs.declared.Item.the-variants.{Length}
 use Rattle.refusal.specs.declared.Verdict.{Verdict}
 use Rattle.refusal.specs.declared.Verdict.the-variants.{Accepted, Refused}
 use Rattle.refusal.specs.Numbers.{numberOf, placeOf, refusalOf}
-use Rattle.refusal.proofs.Only.{Only, accepted-only, refuseIf-only, andThen-only}
+use Rattle.refusal.proofs.Only.{Only, accepted-only, refuseIf-only, andThen-only, told-only}
 use Rattle.line21.specs.declared.Answer.{Answer}
 use Rattle.line21.specs.Reading.{lengthVerdict, unitCount, valueOf, Reads}
 use Rattle.line21.specs.Places.{Stands, empty-2, long-1, units-13}
@@ -37,12 +37,6 @@ module _ (s : List ℕ) where
       andThen-only Placed _ _ (refuseIf-only Placed (not (eqb ((n - 1) % 5) 0)) (Unfit PayloadLength) (Length n) (λ e.
       units-13 refl refl (λ m whole. eqb-false ((n - 1) % 5) 0 (not-true _ e) (omega arith)))) (λ whole.
       accepted-only Placed)))
-
--- what is told of a verdict that refuses
-told-only : (P : ℕ → ℕ → Type 0) (verdict : Verdict) → Only (λ (reason : Reason) (item : Item). P (numberOf reason) (placeOf item)) verdict
-    → (refusalOf verdict .number ≡ 0 → ⊥) → P (refusalOf verdict .number) (refusalOf verdict .place)
-told-only P Accepted only h = absurd (h refl)
-told-only P (Refused reason item) only h = only reason item refl
 
 pub place-means : (s : List ℕ) (r : Answer) → Reads s r → (r .refusal .number ≡ 0 → ⊥)
     → Stands s (r .refusal .number) (r .refusal .place)

@@ -126,6 +126,10 @@ pub stuffing-within : (k : Kind) (u : CaptionUnit k) → length (bodyOf k (held 
 stuffing-within Scte20 u h = scte20-writable.z-within u h
 stuffing-within Ga94 u h = ga94-writable.z-within u h
 
+pub write-unplaced : (k : Kind) (u : CaptionUnit k) (size room : ℕ) → refusalOf (writeVerdict k u size room) .place ≡ 0
+write-unplaced Scte20 u size room = scte20-writable.write-unplaced u size room
+write-unplaced Ga94 u size room = ga94-writable.write-unplaced u size room
+
 pub whole-15 : (k : Kind) (u : CaptionUnit k) (size room : ℕ) → (wholeVerdict k u ≡ Accepted → ⊥) → refusalOf (writeVerdict k u size room) ≡ refused 15 0
 whole-15 Scte20 u size room h = scte20-writable.whole-15 u size room h
 whole-15 Ga94 u size room h = ga94-writable.whole-15 u size room h

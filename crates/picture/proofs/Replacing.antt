@@ -9,10 +9,12 @@ use mathlib.Core.Bool.{true, true≢false}
 use mathlib.Core.List.{List, [], _∷_}
 use lib.ListN.{length, take}
 use Rattle.lists.specs.Room.{over}
+use Rattle.refusal.specs.declared.Refusal.{Refusal}
+use Rattle.refusal.specs.declared.Verdict.{Verdict}
 use Rattle.refusal.specs.declared.Verdict.the-variants.{Accepted}
 use Rattle.refusal.specs.declared.Written.{Written}
 use Rattle.refusal.specs.Numbers.{refusalOf}
-use Rattle.refusal.specs.Checks.{first}
+use Rattle.refusal.specs.Checks.{andThen, first}
 use Rattle.refusal.specs.Answers.{refused, written}
 use Rattle.refusal.proofs.Checks.{accepted-andThen, andThen-accepted, andThen-refused}
 use Rattle.refusal.proofs.Outputs.{wrote-accepted, accepted-wrote, wrote-refusal, success-left, refusal-left}
@@ -24,10 +26,10 @@ use Rattle.picture.specs.Value.{Area, uncaptioned, captioned, bodies, la
 use Rattle.picture.specs.Reading.{areaVerdict, Answer, answerOf, shown, Reads}
 use Rattle.picture.specs.Writing.{replacedOf, replaceVerdict, Replaces}
 use Rattle.picture.specs.Order.{replacingChecks}
-use Rattle.picture.proofs.Contents.{stored-held, stored-legal, legal-held, accepted-write, write-accepted, stuffing-within, whole-15, illegal-value, long-refused, no-room-refused}
+use Rattle.picture.proofs.Contents.{stored-held, stored-legal, legal-held, accepted-write, write-accepted, stuffing-within, write-unplaced, whole-15, illegal-value, long-refused, no-room-refused}
 use Rattle.picture.proofs.Areas.{accepted-back, legal-verdict}
 use Rattle.picture.proofs.Unique.{bodies-clean}
-use Rattle.picture.proofs.Accepting.{the-answer, refused-in-order, other-refused}
+use Rattle.picture.proofs.Accepting.{the-answer, refused-in-order, zero-accepted, other-refused}
 use Rattle.picture.proofs.Sequence.{replacing-order}
 use Rattle.picture.proofs.Replaced.{replaced-layout, replaced-legal, replaced-long, value-next, written-bytes}
 
@@ -62,6 +64,12 @@ module _ (k : Kind) where
     pub refused-as-read : (a : Answer k) → Reads k s a → (a .refusal .number ≡ 0 → ⊥) → r .refusal ≡ a .refusal
     refused-as-read a read h =
         replace-in-order ∙ ap refusalOf (andThen-refused (areaVerdict k s) _ (other-refused k s a read h)) ∙ sym (refused-in-order k s a read)
+
+    pub replace-place : (a : Answer k) → Reads k s a → a .refusal .number ≡ 0 → r .refusal .place ≡ 0
+    replace-place a read e =
+        ap (λ (x : Refusal). x .place) replace-in-order
+        ∙ ap (λ (v : Verdict). refusalOf (andThen v (writeVerdict k u (length (replacedOf k s (held k u))) (length out))) .place) (zero-accepted k s a read e)
+        ∙ write-unplaced k u (length (replacedOf k s (held k u))) (length out)
 
     pub replace-untouched : (r .refusal .number ≡ 0 → ⊥) → (r .len ≡ 0) × (exit ≡ out)
     replace-untouched h = refusal-left _ _ _ _ _ (p .wrote) h

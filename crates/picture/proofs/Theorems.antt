@@ -138,9 +138,9 @@ pub place-outside : (k : Kind) (s : List ℕ) (r : Answer k) → Reads k s r
     → r .refusal .number ≤ 4 → r .refusal .place ≡ 0
 place-outside = standing.place-outside
 
--- Every other refusal comes from inside the body of the only caption unit. The place is a bit of that body, counted from
--- the area's first, and there stands what is wrong (`InUnit`, specs/Places): for each number, from the bits alone, what
--- `Stands` of crates `scte20` and `ga94` says. 6 is not among them.
+-- Every other refusal comes from inside the body of the only caption unit. The place is a bit of that body, counted
+-- from the area's first, and there stands what is wrong (`InUnit`, specs/Places): for each number, from the bits alone,
+-- what `Stands` of crates `scte20` and `ga94` says. 6 is not among them.
 pub place-inside : (k : Kind) (s : List ℕ) (r : Answer k) → Reads k s r
     → 5 ≤ r .refusal .number → InUnit k s (r .refusal .number) (r .refusal .place)
 place-inside = standing.place-inside
@@ -185,10 +185,15 @@ pub writing-order : (k : Kind) (u : CaptionUnit k) (room : ℕ)
     → writeVerdict k u (length (unitBytes k (held k u))) room ≡ first (writingChecks k u room)
 writing-order = sequence.writing-order
 
--- and the answer tells its number, with place 0:
+-- and the answer tells its number,
 pub write-first : (k : Kind) (u : CaptionUnit k) (out : List ℕ) (r : Written) (exit : List ℕ) → Writes k u out r exit
     → r .refusal ≡ refusalOf (first (writingChecks k u (length out)))
 write-first = writing.write-first
+
+-- with place 0, whatever the value:
+pub write-place : (k : Kind) (u : CaptionUnit k) (out : List ℕ) (r : Written) (exit : List ℕ) → Writes k u out r exit
+    → r .refusal .place ≡ 0
+write-place = writing.write-place
 
 -- 15 for a fault of the whole value, whatever the records;
 pub write-15 : (k : Kind) (u : CaptionUnit k) (out : List ℕ) (r : Written) (exit : List ℕ) → Writes k u out r exit
@@ -299,6 +304,12 @@ pub refused-as-read : (k : Kind) (s : List ℕ) (u : CaptionUnit k) (out : List 
     → Replaces k s u out r exit
     → (a : Answer k) → Reads k s a → (a .refusal .number ≡ 0 → ⊥) → r .refusal ≡ a .refusal
 refused-as-read = replacing.refused-as-read
+
+-- behind it, where the area is accepted, none with a place:
+pub replace-place : (k : Kind) (s : List ℕ) (u : CaptionUnit k) (out : List ℕ) (r : Written) (exit : List ℕ)
+    → Replaces k s u out r exit
+    → (a : Answer k) → Reads k s a → a .refusal .number ≡ 0 → r .refusal .place ≡ 0
+replace-place = replacing.replace-place
 
 -- then 15 for a fault of the whole value, whatever the records;
 pub replace-15 : (k : Kind) (v : Area k) → Legal k v → (u : CaptionUnit k) (out : List ℕ) (r : Written) (exit : List ℕ)

@@ -7,6 +7,7 @@ use mathlib.Core.Logic.{_↔_}
 use mathlib.Core.List.{List, [], append-nil}
 use lib.ListN.{length, take}
 use Rattle.lists.specs.Room.{over}
+use Rattle.refusal.specs.declared.Refusal.{Refusal}
 use Rattle.refusal.specs.declared.Verdict.the-variants.{Accepted}
 use Rattle.refusal.specs.declared.Written.{Written}
 use Rattle.refusal.specs.Numbers.{refusalOf}
@@ -20,7 +21,7 @@ use Rattle.picture.specs.Value.{Area, captioned, layout, Legal}
 use Rattle.picture.specs.Reading.{Answer, shown, Reads}
 use Rattle.picture.specs.Writing.{unitBytes, Writes}
 use Rattle.picture.specs.Order.{writingChecks}
-use Rattle.picture.proofs.Contents.{stored-held, stored-legal, legal-held, accepted-write, write-accepted, stuffing-within, whole-15, illegal-value, long-refused, no-room-refused}
+use Rattle.picture.proofs.Contents.{stored-held, stored-legal, legal-held, accepted-write, write-accepted, stuffing-within, write-unplaced, whole-15, illegal-value, long-refused, no-room-refused}
 use Rattle.picture.proofs.Accepting.{the-answer}
 use Rattle.picture.proofs.Sequence.{writing-order}
 use Rattle.picture.proofs.Replaced.{written-bytes}
@@ -45,6 +46,9 @@ module _ (k : Kind) where
 
     pub write-first : r .refusal ≡ refusalOf (first (writingChecks k u (length out)))
     write-first = write-in-order ∙ ap refusalOf (writing-order k u (length out))
+
+    pub write-place : r .refusal .place ≡ 0
+    write-place = ap (λ (a : Refusal). a .place) write-in-order ∙ write-unplaced k u (length (unitBytes k (held k u))) (length out)
 
     pub write-15 : (wholeVerdict k u ≡ Accepted → ⊥) → r .refusal ≡ refused 15 0
     write-15 h = write-in-order ∙ whole-15 k u (length (unitBytes k (held k u))) (length out) h

@@ -1,16 +1,21 @@
 -- Which refusals an order of checks can give: those of its checks and no others.
 -- Assumes nothing.
-use mathlib.Core.Path.{_≡_, subst, sym, refl}
+use Prim.Native.Nat.{ℕ}
+use mathlib.Core.Path.{_≡_, ap, subst, sym, refl}
 use mathlib.Core.Logic.{_⊎_, inl, inr, ⊎-elim}
 use mathlib.Core.Bool.{Bool, true, false}
 use mathlib.Core.List.{List, [], _∷_, map}
+use lib.Dec.{ltb}
 use Rattle.refusal.specs.declared.Reason.{Reason}
+use Rattle.refusal.specs.declared.Reason.the-variants.{TooLong, NoRoom}
 use Rattle.refusal.specs.declared.Item.{Item}
+use Rattle.refusal.specs.declared.Item.the-variants.{Whole}
 use Rattle.refusal.specs.declared.Refusal.{Refusal}
 use Rattle.refusal.specs.declared.Verdict.{Verdict}
 use Rattle.refusal.specs.declared.Verdict.the-variants.{Accepted, Refused}
 use Rattle.refusal.specs.Numbers.{refusalOf}
-use Rattle.refusal.specs.Checks.{refuseIf, andThen, first}
+use Rattle.refusal.specs.Answers.{refused}
+use Rattle.refusal.specs.Checks.{refuseIf, andThen, first, fitVerdict}
 use Rattle.refusal.proofs.Checks.{andThen-refused}
 
 module _ (P : Refusal → Type 0) where
@@ -34,3 +39,22 @@ module _ (P : Refusal → Type 0) where
   pub refused-gives : (check next : Verdict) → Gives check → (check ≡ Accepted → ⊥) → P (refusalOf (andThen check next))
   refused-gives check next g refused =
       subst (λ (verdict : Verdict). P (refusalOf verdict)) (sym (andThen-refused check next refused)) (⊎-elim (λ e. absurd (refused e)) (λ p. p) g)
+
+  -- a verdict whose refusals are of one sort
+  pub gives-as : (Q : Refusal → Type 0) → ((r : Refusal) → P r → Q r) → (verdict : Verdict) → Gives verdict → (verdict ≡ Accepted) ⊎ Q (refusalOf verdict)
+  gives-as Q follows verdict g = ⊎-elim (λ e. inl e) (λ p. inr (follows (refusalOf verdict) p)) g
+
+-- refusals without a place, as those of writing
+abbrev pub Unplaced : Refusal → Type 0
+Unplaced r = r .place ≡ 0
+
+pub refused-unplaced : (number : ℕ) (r : Refusal) → r ≡ refused number 0 → Unplaced r
+refused-unplaced number r e = ap (λ (x : Refusal). x .place) e
+
+pub fit-unplaced : (limit size room : ℕ) → Gives Unplaced (fitVerdict limit size room)
+fit-unplaced limit size room =
+    andThen-gives Unplaced _ _ (refuseIf-gives Unplaced (ltb limit size) TooLong Whole refl)
+    (andThen-gives Unplaced _ _ (refuseIf-gives Unplaced (ltb room size) NoRoom Whole refl) (inl refl))
+
+pub gives-unplaced : (verdict : Verdict) → Gives Unplaced verdict → refusalOf verdict .place ≡ 0
+gives-unplaced verdict g = ⊎-elim (λ e. ap (λ (v : Verdict). refusalOf v .place) e) (λ p. p) g

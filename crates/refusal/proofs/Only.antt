@@ -8,7 +8,7 @@ use Rattle.refusal.specs.declared.Item.{Item}
 use Rattle.refusal.specs.declared.Item.the-variants.{Bit}
 use Rattle.refusal.specs.declared.Verdict.{Verdict}
 use Rattle.refusal.specs.declared.Verdict.the-variants.{Accepted, Refused}
-use Rattle.refusal.specs.Numbers.{numberOf}
+use Rattle.refusal.specs.Numbers.{numberOf, placeOf, refusalOf}
 use Rattle.refusal.specs.Checks.{refuseIf, andThen}
 use Rattle.refusal.specs.Answers.{AtBit}
 
@@ -42,3 +42,9 @@ pub bit-only : (limit : ℕ) (P : ℕ → ℕ → Type 0) (fault : Bool) (reason
     → Only (AtBit limit P) (refuseIf fault reason (Bit b))
 bit-only limit P fault reason b h stands =
     refuseIf-only (AtBit limit P) fault reason (Bit b) (λ e. record { bit = b; here = refl; within = h; stands = stands e })
+
+-- what is told of a verdict that refuses
+pub told-only : (P : ℕ → ℕ → Type 0) (verdict : Verdict) → Only (λ (reason : Reason) (item : Item). P (numberOf reason) (placeOf item)) verdict
+    → (refusalOf verdict .number ≡ 0 → ⊥) → P (refusalOf verdict .number) (refusalOf verdict .place)
+told-only P Accepted only h = absurd (h refl)
+told-only P (Refused reason item) only h = only reason item refl

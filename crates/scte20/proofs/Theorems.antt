@@ -96,10 +96,11 @@ pub read-first : (body lent : List ℕ) (r : Head) (exit : List ℕ) → ReadsIn
     → r .verdict ≡ first (readingChecks body)
 read-first = accepting.read-first
 
--- It is at a bit of the body or at its end, where something stands as `Stands` (specs/Places) says of its number: 5, 7
--- to 10, 18 or 19, and 6 for a body that does not begin 03, which is none of an area's caption units,
+-- It is at a bit of the body or at its end, and there stands what `Stands` (specs/Places) says of its number: 5, 7 to
+-- 10, 18 or 19, and 6 for a body that does not begin 03, which is none of an area's caption units,
 pub refused-at : (body lent : List ℕ) (r : Head) (exit : List ℕ) → ReadsInto body lent r exit → length body ≤ 16384
-    → (reason : Reason) (item : Item) → r .verdict ≡ Refused reason item → AtBit (8 * length body) (Stands (bitsOf body)) reason item
+    → (reason : Reason) (item : Item) → r .verdict ≡ Refused reason item
+    → AtBit (8 * length body) (Stands (bitsOf body)) reason item
 refused-at = accepting.refused-at
 
 -- and comes without records: the numbers are zero, and the lent array is as it was.
@@ -109,8 +110,8 @@ refused-zero = accepting.refused-zero
 
 -- WHAT THE LAYOUT HAS THERE
 
--- In the layout of every legal value each element stands where `firstBit` (specs/Places) says, and is the value's number:
--- a marker 1, non_real_time_video_count 0.
+-- In the layout of every legal value each element stands where `firstBit` (specs/Places) says, and is the value's
+-- number: a marker 1, non_real_time_video_count 0.
 pub layout-elements : (c : Content) → Legal c → (e : Element) → Has (c .flag) (length (c .records)) e
     → elementIn (bitsOf (layout c)) e ≡ valueIn c e
 layout-elements = elements.layout-elements

@@ -1,9 +1,10 @@
 -- Where bits that must be zero are refused: at the first that is 1.
 -- Assumes nothing.
 use Prim.Native.Nat.{ℕ, zero, suc, _+_, _-_, _≤_, _<_}
+use native.Mathlib.Nat.{eq-or-lt-of-le}
 use native.Mathlib.Omega.{arith}
 use mathlib.Core.Path.{_≡_, _∙_, ap, sym, subst, refl}
-use mathlib.Core.Logic.{_⊎_, inl, inr, ⊎-elim}
+use mathlib.Core.Logic.{⊎-elim}
 use mathlib.Core.List.{List, [], _∷_}
 use lib.ListN.{length, getD, drop}
 use lib.Seq.{getD-drop}
@@ -31,13 +32,7 @@ module _ (limit : ℕ) (P : ℕ → ℕ → Type 0) (which : Fixed) (at : ℕ) (
       (record { bit = at + zeros bs; here = refl; within = within h; stands = stands h })) in
       let none : zeros bs ≡ length bs → Only (AtBit limit P) (zeroVerdict which at bs) =
       λ e. subst (Only (AtBit limit P)) (sym (zero-none which at bs e)) (accepted-only (AtBit limit P)) in
-      ⊎-elim some none (below (zeros bs) (length bs) (zeros-le bs))
-    where
-      below : (a b : ℕ) → a ≤ b → (a < b) ⊎ (a ≡ b)
-      below zero zero h = inr refl
-      below zero (suc b) h = inl (omega arith)
-      below (suc a) zero h = let f : ⊥ = omega arith in absurd f
-      below (suc a) (suc b) h = ⊎-elim (λ l. inl (omega arith)) (λ e. inr (ap suc e)) (below a b (omega arith))
+      ⊎-elim none some (eq-or-lt-of-le (zeros-le bs))
 
 -- the bits before the end of a run are 0, and the one there is 1
 zeros-before : (bs : List ℕ) (i : ℕ) → i < zeros bs → getD bs i 0 ≡ 0

@@ -20,7 +20,7 @@ use Rattle.refusal.specs.declared.Verdict.the-variants.{Accepted, Refused}
 use Rattle.refusal.specs.Numbers.{numberOf, placeOf, refusalOf}
 use Rattle.refusal.specs.Checks.{refuseIf}
 use Rattle.refusal.proofs.Checks.{accepted-within, accepted-equal}
-use Rattle.refusal.proofs.Only.{Only, accepted-only, refuseIf-only, andThen-only}
+use Rattle.refusal.proofs.Only.{Only, accepted-only, refuseIf-only, andThen-only, told-only}
 use Rattle.anc.specs.Words.{parityOf, wordOf, byteOf, ByteWords, checksumOf}
 use Rattle.anc.proofs.Placed.{words-only, sum-only, accepted-byte-words}
 use Rattle.sdp.specs.User.{userVerdict}
@@ -108,12 +108,6 @@ module _ (s : List ℕ) where
       andThen-only Placed _ _ (user-only form) (λ g.
       andThen-only Placed _ _ (checksum-only form) (λ h.
       accepted-only Placed))))
-
--- what is told of a verdict that refuses
-told-only : (P : ℕ → ℕ → Type 0) (verdict : Verdict) → Only (λ (reason : Reason) (item : Item). P (numberOf reason) (placeOf item)) verdict
-    → (refusalOf verdict .number ≡ 0 → ⊥) → P (refusalOf verdict .number) (refusalOf verdict .place)
-told-only P Accepted only h = absurd (h refl)
-told-only P (Refused reason item) only h = only reason item refl
 
 pub place-means : (s : List ℕ) (r : Answer) → Reads s r → (r .refusal .number ≡ 0 → ⊥)
     → Stands s (r .refusal .number) (r .refusal .place)
