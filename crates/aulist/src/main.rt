@@ -17,7 +17,17 @@ fn main() {
         return;
     }
     let n = input.len;
-    if !list(&payload[..n]) {
+    let is_written = if MAX_BYTES < n {
+        let rest = input::count_rest();
+        if !rest.is_read {
+            os::fail(b"aulist: standard input");
+            return;
+        }
+        print::too_long(n + rest.len)
+    } else {
+        list(&payload[..n])
+    };
+    if !is_written {
         os::fail(b"aulist: standard output");
     }
 }

@@ -81,12 +81,12 @@ length-records zero i body = refl
 length-records (suc k) i body = ap suc (length-records k (i + 3) body)
 
 -- what the checks of k + 1 constructs tell
-record Stands (k i : ℕ) (body : List ℕ) : Type 0 where
+record Step (k i : ℕ) (body : List ℕ) : Type 0 where
   here : i + 3 ≤ length body
   marker : getD body i 0 / 8 ≡ 31
   later : constructsVerdict k (i + 3) body ≡ Accepted
 
-accepted-constructs : (k i : ℕ) (body : List ℕ) → constructsVerdict (suc k) i body ≡ Accepted → Stands k i body
+accepted-constructs : (k i : ℕ) (body : List ℕ) → constructsVerdict (suc k) i body ≡ Accepted → Step k i body
 accepted-constructs k i body e =
     let rest = constructsVerdict k (i + 3) body in
     let one = accepted-andThen (missing i 3 body) (first (markerVerdict i body ∷ rest ∷ [])) e in

@@ -29,12 +29,12 @@ constructsChecks zero i body = []
 constructsChecks (suc k) i body =
     -- 5: fewer than 24 bits left
     ends i 3 body
-    -- 6: its marker_bits are not 11111
+    -- 18: its marker_bits are not 11111
     ∷ refuseIf (not (eqb (getD body i 0 / 8) 31)) (Unfixed Marker) (Bit (8 * i))
     ∷ constructsChecks k (i + 3) body
 
 -- a unit's body. One in an area is shorter than 16,384 bytes and begins with the identifier, which 03 or nothing
--- follows, so that 1, the first 5 and the first two 6 are never given there
+-- follows, so that 1, the first 5 and the two 6 are never given there
 abbrev pub readingChecks : List ℕ → List Verdict
 readingChecks body =
     -- 1: longer than an area
@@ -51,12 +51,12 @@ readingChecks body =
     ∷ refuseIf (not (eqb (additionalIn body) 0)) AdditionalData (Bit 42)
     -- 5: em_data
     ∷ ends 6 1 body
-    -- 5, 6: each construct
+    -- 5, 18: each construct
     ∷ (constructsChecks (countIn body) 7 body
-    -- 5, 6: marker_bits 1111 1111
+    -- 5, 18: marker_bits 1111 1111
     ++ (ends (7 + 3 * countIn body) 1 body
     ∷ refuseIf (not (eqb (getD body (7 + 3 * countIn body) 0) 0xFF)) (Unfixed Marker) (Bit (8 * (7 + 3 * countIn body)))
-    -- 6: stuffing
+    -- 19: stuffing
     ∷ zeroChecks Stuffing (8 * (8 + 3 * countIn body)) (bitsOf (drop (8 + 3 * countIn body) body))))
 
 -- WRITING

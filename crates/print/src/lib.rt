@@ -5,7 +5,10 @@ ghost use mathlib.Core.Path.{_≡_};
 ghost use Prim.Native.Nat.{_%_};
 ghost use Rattle.print.specs.Digits.{digitOf};
 use libc::STDOUT_FILENO;
+use refusal::Item;
+use refusal::Reason;
 use refusal::Refusal;
+use refusal::Verdict;
 
 pub fn text(bytes: &[u8]) -> bool {
     io::write_all(STDOUT_FILENO, bytes)
@@ -28,6 +31,12 @@ pub fn refused(r: Refusal) -> bool {
         && text(b" at ")
         && decimal(r.place as u64)
         && text(b"\n")
+}
+
+// The refusal of input that is longer than its carriage allows: the place is its length.
+pub fn too_long(length: usize) -> bool {
+    let verdict = Verdict::Refused(Reason::TooLong, Item::Length(length));
+    refused(refusal::told(verdict))
 }
 
 // The character of the hex digit that d is, modulo 16.

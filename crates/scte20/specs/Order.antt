@@ -47,11 +47,11 @@ constructsChecks before (suc k) at xs =
     ends at 26 xs
     -- 7, 8, 8, 9
     ∷ (recordChecks at before (constructAt at xs)
-    -- 6: the marker
+    -- 18: the marker
     ++ (refuseIf (not (eqb (field xs (at + 25) 1) 1)) (Unfixed Marker) (Bit (at + 25))
     ∷ constructsChecks (constructAt at xs ∷ before) k (at + 26) xs))
 
--- 6: alignment bits, from bit `at` up to a whole byte, then stuffing
+-- 19: alignment bits, from bit `at` up to a whole byte, then stuffing
 abbrev pub restChecks : ℕ → List ℕ → List Verdict
 restChecks at xs =
     zeroChecks Alignment at (take (padding at) (drop at xs))
@@ -60,22 +60,21 @@ restChecks at xs =
 -- behind the flag: with flag 0 the content is two bytes
 abbrev pub flagChecks : ℕ → List ℕ → List Verdict
 flagChecks zero xs =
-    -- 6: stuffing (no bit is left to align)
+    -- 19: stuffing (no bit is left to align)
     restChecks 16 xs
 flagChecks (suc f) xs =
     -- 5: cc_count
     ends 16 5 xs
-    -- 5, 7, 8, 8, 9, 6: each construct
+    -- 5, 7, 8, 8, 9, 18: each construct
     ∷ (constructsChecks [] (countIn xs) 21 xs
     -- 5: the sampled video count
     ++ (ends (21 + 26 * countIn xs) 4 xs
     -- 10: it is above 0
     ∷ refuseIf (not (eqb (field xs (21 + 26 * countIn xs) 4) 0)) SampledVideo (Bit (21 + 26 * countIn xs))
-    -- 6: alignment bits, then stuffing
+    -- 19: alignment bits, then stuffing
     ∷ restChecks (25 + 26 * countIn xs) xs))
 
--- a unit's body. One in an area is shorter than 16,384 bytes and begins 03, so that 1 and the first 6 are never given
--- there
+-- a unit's body. One in an area is shorter than 16,384 bytes and begins 03, so that 1 and 6 are never given there
 abbrev pub readingChecks : List ℕ → List Verdict
 readingChecks body =
     -- 1: longer than an area

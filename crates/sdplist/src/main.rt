@@ -27,7 +27,17 @@ fn main() {
         return;
     }
     let n = input.len;
-    if !list_bytes(&bytes[..n]) {
+    let is_written = if n == 2 * ROOM {
+        let rest = input::count_rest();
+        if !rest.is_read {
+            os::fail(b"sdplist: standard input");
+            return;
+        }
+        print::too_long((n + rest.len) / 2)
+    } else {
+        list_bytes(&bytes[..n])
+    };
+    if !is_written {
         os::fail(b"sdplist: standard output");
     }
 }
