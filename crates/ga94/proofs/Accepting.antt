@@ -2,7 +2,7 @@
 -- Assumes nothing.
 use Prim.Native.Nat.{ℕ, _*_, _≤_, _<_}
 use mathlib.Core.Path.{_≡_, _∙_, ap, ap₂, sym, subst, refl}
-use mathlib.Core.Logic.{_⊎_, _↔_}
+use mathlib.Core.Logic.{_↔_}
 use mathlib.Core.List.{List}
 use lib.ListN.{length}
 use lib.Seq.{take-append-seam}
@@ -10,7 +10,6 @@ use Rattle.refusal.specs.declared.Reason.{Reason}
 use Rattle.refusal.specs.declared.Item.{Item}
 use Rattle.refusal.specs.declared.Verdict.{Verdict}
 use Rattle.refusal.specs.declared.Verdict.the-variants.{Accepted, Refused}
-use Rattle.refusal.specs.Numbers.{numberOf}
 use Rattle.refusal.specs.Checks.{first}
 use Rattle.refusal.specs.Answers.{lentOf, AtBit}
 use Rattle.refusal.proofs.Outputs.{refused-lent}

@@ -15,6 +15,7 @@ pub mod Sequence
 pub mod Answers
 pub mod Judged
 pub mod Accepting
+pub mod Faults
 pub mod Writing
 pub mod Determined
 pub mod Theorems

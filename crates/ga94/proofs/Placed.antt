@@ -3,10 +3,10 @@
 use Prim.Native.Nat.{ℕ, zero, suc, _+_, _-_, _*_, _/_, _%_, _^_, _≤_, _<_}
 use native.Mathlib.Nat.{zero-add}
 use native.Mathlib.Omega.{arith}
-use mathlib.Core.Path.{_≡_, _∙_, ap, ap₂, subst, sym, refl}
-use mathlib.Core.Bool.{Bool, true, false, not, _&&_, true≢false}
+use mathlib.Core.Path.{_≡_, _∙_, ap, subst, sym, refl}
+use mathlib.Core.Bool.{Bool, true, not, true≢false}
 use mathlib.Core.List.{List, [], _∷_}
-use borrow.Author.Tests.{eqb-true, eqb-false, eq-eqb, ltb-true, not-true, le-ltb}
+use borrow.Author.Tests.{eqb-false, eq-eqb, ltb-true, not-true, le-ltb}
 use lib.Dec.{eqb, ltb}
 use lib.ListN.{length, getD, drop, length-drop}
 use Rattle.lists.specs.Bytes.{Bytes}
@@ -103,19 +103,19 @@ module _ (body : List ℕ) (bytes : Bytes body) where
       andThen-only Here (missing 0 4 body) _ (missing-only atsc-identifier 0 4 refl refl tt (omega arith)) (λ e.
       let four : 0 + 4 ≤ length body = accepted-missing 0 4 body e in
       andThen-only Here _ _ (check-only (not (identifierIn body)) (Unfixed Identifier) 0 (omega arith) (λ t.
-        identifier-6 refl (complete atsc-identifier 0 4 (omega arith) tt four)
-        (λ same. true≢false (sym (identified (omega arith) same) ∙ not-true (identifierIn body) t)))) (λ f.
+      identifier-6 refl (complete atsc-identifier 0 4 (omega arith) tt four)
+      (λ same. true≢false (sym (identified (omega arith) same) ∙ not-true (identifierIn body) t)))) (λ f.
       andThen-only Here (missing 4 1 body) _ (missing-only user-data-type-code 4 1 refl refl tt (omega arith)) (λ g.
       let five : 4 + 1 ≤ length body = accepted-missing 4 1 body g in
       let code : elementIn xs user-data-type-code ≡ getD body 4 0 = field-whole body 4 bytes (omega arith) in
       andThen-only Here _ _ (check-only (not (eqb (getD body 4 0) 3)) (Unfixed Identifier) 32 (omega arith) (λ t.
-        type-code-6 refl (complete user-data-type-code 4 1 (omega arith) tt five)
-        (λ same. eqb-false (getD body 4 0) 3 (not-true (eqb (getD body 4 0) 3) t) (sym code ∙ same)))) (λ h.
+      type-code-6 refl (complete user-data-type-code 4 1 (omega arith) tt five)
+      (λ same. eqb-false (getD body 4 0) 3 (not-true (eqb (getD body 4 0) 3) t) (sym code ∙ same)))) (λ h.
       andThen-only Here (missing 5 1 body) _ (missing-only flags-byte 5 1 refl refl tt (omega arith)) (λ i.
       let six : 5 + 1 ≤ length body = accepted-missing 5 1 body i in
       andThen-only Here _ _ (check-only (not (eqb (additionalIn body) 0)) AdditionalData 42 (omega arith) (λ t.
-        let flag : additionalIn body ≡ 0 → ⊥ = eqb-false (additionalIn body) 0 (not-true (eqb (additionalIn body) 0) t) in
-        additional-16 refl (complete additional-data-flag 5 1 (omega arith) tt six) (omega (arith, additional six, flag)))) (λ j.
+      let flag : additionalIn body ≡ 0 → ⊥ = eqb-false (additionalIn body) 0 (not-true (eqb (additionalIn body) 0) t) in
+      additional-16 refl (complete additional-data-flag 5 1 (omega arith) tt six) (omega (arith, additional six, flag)))) (λ j.
       andThen-only Here (missing 6 1 body) _ (missing-only em-data 6 1 refl refl tt (omega arith)) (λ k.
       accepted-only Here)))))))
 
@@ -176,8 +176,8 @@ module _ (body : List ℕ) (bytes : Bytes body) where
         let there : at + 1 ≤ length body = accepted-missing at 1 body a in
         let ones : elementIn xs (closing (countIn body)) ≡ byte = field-whole body at bytes (omega arith) in
         andThen-only Here _ _ (check-only (not (eqb byte 0xFF)) (Unfixed Marker) (8 * at) (omega arith) (λ t.
-          closing-18 (countIn body) refl (complete (closing (countIn body)) at 1 (omega arith) same there)
-          (λ full. eqb-false byte 0xFF (not-true (eqb byte 0xFF) t) (sym ones ∙ full)))) (λ b.
+        closing-18 (countIn body) refl (complete (closing (countIn body)) at 1 (omega arith) same there)
+        (λ full. eqb-false byte 0xFF (not-true (eqb byte 0xFF) t) (sym ones ∙ full)))) (λ b.
         let rest = bitsOf (drop (at + 1) body) in
         let from = 8 * (at + 1) in
         let dropped : drop from xs ≡ rest = drop-bitsOf (at + 1) body in
@@ -186,8 +186,8 @@ module _ (body : List ℕ) (bytes : Bytes body) where
         (zero-only (8 * length body) (Stands xs) Stuffing from rest
         (λ some. omega (arith, zeros-le rest, length-bitsOf (drop (at + 1) body), length-drop (at + 1) body))
         (λ some.
-          let one : FirstOne xs from (from + zeros (drop from xs)) = first-one xs from (bitsOf-are body) (subst (λ (l : List ℕ). zeros l < length l) (sym dropped) some) in
-          zeros-19 refl (subst (λ (k : ℕ). FirstOne xs k (from + zeros rest)) begin (subst (λ (l : List ℕ). FirstOne xs from (from + zeros l)) dropped one)))) (λ c.
+        let one : FirstOne xs from (from + zeros (drop from xs)) = first-one xs from (bitsOf-are body) (subst (λ (l : List ℕ). zeros l < length l) (sym dropped) some) in
+        zeros-19 refl (subst (λ (k : ℕ). FirstOne xs k (from + zeros rest)) begin (subst (λ (l : List ℕ). FirstOne xs from (from + zeros l)) dropped one)))) (λ c.
         accepted-only Here)))
 
   abbrev restOf : Verdict

@@ -12,7 +12,7 @@
 -- held `out` answers r and leaves `exit`. So each theorem speaks of every call. Assumes nothing.
 use Prim.Native.Nat.{ℕ, _+_, _*_, _≤_, _<_}
 use mathlib.Core.Path.{_≡_}
-use mathlib.Core.Logic.{_⊎_, _↔_}
+use mathlib.Core.Logic.{_↔_}
 use mathlib.Core.List.{List}
 use lib.ListN.{length, getD}
 use Rattle.lists.specs.Room.{overAt}
@@ -20,7 +20,7 @@ use Rattle.refusal.specs.declared.Reason.{Reason}
 use Rattle.refusal.specs.declared.Item.{Item}
 use Rattle.refusal.specs.declared.Verdict.the-variants.{Accepted, Refused}
 use Rattle.refusal.specs.declared.Laid.{Laid}
-use Rattle.refusal.specs.Numbers.{numberOf, refusalOf}
+use Rattle.refusal.specs.Numbers.{refusalOf}
 use Rattle.refusal.specs.Checks.{first}
 use Rattle.refusal.specs.Answers.{refused, AtBit}
 use Rattle.bits.specs.Bits.{bitsOf, longest}
@@ -35,6 +35,7 @@ use Rattle.ga94.specs.Order.{readingChecks, writingChecks}
 use Rattle.ga94.specs.Places.{Element, Has, elementIn, Stands, valueIn}
 use Rattle.ga94.specs.Lent.{recordsBytes, lentRecords, storedAt, unitIn, numbersOf, ReadsInto}
 use Rattle.ga94.proofs.Accepting as accepting
+use Rattle.ga94.proofs.Faults as faults
 use Rattle.ga94.proofs.Writing as writing
 use Rattle.ga94.proofs.Sequence as sequence
 use Rattle.ga94.proofs.Elements as elements
@@ -91,17 +92,25 @@ pub read-first : (body lent : List ℕ) (r : Head) (exit : List ℕ) → ReadsIn
     → r .verdict ≡ first (readingChecks body)
 read-first = accepting.read-first
 
--- It is at a bit of the body or at its end, and there stands what `Stands` (specs/Places) says of its number: 5, 16, 18
--- or 19, and 6 for a body that does not begin with the identifier and 03, which is none of an area's GA94 units,
+-- It comes without records: the numbers are zero, and the lent array is as it was.
+pub refused-zero : (body lent : List ℕ) (r : Head) (exit : List ℕ) → ReadsInto body lent r exit
+    → (r .verdict ≡ Accepted → ⊥) → (r .numbers ≡ numbersOf (stored none)) × (exit ≡ lent)
+refused-zero = accepting.refused-zero
+
+-- WHAT STANDS AT THE PLACE
+
+-- A refusal of a body within the limit of an area is at a bit of it or at its end, and there stands what `Stands`
+-- (specs/Places) says of its number: 5, 16, 18 or 19, and 6 for a body that does not begin with the identifier and 03,
+-- which is none of an area's GA94 units.
 pub refused-at : (body lent : List ℕ) (r : Head) (exit : List ℕ) → ReadsInto body lent r exit → length body ≤ 16384
     → (reason : Reason) (item : Item) → r .verdict ≡ Refused reason item
     → AtBit (8 * length body) (Stands (bitsOf body)) reason item
 refused-at = accepting.refused-at
 
--- and comes without records: the numbers are zero, and the lent array is as it was.
-pub refused-zero : (body lent : List ℕ) (r : Head) (exit : List ℕ) → ReadsInto body lent r exit
-    → (r .verdict ≡ Accepted → ⊥) → (r .numbers ≡ numbersOf (stored none)) × (exit ≡ lent)
-refused-zero = accepting.refused-zero
+-- Each case is a fault: where one stands, at any bit, the body is refused.
+pub stands-refused : (body lent : List ℕ) (r : Head) (exit : List ℕ) → ReadsInto body lent r exit
+    → (number bit : ℕ) → Stands (bitsOf body) number bit → r .verdict ≡ Accepted → ⊥
+stands-refused = faults.stands-refused
 
 -- WHAT THE LAYOUT HAS THERE
 

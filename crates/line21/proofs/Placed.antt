@@ -14,8 +14,6 @@ use Rattle.refusal.specs.declared.Reason.the-variants.{NoStart, TooLong, Unfit}
 use Rattle.refusal.specs.declared.Misfit.the-variants.{PayloadLength}
 use Rattle.refusal.specs.declared.Item.{Item}
 use Rattle.refusal.specs.declared.Item.the-variants.{Length}
-use Rattle.refusal.specs.declared.Verdict.{Verdict}
-use Rattle.refusal.specs.declared.Verdict.the-variants.{Accepted, Refused}
 use Rattle.refusal.specs.Numbers.{numberOf, placeOf, refusalOf}
 use Rattle.refusal.proofs.Only.{Only, accepted-only, refuseIf-only, andThen-only, told-only}
 use Rattle.line21.specs.declared.Answer.{Answer}

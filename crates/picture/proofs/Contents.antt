@@ -28,6 +28,7 @@ use Rattle.scte20.proofs.Sizes.{begins}
 use Rattle.scte20.proofs.Contents as scte20-contents
 use Rattle.scte20.proofs.Layouts as scte20-layouts
 use Rattle.scte20.proofs.Placed as scte20-placed
+use Rattle.scte20.proofs.Faults as scte20-faults
 use Rattle.scte20.proofs.Quiet as scte20-quiet
 use Rattle.scte20.proofs.Sequence as scte20-sequence
 use Rattle.scte20.proofs.Writable as scte20-writable
@@ -38,6 +39,7 @@ use Rattle.ga94.proofs.Sizes as ga94-sizes
 use Rattle.ga94.proofs.Contents as ga94-contents
 use Rattle.ga94.proofs.Layouts as ga94-layouts
 use Rattle.ga94.proofs.Placed as ga94-placed
+use Rattle.ga94.proofs.Faults as ga94-faults
 use Rattle.ga94.proofs.Quiet as ga94-quiet
 use Rattle.ga94.proofs.Sequence as ga94-sequence
 use Rattle.ga94.proofs.Writable as ga94-writable
@@ -89,6 +91,11 @@ pub content-placed : (k : Kind) (s : List ℕ) → Bytes s → length s ≤ 1638
     → AtBit (8 * length s) (Stands k s) reason item
 content-placed Scte20 s b short reason item e = scte20-placed.content-placed s short reason item e
 content-placed Ga94 s b short reason item e = ga94-placed.content-placed s b short reason item e
+
+-- and where such a thing stands it is refused
+pub content-stands : (k : Kind) (s : List ℕ) → Bytes s → (number bit : ℕ) → Stands k s number bit → contentVerdict k s ≡ Accepted → ⊥
+content-stands Scte20 s b number bit stands e = scte20-faults.content-stands s b number bit stands e
+content-stands Ga94 s b number bit stands e = ga94-faults.content-stands s b number bit stands e
 
 pub body-order : (k : Kind) (s : List ℕ) → contentVerdict k s ≡ first (bodyChecks k s)
 body-order Scte20 s = scte20-sequence.reading-order s

@@ -1,19 +1,19 @@
 -- What a refusal of an area tells of its place: 0 before the caption unit's body is read, and in it the bit at which something stands that is wrong.
+-- An area in which such a thing stands is refused.
 -- Assumes nothing.
 use Prim.Native.Nat.{ℕ, _+_, _*_, _≤_, _<_}
 use native.Mathlib.Omega.{arith}
 use mathlib.Core.Path.{_≡_, _∙_, ap, sym, subst, refl}
 use mathlib.Core.Logic.{_⊎_, inl, inr, ⊎-elim}
-use mathlib.Core.Bool.{Bool, true, false, not, _&&_, true≢false}
+use mathlib.Core.Bool.{true, not, _&&_, true≢false}
 use mathlib.Core.List.{List, [], _∷_, _++_}
 use borrow.Author.Tests.{eqb-true}
 use lib.Dec.{eqb, ltb}
 use lib.ListN.{length, drop}
 use lib.Seq.{drop-drop, drop-append-add, drop-append-le}
-use Rattle.lists.specs.Each.{Each}
 use Rattle.lists.specs.Bytes.{Bytes}
 use Rattle.lists.specs.Part.{part}
-use Rattle.refusal.specs.declared.Reason.{Reason}
+use Rattle.lists.proofs.Each.{append-each}
 use Rattle.refusal.specs.declared.Reason.the-variants.{TooLong, NoStart, StartCode}
 use Rattle.refusal.specs.declared.Item.{Item}
 use Rattle.refusal.specs.declared.Item.the-variants.{Whole}
@@ -21,7 +21,6 @@ use Rattle.refusal.specs.declared.Refusal.{Refusal}
 use Rattle.refusal.specs.declared.Verdict.{Verdict}
 use Rattle.refusal.specs.declared.Verdict.the-variants.{Accepted, Refused}
 use Rattle.refusal.specs.Numbers.{numberOf, refusalOf}
-use Rattle.refusal.specs.Checks.{refuseIf, first}
 use Rattle.refusal.specs.Answers.{AtBit}
 use Rattle.refusal.proofs.Checks.{both-hold, refused-not-accepted}
 use Rattle.refusal.proofs.Gives.{Gives, refuseIf-gives, andThen-gives}
@@ -39,12 +38,12 @@ use Rattle.units.proofs.Spans.{Alone, found-at, refused-split}
 use Rattle.scte20.specs.Places as scte20-places
 use Rattle.ga94.specs.Places as ga94-places
 use Rattle.picture.specs.Kinds.{contentVerdict, Stands}
-use Rattle.picture.specs.Value.{Foreign}
 use Rattle.picture.specs.Reading.{placedItem, placed, captionsIn, foundVerdict, areaVerdict, Answer, Reads}
 use Rattle.picture.specs.Places.{areaBit, InUnit}
-use Rattle.picture.proofs.Contents.{content-placed}
+use Rattle.picture.proofs.Contents.{content-placed, content-stands}
 use Rattle.picture.proofs.Areas.{alone-foreign}
-use Rattle.picture.proofs.Accepting.{refused-in-order}
+use Rattle.picture.proofs.Accepting.{refused-in-order, accepted-exactly}
+use Rattle.picture.proofs.Refusing.{refused-content}
 
 -- THE NUMBERS OF A BODY
 
@@ -160,21 +159,23 @@ module _ (k : Kind) (s : List ℕ) (bytes : Bytes s) where
       let here : refusalOf (Refused reason (placedItem unit item)) .place ≡ areaBit (w .before) (at .bit) =
       ap (λ (i : Item). refusalOf (Refused reason (placedItem unit i)) .place) (at .here) ∙ ap (λ (n : ℕ). 8 * (n + 4) + at .bit) (w .starts) in
       inr
-      (inr
-      (stands-5 k (w .body) (numberOf reason) (at .bit) (at .stands),
-      record {
-        before = w .before;
-        body = w .body;
-        after = w .after;
-        whole = w .whole;
-        foreign-before = foreign .0;
-        foreign-after = foreign .2;
-        mine = w .mine;
-        bit = at .bit;
-        here = here;
-        stands = at .stands;
-        not-6 = stands-not-6 k (w .body) (numberOf reason) (at .bit) (w .mine) (at .stands);
-      }))
+      (inr (
+        stands-5 k (w .body) (numberOf reason) (at .bit) (at .stands),
+        record {
+          before = w .before;
+          body = w .body;
+          after = w .after;
+          whole = w .whole;
+          foreign-before = foreign .0;
+          foreign-after = foreign .2;
+          clean = w .clean;
+          mine = w .mine;
+          bit = at .bit;
+          here = here;
+          stands = at .stands;
+          not-6 = stands-not-6 k (w .body) (numberOf reason) (at .bit) (w .mine) (at .stands);
+        },
+      ))
 
   found-told : (f : Found) → captionsIn k s ≡ f → Told (foundVerdict k f s)
   unfolding Told Outside
@@ -212,3 +213,24 @@ module _ (k : Kind) (s : List ℕ) (r : Answer k) (p : Reads k s r) where
       (λ ok. let f : ⊥ = omega (arith, ap (λ (a : Refusal). a .number) same, ap (λ (v : Verdict). refusalOf v .number) ok) in absurd f)
       (λ h. ⊎-elim (λ out. let f : ⊥ = omega (arith, out .0, ap (λ (a : Refusal). a .number) same) in absurd f) (λ inside. inside .1) h)
       told)
+
+  -- and where such a thing stands the area is refused
+  module _ (number place : ℕ) (u : InUnit k s number place) (accepts : r .refusal .number ≡ 0) where
+    body-bytes : Bytes (u .body)
+    body-bytes =
+        let all : Bytes (units.layout (u .before) ++ units.layout (u .body ∷ u .after)) =
+        subst Bytes (sym (u .whole) ∙ layout-append (u .before) (u .body ∷ u .after)) (p .bytes) in
+        append-each (λ (b : ℕ). b < 256) (u .body) (units.layout (u .after)) (append-each (λ (b : ℕ). b < 256) (units.layout (u .before)) _ all .1 .1 .1 .1 .1) .0
+
+    short : length (units.layout (u .before ++ (u .body ∷ u .after))) ≤ 16384
+    short = let v = accepted-exactly k s r p .0 accepts in subst (λ (t : List ℕ). length t ≤ 16384) (v .2 ∙ sym (u .whole)) (v .1 .short)
+
+    body-refused : (verdict : Verdict) → contentVerdict k (u .body) ≡ verdict → ⊥
+    body-refused Accepted same = content-stands k (u .body) body-bytes number (u .bit) (u .stands) same
+    body-refused (Refused reason item) same =
+        let reads : Reads k (units.layout (u .before ++ (u .body ∷ u .after))) r = subst (λ (t : List ℕ). Reads k t r) (sym (u .whole)) p in
+        let at = refused-content k (u .before) (u .body) (u .after) r reads (u .foreign-before) (u .clean) body-bytes (u .mine) (u .foreign-after) short reason item same in
+        omega (arith, ap (λ (a : Refusal). a .number) (at .1), stands-5 k (u .body) (numberOf reason) (at .0) (at .3))
+
+  pub stands-refused : (number place : ℕ) → InUnit k s number place → r .refusal .number ≡ 0 → ⊥
+  stands-refused number place u accepts = body-refused number place u accepts (contentVerdict k (u .body)) refl

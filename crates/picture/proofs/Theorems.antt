@@ -145,6 +145,11 @@ pub place-inside : (k : Kind) (s : List ℕ) (r : Answer k) → Reads k s r
     → 5 ≤ r .refusal .number → InUnit k s (r .refusal .number) (r .refusal .place)
 place-inside = standing.place-inside
 
+-- Each case is a fault: where one stands, at any bit of the caption unit's body, the area is refused.
+pub stands-refused : (k : Kind) (s : List ℕ) (r : Answer k) → Reads k s r
+    → (number place : ℕ) → InUnit k s number place → r .refusal .number ≡ 0 → ⊥
+stands-refused = standing.stands-refused
+
 -- From that place on the area has the bits of the body from that bit on, and then those of the units behind it.
 pub area-bits : (before : List (List ℕ)) (body : List ℕ) (after : List (List ℕ)) (bit : ℕ) → bit ≤ 8 * length body
     → drop (areaBit before bit) (bitsOf (units.layout (before ++ (body ∷ after))))

@@ -24,6 +24,7 @@ pub record InUnit (k : Kind) (s : List ℕ) (number place : ℕ) : Type 0 where
   pub whole : units.layout (before ++ (body ∷ after)) ≡ s
   pub foreign-before : Each (Foreign k) before
   pub foreign-after : Each (Foreign k) after
+  pub clean : units.Clean body
   pub mine : ours k body ≡ true
   pub bit : ℕ
   pub here : place ≡ areaBit before bit

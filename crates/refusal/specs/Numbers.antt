@@ -1,5 +1,6 @@
--- RULES, "Refusals": which number a reason has, and which place is told for the item that failed. Nothing else in the
--- project says a refusal number or a place. The words beside a number are a reminder; RULES says when it is given.
+-- RULES, "Refusals": which number a reason has, and which place is told for the item that failed. Every call has its
+-- numbers and places from here. What a carriage says of them (specs/Places) is proved of these. The words beside a
+-- number are a reminder; RULES says when it is given.
 use Prim.Native.Nat.{ℕ}
 use Rattle.refusal.specs.declared.Reason.{Reason}
 use Rattle.refusal.specs.declared.Reason.the-variants.{TooLong, NoStart, StartCode, SecondUnit, Ends, Unfixed, FieldNumberZero, DescriptorLine, FieldFalls, LineDoesNotRise, FifthPriority, SampledVideo, WordRange, WordParity, SdpChecksum, Checksum, Unfit, NoRoom, Unholdable, AdditionalData}

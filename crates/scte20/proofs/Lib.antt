@@ -19,6 +19,7 @@ pub mod Judged
 pub mod Writable
 pub mod Sequence
 pub mod Accepting
+pub mod Faults
 pub mod Writing
 pub mod Determined
 pub mod Theorems

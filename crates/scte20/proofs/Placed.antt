@@ -5,7 +5,7 @@ use native.Mathlib.Nat.{zero-add}
 use native.Mathlib.Omega.{arith}
 use mathlib.Core.Path.{_≡_, _∙_, ap, subst, sym, refl}
 use borrow.Author.Tests.{eqb-true, eqb-false, ltb-true, ltb-false, not-true, le-ltb}
-use mathlib.Core.Bool.{Bool, true, false, not, _&&_, true≢false}
+use mathlib.Core.Bool.{Bool, true, not, _&&_, true≢false}
 use mathlib.Core.List.{List, [], _∷_, _++_}
 use lib.Dec.{eqb, ltb}
 use lib.ListN.{length, take, drop, replicate, length-take, length-drop, take-append-drop}
@@ -27,10 +27,9 @@ use Rattle.bits.proofs.Numbers.{AreBits}
 use Rattle.bits.proofs.Stream.{length-bitsOf, bitsOf-are}
 use Rattle.bits.proofs.Fields.{field-lt}
 use Rattle.bits.proofs.Runs.{zeros-le, zeros-stop, zeros-on}
-use Rattle.stuffing.specs.Zeros.{zeroVerdict, FirstOne}
+use Rattle.stuffing.specs.Zeros.{FirstOne}
 use Rattle.stuffing.proofs.Zeros.{accepted-zero}
 use Rattle.stuffing.proofs.Numbered.{zero-only, first-one}
-use Rattle.scte20.specs.declared.Record.{Record}
 use Rattle.scte20.specs.Value.{fieldOf, countIf, urgent}
 use Rattle.scte20.specs.Layout.{padding}
 use Rattle.scte20.specs.Rules.{falls, notRising, recordVerdict}
@@ -138,14 +137,14 @@ module _ (xs : List ℕ) (are : AreBits xs) where
         let field : at i + 2 ≤ length xs = omega arith in
         let line : at i + 4 ≤ length xs = omega arith in
         andThen-only Here _ _ (check-only (eqb (fieldOf r) 0) FieldNumberZero (at i + 2) field (λ t.
-          field-zero-7 i refl (complete (field-number i) i (set, few) (omega arith) there) (eqb-true (elementIn xs (field-number i)) 0 t))) (λ e.
+        field-zero-7 i refl (complete (field-number i) i (set, few) (omega arith) there) (eqb-true (elementIn xs (field-number i)) 0 t))) (λ e.
         andThen-only Here _ _ (check-only (falls (behind i xs) r) FieldFalls (at i + 2) field (λ t. falls-in i few there t)) (λ e.
         andThen-only Here _ _ (check-only (notRising (behind i xs) r) LineDoesNotRise (at i + 4) line (λ t. stays-in i few there t)) (λ e.
         andThen-only Here _ _ (check-only (eqb (r .«cc_priority») 0 && ltb 3 (urgent (fieldOf r) (behind i xs))) FifthPriority (at i) priority (λ t.
-          let both = both-hold (eqb (r .«cc_priority») 0) (ltb 3 (urgent (fieldOf r) (behind i xs))) t in
-          let four : 3 < urgent (fieldOf r) (behind i xs) = ltb-true 3 (urgent (fieldOf r) (behind i xs)) (both .1) in
-          fifth-9 i refl (complete (cc-priority i) i (set, few) (omega arith) there) (eqb-true (elementIn xs (cc-priority i)) 0 (both .0))
-          (omega (arith, four, urgent-in (fieldOf r) i)))) (λ e.
+        let both = both-hold (eqb (r .«cc_priority») 0) (ltb 3 (urgent (fieldOf r) (behind i xs))) t in
+        let four : 3 < urgent (fieldOf r) (behind i xs) = ltb-true 3 (urgent (fieldOf r) (behind i xs)) (both .1) in
+        fifth-9 i refl (complete (cc-priority i) i (set, few) (omega arith) there) (eqb-true (elementIn xs (cc-priority i)) 0 (both .0))
+        (omega (arith, four, urgent-in (fieldOf r) i)))) (λ e.
         accepted-only Here))))
 
     marker-only : (i : ℕ) → i < elementIn xs cc-count → at i + 26 ≤ length xs → Only Here (markerVerdict (at i) xs)
@@ -177,8 +176,8 @@ module _ (xs : List ℕ) (are : AreBits xs) where
       let sampled = field xs (21 + 26 * n) 4 in
       andThen-only Here (missing (21 + 26 * n) 4 xs) _ (missing-only (video-count n) (set, refl) h) (λ e.
       andThen-only Here _ _ (check-only (not (eqb sampled 0)) SampledVideo (21 + 26 * n) h (λ t.
-        video-count-10 n refl (record { has = (set, refl); here = refl; all = accepted-missing (21 + 26 * n) 4 xs e })
-        (eqb-false sampled 0 (not-true (eqb sampled 0) t)))) (λ f.
+      video-count-10 n refl (record { has = (set, refl); here = refl; all = accepted-missing (21 + 26 * n) 4 xs e })
+      (eqb-false sampled 0 (not-true (eqb sampled 0) t)))) (λ f.
       accepted-only Here))
 
   sampled-there : (at : ℕ) → sampledVerdict at xs ≡ Accepted → at + 4 ≤ length xs
@@ -217,7 +216,7 @@ module _ (xs : List ℕ) (are : AreBits xs) where
       andThen-only Here (missing 0 8 xs) _ (missing-only user-data-type-code tt (omega arith)) (λ e.
       let typed : 0 + 8 ≤ length xs = accepted-missing 0 8 xs e in
       andThen-only Here _ _ (check-only (not (eqb code 3)) (Unfixed Identifier) 0 (omega arith) (λ t.
-        type-code-6 refl (record { has = tt; here = refl; all = typed }) (eqb-false code 3 (not-true (eqb code 3) t)))) (λ f.
+      type-code-6 refl (record { has = tt; here = refl; all = typed }) (eqb-false code 3 (not-true (eqb code 3) t)))) (λ f.
       andThen-only Here (missing 8 7 xs) _ (missing-only reserved-bits tt typed) (λ g.
       andThen-only Here (missing 15 1 xs) _ (missing-only vbi-data-flag tt (accepted-missing 8 7 xs g)) (λ i.
       accepted-only Here))))

@@ -40,6 +40,7 @@ use Rattle.scte20.specs.Places.{Element, Has, elementIn, bitsIn, Stands,
 use Rattle.scte20.specs.Lent.{recordsBytes, lentRecords, storedAt, unitIn, numbersOf, ReadsInto}
 use Rattle.scte20.specs.Inside.{lastOf, FieldsDescend, lastVerdict, lastAfter}
 use Rattle.scte20.proofs.Accepting as accepting
+use Rattle.scte20.proofs.Faults as faults
 use Rattle.scte20.proofs.Writing as writing
 use Rattle.scte20.proofs.Sequence as sequence
 use Rattle.scte20.proofs.Elements as elements
@@ -96,17 +97,25 @@ pub read-first : (body lent : List ℕ) (r : Head) (exit : List ℕ) → ReadsIn
     → r .verdict ≡ first (readingChecks body)
 read-first = accepting.read-first
 
--- It is at a bit of the body or at its end, and there stands what `Stands` (specs/Places) says of its number: 5, 7 to
--- 10, 18 or 19, and 6 for a body that does not begin 03, which is none of an area's caption units,
+-- It comes without records: the numbers are zero, and the lent array is as it was.
+pub refused-zero : (body lent : List ℕ) (r : Head) (exit : List ℕ) → ReadsInto body lent r exit
+    → (r .verdict ≡ Accepted → ⊥) → (r .numbers ≡ numbersOf (stored none)) × (exit ≡ lent)
+refused-zero = accepting.refused-zero
+
+-- WHAT STANDS AT THE PLACE
+
+-- A refusal of a body within the limit of an area is at a bit of it or at its end, and there stands what `Stands`
+-- (specs/Places) says of its number: 5, 7 to 10, 18 or 19, and 6 for a body that does not begin 03, which is none of an
+-- area's caption units.
 pub refused-at : (body lent : List ℕ) (r : Head) (exit : List ℕ) → ReadsInto body lent r exit → length body ≤ 16384
     → (reason : Reason) (item : Item) → r .verdict ≡ Refused reason item
     → AtBit (8 * length body) (Stands (bitsOf body)) reason item
 refused-at = accepting.refused-at
 
--- and comes without records: the numbers are zero, and the lent array is as it was.
-pub refused-zero : (body lent : List ℕ) (r : Head) (exit : List ℕ) → ReadsInto body lent r exit
-    → (r .verdict ≡ Accepted → ⊥) → (r .numbers ≡ numbersOf (stored none)) × (exit ≡ lent)
-refused-zero = accepting.refused-zero
+-- Each case is a fault: where one stands, at any bit, the body is refused.
+pub stands-refused : (body lent : List ℕ) (r : Head) (exit : List ℕ) → ReadsInto body lent r exit
+    → (number bit : ℕ) → Stands (bitsOf body) number bit → r .verdict ≡ Accepted → ⊥
+stands-refused = faults.stands-refused
 
 -- WHAT THE LAYOUT HAS THERE
 

@@ -11,7 +11,6 @@ use lib.Seq.{getD-drop}
 use Rattle.refusal.specs.declared.Fixed.{Fixed}
 use Rattle.refusal.specs.declared.Reason.the-variants.{Unfixed}
 use Rattle.refusal.specs.declared.Item.the-variants.{Bit}
-use Rattle.refusal.specs.declared.Verdict.{Verdict}
 use Rattle.refusal.specs.Numbers.{numberOf}
 use Rattle.refusal.specs.Answers.{AtBit}
 use Rattle.refusal.proofs.Only.{Only, accepted-only, refused-only}

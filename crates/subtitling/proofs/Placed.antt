@@ -15,9 +15,7 @@ use Rattle.refusal.specs.declared.Misfit.the-variants.{DataCount}
 use Rattle.refusal.specs.declared.Item.{Item}
 use Rattle.refusal.specs.declared.Item.the-variants.{Word, Length}
 use Rattle.refusal.specs.declared.Refusal.{Refusal}
-use Rattle.refusal.specs.declared.Verdict.{Verdict}
-use Rattle.refusal.specs.declared.Verdict.the-variants.{Accepted, Refused}
-use Rattle.refusal.specs.Numbers.{numberOf, placeOf, refusalOf}
+use Rattle.refusal.specs.Numbers.{numberOf, placeOf}
 use Rattle.refusal.specs.Checks.{refuseIf}
 use Rattle.refusal.proofs.Checks.{accepted-within, accepted-equal}
 use Rattle.refusal.proofs.Only.{Only, accepted-only, refuseIf-only, andThen-only, told-only}
