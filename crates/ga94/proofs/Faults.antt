@@ -22,6 +22,18 @@ use Rattle.ga94.proofs.Contents.{value-legal, value-layout}
 use Rattle.ga94.proofs.Elements.{layout-elements, layout-zeros}
 use Rattle.ga94.proofs.Accepting.{refused-in-order}
 
+-- which numbers are given: none below 5, and 6 only where the identifier, or the type behind it, is another
+pub stands-numbers : (xs : List ℕ) (number bit : ℕ) → Stands xs number bit
+    → (5 ≤ number) × (number ≡ 6 → elementIn xs atsc-identifier ≡ 0x47413934 → (40 ≤ length xs → elementIn xs user-data-type-code ≡ 3) → ⊥)
+stands-numbers xs number bit (ends-5 e is has here inside few) = (omega (arith, is), λ six same typed. omega (arith, is))
+stands-numbers xs number bit (identifier-6 is all other) = (omega (arith, is), λ six same typed. other same)
+stands-numbers xs number bit (type-code-6 is all other) =
+    let long : 40 ≤ length xs = omega (arith, all .here, all .all) in (omega (arith, is), λ six same typed. other (typed long))
+stands-numbers xs number bit (additional-16 is all set) = (omega (arith, is), λ six same typed. omega (arith, is))
+stands-numbers xs number bit (marker-18 i is all other) = (omega (arith, is), λ six same typed. omega (arith, is))
+stands-numbers xs number bit (closing-18 n is all other) = (omega (arith, is), λ six same typed. omega (arith, is))
+stands-numbers xs number bit (zeros-19 is one) = (omega (arith, is), λ six same typed. omega (arith, is))
+
 -- the elements that a body has stand before its zeros
 before-zeros : (n : ℕ) (e : Element) → Has n e → firstBit e + bitCount e ≤ 8 * (8 + 3 * n)
 before-zeros n atsc-identifier h = omega arith

@@ -35,8 +35,8 @@ use Rattle.units.specs.Layout as units
 use Rattle.units.specs.Split.{cutOf, opened, allOpened, empty, frontVerdict, splitVerdict}
 use Rattle.units.proofs.Splits.{layout-append, length-around}
 use Rattle.units.proofs.Spans.{Alone, found-at, refused-split}
-use Rattle.scte20.specs.Places as scte20-places
-use Rattle.ga94.specs.Places as ga94-places
+use Rattle.scte20.proofs.Faults as scte20-faults
+use Rattle.ga94.proofs.Faults as ga94-faults
 use Rattle.picture.specs.Kinds.{contentVerdict, Stands}
 use Rattle.picture.specs.Reading.{placedItem, placed, captionsIn, foundVerdict, areaVerdict, Answer, Reads}
 use Rattle.picture.specs.Places.{areaBit, InUnit}
@@ -47,27 +47,7 @@ use Rattle.picture.proofs.Refusing.{refused-content}
 
 -- THE NUMBERS OF A BODY
 
--- no number below 5 is given there,
-pub stands-5 : (k : Kind) (s : List ℕ) (number bit : ℕ) → Stands k s number bit → 5 ≤ number
-stands-5 Scte20 s number bit (scte20-places.ends-5 e is has here inside few) = omega (arith, is)
-stands-5 Scte20 s number bit (scte20-places.type-code-6 is all other) = omega (arith, is)
-stands-5 Scte20 s number bit (scte20-places.field-zero-7 i is all none) = omega (arith, is)
-stands-5 Scte20 s number bit (scte20-places.field-falls-8 i is all below) = omega (arith, is)
-stands-5 Scte20 s number bit (scte20-places.line-stays-8 i is all same low) = omega (arith, is)
-stands-5 Scte20 s number bit (scte20-places.fifth-9 i is all none four) = omega (arith, is)
-stands-5 Scte20 s number bit (scte20-places.video-count-10 n is all some) = omega (arith, is)
-stands-5 Scte20 s number bit (scte20-places.marker-18 i is all none) = omega (arith, is)
-stands-5 Scte20 s number bit (scte20-places.zeros-19 is one) = omega (arith, is)
-stands-5 Ga94 s number bit (ga94-places.ends-5 e is has here inside few) = omega (arith, is)
-stands-5 Ga94 s number bit (ga94-places.identifier-6 is all other) = omega (arith, is)
-stands-5 Ga94 s number bit (ga94-places.type-code-6 is all other) = omega (arith, is)
-stands-5 Ga94 s number bit (ga94-places.additional-16 is all set) = omega (arith, is)
-stands-5 Ga94 s number bit (ga94-places.marker-18 i is all other) = omega (arith, is)
-stands-5 Ga94 s number bit (ga94-places.closing-18 n is all other) = omega (arith, is)
-stands-5 Ga94 s number bit (ga94-places.zeros-19 is one) = omega (arith, is)
-
--- and 6 never where the unit is of the kind: its identifier and its type are right
-
+-- a unit of a kind begins with the identifier and the type of that kind
 scte20-typed : (s : List ℕ) → ours Scte20 s ≡ true → field (bitsOf s) 0 8 ≡ 3
 unfolding ours
 scte20-typed [] mine = absurd (true≢false (sym mine))
@@ -92,23 +72,15 @@ ga94-typed (a ∷ b ∷ c ∷ d ∷ s) mine =
     type-code [] t long = let f : ⊥ = omega arith in absurd f
     type-code (e ∷ s) t long = ap (λ (x : ℕ). num (bits 8 x)) (eqb-true e 3 t)
 
-stands-not-6 : (k : Kind) (s : List ℕ) (number bit : ℕ) → ours k s ≡ true → Stands k s number bit → number ≡ 6 → ⊥
-stands-not-6 Scte20 s number bit mine (scte20-places.ends-5 e is has here inside few) six = omega (arith, is)
-stands-not-6 Scte20 s number bit mine (scte20-places.type-code-6 is all other) six = other (scte20-typed s mine)
-stands-not-6 Scte20 s number bit mine (scte20-places.field-zero-7 i is all none) six = omega (arith, is)
-stands-not-6 Scte20 s number bit mine (scte20-places.field-falls-8 i is all below) six = omega (arith, is)
-stands-not-6 Scte20 s number bit mine (scte20-places.line-stays-8 i is all same low) six = omega (arith, is)
-stands-not-6 Scte20 s number bit mine (scte20-places.fifth-9 i is all none four) six = omega (arith, is)
-stands-not-6 Scte20 s number bit mine (scte20-places.video-count-10 n is all some) six = omega (arith, is)
-stands-not-6 Scte20 s number bit mine (scte20-places.marker-18 i is all none) six = omega (arith, is)
-stands-not-6 Scte20 s number bit mine (scte20-places.zeros-19 is one) six = omega (arith, is)
-stands-not-6 Ga94 s number bit mine (ga94-places.ends-5 e is has here inside few) six = omega (arith, is)
-stands-not-6 Ga94 s number bit mine (ga94-places.identifier-6 is all other) six = other (ga94-typed s mine .0)
-stands-not-6 Ga94 s number bit mine (ga94-places.type-code-6 is all other) six = other (ga94-typed s mine .1 (let h : 40 ≤ length (bitsOf s) = omega (arith, all .here, all .all) in h))
-stands-not-6 Ga94 s number bit mine (ga94-places.additional-16 is all set) six = omega (arith, is)
-stands-not-6 Ga94 s number bit mine (ga94-places.marker-18 i is all other) six = omega (arith, is)
-stands-not-6 Ga94 s number bit mine (ga94-places.closing-18 n is all other) six = omega (arith, is)
-stands-not-6 Ga94 s number bit mine (ga94-places.zeros-19 is one) six = omega (arith, is)
+-- so that its body gives no number below 5, and no 6
+stands-numbers : (k : Kind) (s : List ℕ) (number bit : ℕ) → ours k s ≡ true → Stands k s number bit → (5 ≤ number) × (number ≡ 6 → ⊥)
+stands-numbers Scte20 s number bit mine stands =
+    let given = scte20-faults.stands-numbers (bitsOf s) number bit stands in
+    (given .0, λ six. given .1 six (scte20-typed s mine))
+stands-numbers Ga94 s number bit mine stands =
+    let given = ga94-faults.stands-numbers (bitsOf s) number bit stands in
+    let typed = ga94-typed s mine in
+    (given .0, λ six. given .1 six (typed .0) (typed .1))
 
 -- THE AREA'S BITS
 
@@ -156,11 +128,12 @@ module _ (k : Kind) (s : List ℕ) (bytes : Bytes s) where
       let short : length (w .body) ≤ 16384 = omega (arith, w .short, sym (ap length (w .whole)) ∙ length-around (w .before) (w .body) (w .after)) in
       let at : AtBit (8 * length (w .body)) (Stands k (w .body)) reason item =
       content-placed k (w .body) (foreign .1) short reason item (ap (contentVerdict k) (sym (w .lies)) ∙ same) in
+      let numbers = stands-numbers k (w .body) (numberOf reason) (at .bit) (w .mine) (at .stands) in
       let here : refusalOf (Refused reason (placedItem unit item)) .place ≡ areaBit (w .before) (at .bit) =
       ap (λ (i : Item). refusalOf (Refused reason (placedItem unit i)) .place) (at .here) ∙ ap (λ (n : ℕ). 8 * (n + 4) + at .bit) (w .starts) in
       inr
       (inr (
-        stands-5 k (w .body) (numberOf reason) (at .bit) (at .stands),
+        numbers .0,
         record {
           before = w .before;
           body = w .body;
@@ -173,7 +146,7 @@ module _ (k : Kind) (s : List ℕ) (bytes : Bytes s) where
           bit = at .bit;
           here = here;
           stands = at .stands;
-          not-6 = stands-not-6 k (w .body) (numberOf reason) (at .bit) (w .mine) (at .stands);
+          not-6 = numbers .1;
         },
       ))
 
@@ -230,7 +203,7 @@ module _ (k : Kind) (s : List ℕ) (r : Answer k) (p : Reads k s r) where
     body-refused (Refused reason item) same =
         let reads : Reads k (units.layout (u .before ++ (u .body ∷ u .after))) r = subst (λ (t : List ℕ). Reads k t r) (sym (u .whole)) p in
         let at = refused-content k (u .before) (u .body) (u .after) r reads (u .foreign-before) (u .clean) body-bytes (u .mine) (u .foreign-after) short reason item same in
-        omega (arith, ap (λ (a : Refusal). a .number) (at .1), stands-5 k (u .body) (numberOf reason) (at .0) (at .3))
+        omega (arith, ap (λ (a : Refusal). a .number) (at .1), stands-numbers k (u .body) (numberOf reason) (at .0) (u .mine) (at .3) .0)
 
   pub stands-refused : (number place : ℕ) → InUnit k s number place → r .refusal .number ≡ 0 → ⊥
   stands-refused number place u accepts = body-refused number place u accepts (contentVerdict k (u .body)) refl

@@ -29,6 +29,18 @@ use Rattle.scte20.proofs.Layouts.{zerosAt, layout-stands}
 use Rattle.scte20.proofs.Elements.{layout-elements, layout-zeros}
 use Rattle.scte20.proofs.Accepting.{refused-in-order}
 
+-- which numbers are given: none below 5, and 6 only where user_data_type_code is another
+pub stands-numbers : (xs : List ℕ) (number bit : ℕ) → Stands xs number bit → (5 ≤ number) × (number ≡ 6 → elementIn xs user-data-type-code ≡ 3 → ⊥)
+stands-numbers xs number bit (ends-5 e is has here inside few) = (omega (arith, is), λ six. omega (arith, is))
+stands-numbers xs number bit (type-code-6 is all other) = (omega (arith, is), λ six. other)
+stands-numbers xs number bit (field-zero-7 i is all none) = (omega (arith, is), λ six. omega (arith, is))
+stands-numbers xs number bit (field-falls-8 i is all below) = (omega (arith, is), λ six. omega (arith, is))
+stands-numbers xs number bit (line-stays-8 i is all same low) = (omega (arith, is), λ six. omega (arith, is))
+stands-numbers xs number bit (fifth-9 i is all none four) = (omega (arith, is), λ six. omega (arith, is))
+stands-numbers xs number bit (video-count-10 n is all some) = (omega (arith, is), λ six. omega (arith, is))
+stands-numbers xs number bit (marker-18 i is all none) = (omega (arith, is), λ six. omega (arith, is))
+stands-numbers xs number bit (zeros-19 is one) = (omega (arith, is), λ six. omega (arith, is))
+
 -- the elements that a body has stand before its zeros: those before the flag's decision
 always : (flag n : ℕ) → 16 ≤ bitsIn flag n
 always zero n = omega arith
