@@ -1,6 +1,6 @@
 -- Reading and layout of an area agree, from the units and the content. RULES, "Picture area" and "Demands", D-3.
 -- Assumes nothing.
-use Prim.Native.Nat.{ℕ, _+_, _≤_}
+use Prim.Native.Nat.{ℕ, _+_, _≤_, _<_}
 use native.Mathlib.Omega.{arith}
 use mathlib.Core.Path.{_≡_, _∙_, ap, ap₂, sym, subst, refl}
 use mathlib.Core.Bool.{false}
@@ -19,7 +19,7 @@ use Rattle.units.specs.declared.Found.{Found}
 use Rattle.units.specs.declared.Found.the-variants as found
 use Rattle.units.specs.Layout.{Clean}
 use Rattle.units.specs.Layout as units
-use Rattle.units.proofs.Splits.{split-bytes, length-around, layout-bodies, layout-accepted}
+use Rattle.units.proofs.Splits.{split-bytes, layout-append, length-around, layout-bodies, layout-accepted}
 use Rattle.units.proofs.Spans.{Alone, nowhere-exactly, found-at, at-found, part-body}
 use Rattle.kind.specs.declared.Kind.{Kind}
 use Rattle.kind.specs.Ours.{ours}
@@ -46,6 +46,12 @@ pub record Back (k : Kind) (s : List ℕ) : Type 0 where
 placed-accepted : (unit : ℕ) (verdict : Verdict) → placed unit verdict ≡ Accepted → verdict ≡ Accepted
 placed-accepted unit Accepted e = refl
 placed-accepted unit (Refused reason item) e = absurd (refused-not-accepted reason (placedItem unit item) e)
+
+-- a unit of an area of bytes is of bytes
+pub unit-bytes : (before : List (List ℕ)) (body : List ℕ) (after : List (List ℕ)) → Bytes (units.layout (before ++ (body ∷ after))) → Bytes body
+unit-bytes before body after bytes =
+    let all : Bytes (units.layout before ++ units.layout (body ∷ after)) = subst Bytes (layout-append before (body ∷ after)) bytes in
+    append-each (λ (b : ℕ). b < 256) body (units.layout after) (append-each (λ (b : ℕ). b < 256) (units.layout before) _ all .1 .1 .1 .1 .1) .0
 
 pub caption-short : (before : List (List ℕ)) (body : List ℕ) (after : List (List ℕ)) → length (units.layout (before ++ (body ∷ after))) ≤ 16384 → length body ≤ 16384
 caption-short before body after short = omega (arith, length-around before body after)

@@ -6,7 +6,6 @@ use mathlib.Core.Bool.{true, false}
 use mathlib.Core.List.{List, [], _∷_, _++_}
 use lib.ListN.{length, take}
 use Rattle.lists.specs.Each.{Each}
-use Rattle.lists.specs.Bytes.{Bytes}
 use Rattle.lists.specs.Part.{part}
 use Rattle.refusal.specs.declared.Reason.{Reason}
 use Rattle.refusal.specs.declared.Item.{Item}
@@ -29,7 +28,7 @@ use Rattle.picture.specs.Value.{Foreign}
 use Rattle.picture.specs.Reading.{placedItem, placed, captionsIn, foundVerdict, areaVerdict, foundContent, Answer, answerOf, Reads}
 use Rattle.picture.specs.Places.{areaBit}
 use Rattle.picture.proofs.Contents.{content-placed}
-use Rattle.picture.proofs.Areas.{foreign-clean, foreign-other, caption-short}
+use Rattle.picture.proofs.Areas.{foreign-clean, foreign-other, unit-bytes, caption-short}
 use Rattle.picture.proofs.Accepting.{refused-in-order, other-refused}
 
 module _ (k : Kind) where
@@ -75,16 +74,16 @@ module _ (k : Kind) where
       ∙ ap (λ (f : Found). refusalOf (foundVerdict k f s)) (second-many (ours k) s (layout-accepted bs clean short) several)
 
   pub refused-content : (before : List (List ℕ)) (body : List ℕ) (after : List (List ℕ)) (r : Answer k) → Reads k (units.layout (before ++ (body ∷ after))) r
-      → Each (Foreign k) before → Clean body → Bytes body → ours k body ≡ true → Each (Foreign k) after → length (units.layout (before ++ (body ∷ after))) ≤ 16384
+      → Each (Foreign k) before → Clean body → ours k body ≡ true → Each (Foreign k) after → length (units.layout (before ++ (body ∷ after))) ≤ 16384
       → (reason : Reason) (item : Item) → contentVerdict k body ≡ Refused reason item
       → (bit : ℕ) × (r .refusal ≡ refused (numberOf reason) (areaBit before bit)) × (item ≡ Bit bit) × Stands k body (numberOf reason) bit
-  refused-content before body after r p fb clean bytes mine fa short reason item e =
+  refused-content before body after r p fb clean mine fa short reason item e =
       let s = units.layout (before ++ (body ∷ after)) in
       let unit = length (units.layout before) in
       let end = unit + 4 + length body in
       let at = at-found (ours k) before body after (foreign-clean k before fb) clean (foreign-clean k after fa) (foreign-other k before fb) (foreign-other k after fa) mine short in
       let lies : part (unit + 4) end s ≡ body = part-body before body after unit end refl refl in
-      let here : AtBit (8 * length body) (Stands k body) reason item = content-placed k body bytes (caption-short before body after short) reason item e in
+      let here : AtBit (8 * length body) (Stands k body) reason item = content-placed k body (unit-bytes before body after (p .bytes)) (caption-short before body after short) reason item e in
       let verdict : areaVerdict k s ≡ Refused reason (placedItem unit item) =
       ap (λ (f : Found). foundVerdict k f s) at ∙ ap (λ (b : List ℕ). placed unit (contentVerdict k b)) lies ∙ ap (placed unit) e in (
         here .bit,

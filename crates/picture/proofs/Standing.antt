@@ -1,7 +1,7 @@
 -- What a refusal of an area tells of its place: 0 before the caption unit's body is read, and in it the bit at which something stands that is wrong.
 -- An area in which such a thing stands is refused.
 -- Assumes nothing.
-use Prim.Native.Nat.{ℕ, _+_, _*_, _≤_, _<_}
+use Prim.Native.Nat.{ℕ, _+_, _*_, _≤_}
 use native.Mathlib.Omega.{arith}
 use mathlib.Core.Path.{_≡_, _∙_, ap, sym, subst, refl}
 use mathlib.Core.Logic.{_⊎_, inl, inr, ⊎-elim}
@@ -13,7 +13,6 @@ use lib.ListN.{length, drop}
 use lib.Seq.{drop-drop, drop-append-add, drop-append-le}
 use Rattle.lists.specs.Bytes.{Bytes}
 use Rattle.lists.specs.Part.{part}
-use Rattle.lists.proofs.Each.{append-each}
 use Rattle.refusal.specs.declared.Reason.the-variants.{TooLong, NoStart, StartCode}
 use Rattle.refusal.specs.declared.Item.{Item}
 use Rattle.refusal.specs.declared.Item.the-variants.{Whole}
@@ -41,7 +40,7 @@ use Rattle.picture.specs.Kinds.{contentVerdict, Stands}
 use Rattle.picture.specs.Reading.{placedItem, placed, captionsIn, foundVerdict, areaVerdict, Answer, Reads}
 use Rattle.picture.specs.Places.{areaBit, InUnit}
 use Rattle.picture.proofs.Contents.{content-placed, content-stands}
-use Rattle.picture.proofs.Areas.{alone-foreign}
+use Rattle.picture.proofs.Areas.{unit-bytes, alone-foreign}
 use Rattle.picture.proofs.Accepting.{refused-in-order, accepted-exactly}
 use Rattle.picture.proofs.Refusing.{refused-content}
 
@@ -189,20 +188,14 @@ module _ (k : Kind) (s : List ℕ) (r : Answer k) (p : Reads k s r) where
 
   -- and where such a thing stands the area is refused
   module _ (number place : ℕ) (u : InUnit k s number place) (accepts : r .refusal .number ≡ 0) where
-    body-bytes : Bytes (u .body)
-    body-bytes =
-        let all : Bytes (units.layout (u .before) ++ units.layout (u .body ∷ u .after)) =
-        subst Bytes (sym (u .whole) ∙ layout-append (u .before) (u .body ∷ u .after)) (p .bytes) in
-        append-each (λ (b : ℕ). b < 256) (u .body) (units.layout (u .after)) (append-each (λ (b : ℕ). b < 256) (units.layout (u .before)) _ all .1 .1 .1 .1 .1) .0
-
     short : length (units.layout (u .before ++ (u .body ∷ u .after))) ≤ 16384
     short = let v = accepted-exactly k s r p .0 accepts in subst (λ (t : List ℕ). length t ≤ 16384) (v .2 ∙ sym (u .whole)) (v .1 .short)
 
     body-refused : (verdict : Verdict) → contentVerdict k (u .body) ≡ verdict → ⊥
-    body-refused Accepted same = content-stands k (u .body) body-bytes number (u .bit) (u .stands) same
+    body-refused Accepted same = content-stands k (u .body) (unit-bytes (u .before) (u .body) (u .after) (subst Bytes (sym (u .whole)) (p .bytes))) number (u .bit) (u .stands) same
     body-refused (Refused reason item) same =
         let reads : Reads k (units.layout (u .before ++ (u .body ∷ u .after))) r = subst (λ (t : List ℕ). Reads k t r) (sym (u .whole)) p in
-        let at = refused-content k (u .before) (u .body) (u .after) r reads (u .foreign-before) (u .clean) body-bytes (u .mine) (u .foreign-after) short reason item same in
+        let at = refused-content k (u .before) (u .body) (u .after) r reads (u .foreign-before) (u .clean) (u .mine) (u .foreign-after) short reason item same in
         omega (arith, ap (λ (a : Refusal). a .number) (at .1), stands-numbers k (u .body) (numberOf reason) (at .0) (u .mine) (at .3) .0)
 
   pub stands-refused : (number place : ℕ) → InUnit k s number place → r .refusal .number ≡ 0 → ⊥

@@ -124,7 +124,7 @@ refused-4 = refusing.refused-4
 -- what `Stands` (specs/Kinds) says of the number.
 pub refused-content : (k : Kind) (before : List (List ℕ)) (body : List ℕ) (after : List (List ℕ)) (r : Answer k)
     → Reads k (units.layout (before ++ (body ∷ after))) r
-    → Each (Foreign k) before → Clean body → Bytes body → ours k body ≡ true → Each (Foreign k) after
+    → Each (Foreign k) before → Clean body → ours k body ≡ true → Each (Foreign k) after
     → length (units.layout (before ++ (body ∷ after))) ≤ 16384
     → (reason : Reason) (item : Item) → contentVerdict k body ≡ Refused reason item
     → (bit : ℕ) × (r .refusal ≡ refused (numberOf reason) (areaBit before bit)) × (item ≡ Bit bit)
