@@ -16,11 +16,13 @@ use Rattle.line21.specs.Value.{Line21, Legal}
 use Rattle.line21.specs.Layout.{layout}
 use Rattle.line21.specs.Reading.{lengthVerdict, valueOf, readOf, headOf, Reads}
 use Rattle.line21.specs.Writing.{Writes}
+use Rattle.line21.specs.Places.{Stands}
 use Rattle.line21.specs.Lent.{accessUnitsBytes, payloadIn, ReadsInto}
 use Rattle.line21.proofs.Answers.{accepted-verdict}
 use Rattle.line21.proofs.LentUnits.{refused-lent}
 use Rattle.line21.proofs.LentBack.{lent-count, lent-front, into-told}
 use Rattle.line21.proofs.Accepting.{accepted-exactly}
+use Rattle.line21.proofs.Placed.{place-means}
 use Rattle.line21.proofs.Writing.{writes-exactly}
 use Rattle.line21.proofs.BothWays.{written-read, read-written}
 
@@ -42,6 +44,11 @@ pub into-exactly : (s lent : List ℕ) (r : Head) (exit : List ℕ) → ReadsInt
     → r .refusal .number ≡ 0 ↔ ((v : Line21) × Legal v × (layout v ≡ s))
 into-exactly s lent r exit p =
     subst (λ (h : Head). h .refusal .number ≡ 0 ↔ ((v : Line21) × Legal v × (layout v ≡ s))) (sym (p .answer)) (accepted-exactly s (readOf s) (record { bytes = p .bytes; answer = refl }))
+
+pub into-place : (s lent : List ℕ) (r : Head) (exit : List ℕ) → ReadsInto s lent r exit
+    → (r .refusal .number ≡ 0 → ⊥) → Stands s (r .refusal .number) (r .refusal .place)
+into-place s lent r exit p =
+    subst (λ (h : Head). (h .refusal .number ≡ 0 → ⊥) → Stands s (h .refusal .number) (h .refusal .place)) (sym (p .answer)) (place-means s (readOf s) (record { bytes = p .bytes; answer = refl }))
 
 pub written-read-into : (flags m : ℕ) (units out : List ℕ) (w : Written) (end : List ℕ)
     → Writes (payloadIn flags m units) out w end → w .refusal .number ≡ 0

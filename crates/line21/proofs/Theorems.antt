@@ -195,6 +195,11 @@ pub into-exactly : (s lent : List ℕ) (r : Head) (exit : List ℕ) → ReadsInt
     → r .refusal .number ≡ 0 ↔ ((v : Line21) × Legal v × (layout v ≡ s))
 into-exactly = lent-theorems.into-exactly
 
+-- And the place of a refusal means the same.
+pub into-place : (s lent : List ℕ) (r : Head) (exit : List ℕ) → ReadsInto s lent r exit
+    → (r .refusal .number ≡ 0 → ⊥) → Stands s (r .refusal .number) (r .refusal .place)
+into-place = lent-theorems.into-place
+
 -- Reading into a lent array what `write_from` wrote gives the same numbers and the same bytes, with zeros behind the m
 -- units.
 pub written-read-into : (flags m : ℕ) (units out : List ℕ) (w : Written) (end : List ℕ)

@@ -19,10 +19,12 @@ use Rattle.picture.specs.Value.{Area, captioned, layout, Legal}
 use Rattle.picture.specs.Reading.{areaVerdict, Answer, answerOf, readOf, Reads}
 use Rattle.picture.specs.Lent.{Head, headOf, ReadsInto}
 use Rattle.picture.specs.Writing.{unitBytes, Writes, Replaces}
+use Rattle.picture.specs.Places.{InUnit}
 use Rattle.picture.proofs.Contents.{lent-unit, legal-few, lent-numbers, lent-front}
 use Rattle.picture.proofs.Areas.{legal-verdict}
 use Rattle.picture.proofs.Lending.{answer-places}
 use Rattle.picture.proofs.Accepting.{zero-accepted, other-refused, accepted-exactly}
+use Rattle.picture.proofs.Standing.{place-outside, place-inside}
 use Rattle.picture.proofs.Writing.{writes-exactly, written-read, read-written}
 use Rattle.picture.proofs.Replacing.{replaces-exactly, shown-replaced, replaced-read, put-back}
 
@@ -37,6 +39,12 @@ module _ (k : Kind) where
       λ e. p .left ∙ ap₂ (λ (v : Verdict) (x : Answer k). lentOf v (bytesOf k (x .unit)) lent) (zero-accepted k s a read e) (sym (read .answer)),
       λ h. p .left ∙ refused-lent (areaVerdict k s) (bytesOf k (readOf k s .unit)) lent (other-refused k s a read h),
     )
+
+    pub into-place : (r .refusal .number ≤ 4 → r .refusal .place ≡ 0) × (5 ≤ r .refusal .number → InUnit k s (r .refusal .number) (r .refusal .place))
+    into-place =
+        let read : Reads k s (readOf k s) = record { bytes = p .bytes; answer = refl } in
+        subst (λ (h : Head k). (h .refusal .number ≤ 4 → h .refusal .place ≡ 0) × (5 ≤ h .refusal .number → InUnit k s (h .refusal .number) (h .refusal .place)))
+        (sym (p .answer)) (place-outside k s (readOf k s) read, place-inside k s (readOf k s) read)
 
     -- what reading would answer
     as-read : Reads k s (readOf k s)

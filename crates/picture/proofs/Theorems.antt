@@ -393,6 +393,12 @@ pub into-exactly : (k : Kind) (s lent : List ℕ) (r : Head k) (exit : List ℕ)
     → r .refusal .number ≡ 0 ↔ ((v : Area k) × Legal k v × (layout k v ≡ s))
 into-exactly = lent-back.into-exactly
 
+-- And the place of a refusal means the same.
+pub into-place : (k : Kind) (s lent : List ℕ) (r : Head k) (exit : List ℕ) → ReadsInto k s lent r exit
+    → (r .refusal .number ≤ 4 → r .refusal .place ≡ 0)
+    × (5 ≤ r .refusal .number → InUnit k s (r .refusal .number) (r .refusal .place))
+into-place = lent-back.into-place
+
 -- Reading into a lent array what `write_from` wrote gives the same numbers and the same bytes, with zeros behind the n
 -- records.
 pub written-read-into : (k : Kind) (v : Numbers k) (records out : List ℕ) (w : Written) (end : List ℕ)

@@ -17,7 +17,9 @@ use Rattle.sdp.specs.Value.{Sdp, Legal}
 use Rattle.subtitling.specs.Layout.{layout}
 use Rattle.subtitling.specs.Reading.{packetVerdict, readRowsOf, Reads, ReadsRows, ReadsInto}
 use Rattle.subtitling.specs.Writing.{Writes}
+use Rattle.subtitling.specs.Places.{Stands}
 use Rattle.subtitling.proofs.Accepting.{accepted-verdict, accepted-exactly}
+use Rattle.subtitling.proofs.Placed.{place-means}
 use Rattle.subtitling.proofs.BothWays.{written-read, read-written}
 
 refused-lent : (verdict : Verdict) (new lent : List (List ℕ)) → (refusalOf verdict .number ≡ 0 → ⊥)
@@ -38,6 +40,10 @@ read-into-as-read s lent r exit i a rows p q = (
 pub into-exactly : (s : List ℕ) (lent : List (List ℕ)) (r : Answer) (exit : List (List ℕ)) → ReadsInto s lent r exit
     → r .refusal .number ≡ 0 ↔ ((v : Sdp) × Legal v × (layout v ≡ s))
 into-exactly s lent r exit i = accepted-exactly s r (i .answer)
+
+pub into-place : (s : List ℕ) (lent : List (List ℕ)) (r : Answer) (exit : List (List ℕ)) → ReadsInto s lent r exit
+    → (r .refusal .number ≡ 0 → ⊥) → Stands s (r .refusal .number) (r .refusal .place)
+into-place s lent r exit i = place-means s r (i .answer)
 
 pub written-read-into : (p : Packet) (rows : List (List ℕ)) (out : List ℕ) (w : Written) (end : List ℕ)
     → Writes p rows out w end → w .refusal .number ≡ 0

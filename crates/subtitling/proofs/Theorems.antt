@@ -257,6 +257,11 @@ pub into-exactly : (s : List ℕ) (lent : List (List ℕ)) (r : Answer) (exit : 
     → r .refusal .number ≡ 0 ↔ ((v : Sdp) × Legal v × (layout v ≡ s))
 into-exactly = lent-theorems.into-exactly
 
+-- And the place of a refusal means the same.
+pub into-place : (s : List ℕ) (lent : List (List ℕ)) (r : Answer) (exit : List (List ℕ)) → ReadsInto s lent r exit
+    → (r .refusal .number ≡ 0 → ⊥) → Stands s (r .refusal .number) (r .refusal .place)
+into-place = lent-theorems.into-place
+
 -- Reading into lent rows what was written gives the same numbers and the same rows.
 pub written-read-into : (p : Packet) (rows : List (List ℕ)) (out : List ℕ) (w : Written) (end : List ℕ)
     → Writes p rows out w end → w .refusal .number ≡ 0
