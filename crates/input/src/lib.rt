@@ -39,26 +39,25 @@ pub fn read(buf: &mut [u8]) -> Input
     Input { is_read: true, len }
 }
 
-// Reads standard input to its end, or for 4 GiB, and counts its bytes: how many a program leaves that has filled its buffer. Where a read fails, `os::fail` called next
-// says why.
+// Reads standard input to its end, or for 4 GiB, and counts its bytes: how many a program that has filled its buffer leaves. Where a read fails,
+// `os::fail` called next says why.
 pub fn count_rest() -> Input
     ensures { λ r. ⌜ r .len < 4294971392 ⌝ }
 {
     let mut dropped = [0u8; STEP];
     let mut len = 0;
     while len < MOST {
-        let got = libc::read(STDIN_FILENO, &mut dropped);
-        if got < 0 {
+        let more = read(&mut dropped);
+        if !more.is_read {
             return Input {
                 is_read: false,
                 len: 0,
             };
         }
-        let more = io::count(got, &dropped);
-        if more == 0 {
+        if more.len == 0 {
             break;
         }
-        len += more;
+        len += more.len;
     }
     Input { is_read: true, len }
 }

@@ -1,4 +1,5 @@
--- 19: bits that must be zero, as those of the alignment and of the stuffing. RULES, "Picture area" and "Order of checks".
+-- 19: bits that must be zero, as those of the alignment and of the stuffing. RULES, "Picture area" and "Order of
+-- checks".
 use Prim.Native.Nat.{ℕ, suc, _≤_, _<_}
 use mathlib.Core.Path.{_≡_}
 use mathlib.Core.Bool.{not}

@@ -1,5 +1,6 @@
 -- Where things stand in a packet, and what a refusal tells of its place: from the words alone, without the reader.
--- RULES, "Subtitling packet" and "Refusals"; 002, 4.2 and 5.1; SMPTE 291M. Words count from 0.
+-- RULES, "Subtitling packet" and "Refusals"; 002, 4.2 and 5.1; SMPTE 291M. Words count from 0. `coveredIn` and `userIn`
+-- are parts of the words, by their places.
 use Prim.Native.Nat.{ℕ, _+_, _-_, _/_, _%_, _≤_, _<_}
 use mathlib.Core.Path.{_≡_}
 use mathlib.Core.List.{List, [], _∷_}

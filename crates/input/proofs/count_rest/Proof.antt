@@ -24,8 +24,6 @@ count-rest-spec =
     (λ c. search needs)
     (λ c κs. search needs)
     (λ c. search needs)
-    (λ c. search needs)
-    (λ c κs. search needs)
     (λ c. omega arith)
     (λ c. omega arith)
     (λ c. search needs)
