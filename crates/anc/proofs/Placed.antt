@@ -2,12 +2,12 @@
 -- Assumes nothing.
 use Prim.Native.Nat.{ℕ, zero, suc, _+_, _-_, _/_, _%_, _≤_, _<_}
 use native.Mathlib.Nat.{eq-or-lt-of-le}
-use native.Mathlib.Numerals.{add-one}
 use native.Mathlib.Omega.{arith}
 use mathlib.Core.Path.{_≡_, _∙_, sym, subst}
 use mathlib.Core.Logic.{⊎-elim}
 use mathlib.Core.Bool.{not}
 use mathlib.Core.List.{List}
+use borrow.Author.Count.{below-more}
 use borrow.Author.Tests.{ltb-true, eqb-true, eqb-false, not-true}
 use lib.Dec.{eqb, ltb}
 use lib.ListN.{length, getD}
@@ -23,17 +23,10 @@ use Rattle.anc.specs.Words.{wordOf, byteOf, ByteWords, wordVerdict, word
 use Rattle.anc.proofs.Words.{accepted-word}
 use Rattle.anc.proofs.Judged.{judged, judged-next, judged-none}
 
--- what holds of all below n, and of n, holds of all below n + 1
-pub below-more : (Q : ℕ → Type 0) (n : ℕ) → ((i : ℕ) → i < n → Q i) → Q n → (i : ℕ) → i < suc n → Q i
-below-more Q n before here i low =
-    let most : i ≤ n = omega arith in
-    ⊎-elim (λ same. subst Q (sym same) here) (before i) (eq-or-lt-of-le most)
-
 -- one word more
 byte-words-more : (s : List ℕ) (from i : ℕ) → ByteWords s from i → getD s i 0 ≡ wordOf (byteOf (getD s i 0)) → ByteWords s from (i + 1)
 byte-words-more s from i before here =
-    subst (ByteWords s from) (sym (add-one i))
-    (λ k low below. below-more (λ (n : ℕ). from ≤ n → getD s n 0 ≡ wordOf (byteOf (getD s n 0))) i (λ n less least. before n least less) (λ least. here) k below low)
+    λ k low below. below-more (λ (n : ℕ). from ≤ n → getD s n 0 ≡ wordOf (byteOf (getD s n 0))) i (λ n less least. before n least less) (λ least. here) k below low
 
 -- P holds where the first that is no byte's word is above 1023, and where its parity bits are wrong
 module _ (P : Reason → Item → Type 0) (s : List ℕ) (from to : ℕ) (ordered : from ≤ to) (inside : to ≤ length s)

@@ -10,6 +10,7 @@ use borrow.Author.Tests.{ltb-true, eqb-false, not-true}
 use lib.Dec.{eqb, ltb}
 use lib.ListN.{length, getD, drop, length-take}
 use lib.Seq.{getD-take, getD-drop, drop-drop}
+use Rattle.lists.proofs.Below.{below-next}
 use Rattle.lists.specs.Sum.{sum}
 use Rattle.lists.proofs.Part.{length-part}
 use Rattle.refusal.specs.declared.Reason.{Reason}
@@ -24,7 +25,6 @@ use Rattle.refusal.specs.Numbers.{fixedNumber, numberOf}
 use Rattle.refusal.specs.Checks.{refuseIf}
 use Rattle.refusal.proofs.Checks.{accepted-refuseIf, accepted-within, accepted-equal, accepted-andThen}
 use Rattle.refusal.proofs.Only.{Only, accepted-only, refuseIf-only, andThen-only}
-use Rattle.anc.proofs.Placed.{below-more}
 use Rattle.sdp.specs.Value.{LegalLine}
 use Rattle.sdp.specs.Layout.{userLength}
 use Rattle.sdp.specs.User.{lineVerdict, descriptorsVerdict, structureVerdict, structuresVerdict, descriptorsIn, structuresIn, headVerdict, tailVerdict, userVerdict}
@@ -58,7 +58,7 @@ module _ (u : List ℕ) (j : ℕ) (w : List ℕ) (same : w ≡ drop (structureAt
   opens-more : (n : ℕ) (reason : Reason) (item : Item) → OpensRight u j n
       → refuseIf (not (eqb (getD w n 0) (getD structureOpening n 0))) reason item ≡ Accepted → OpensRight u j (suc n)
   opens-more n reason item right ok =
-      below-more (λ (i : ℕ). getD u (structureAt j + i) 0 ≡ getD structureOpening i 0) n right (sym (structure-byte n) ∙ accepted-equal _ _ reason item ok)
+      below-next (λ (i : ℕ). getD u (structureAt j + i) 0 ≡ getD structureOpening i 0) n right (sym (structure-byte n) ∙ accepted-equal _ _ reason item ok)
 
   pub accepted-opens : (at : ℕ) → structureVerdict at w ≡ Accepted → OpensRight u j 3
   unfolding structureVerdict
@@ -97,7 +97,7 @@ module _ (dc : ℕ) (u : List ℕ) where
       (λ ok.
       descriptors-only (suc j) (suc at) ds (omega arith) (omega arith) long
       (λ i low. same (suc i) (omega arith) ∙ ap (λ (k : ℕ). getD u k 0) (let next : 4 + j + suc i ≡ 4 + suc j + i = omega arith in next))
-      (below-more (λ (i : ℕ). LegalLine (lineIn u i)) j before (subst LegalLine line (accepted-line (Word at) (d % 32) ok))))
+      (below-next (λ (i : ℕ). LegalLine (lineIn u i)) j before (subst LegalLine line (accepted-line (Word at) (d % 32) ok))))
 
   -- structure j, which begins the bytes w in word `at`
   module _ (j at : ℕ) (w : List ℕ) (here : at ≡ userWord dc (structureAt j)) (same : w ≡ drop (structureAt j) u) (some : j < structuresIn u)
@@ -128,7 +128,7 @@ module _ (dc : ℕ) (u : List ℕ) where
       let room : structureAt j + 3 ≤ length u = omega arith in
       andThen-only Placed _ _ (structure-only j at w here same some room before) (λ ok.
       structures-only (suc j) k (at + 45) (drop 45 w) (omega arith) (structure-next u j w same) (omega arith) long
-      (below-more (λ (h : ℕ). OpensRight u h 3) j before (accepted-opens u j w same at ok)))
+      (below-next (λ (h : ℕ). OpensRight u h 3) j before (accepted-opens u j w same at ok)))
 
   head-only : Only Placed (headVerdict dc u)
   unfolding headVerdict

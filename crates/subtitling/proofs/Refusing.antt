@@ -8,6 +8,7 @@ use mathlib.Core.List.{List}
 use borrow.Author.Tests.{eqb-true, eqb-false, lt-ltb, le-ltb}
 use lib.Dec.{eqb}
 use lib.ListN.{length, getD}
+use Rattle.lists.proofs.Below.{below-next}
 use Rattle.refusal.specs.declared.Verdict.{Verdict}
 use Rattle.refusal.specs.declared.Verdict.the-variants.{Accepted, Refused}
 use Rattle.refusal.specs.declared.Reason.the-variants.{NoStart}
@@ -17,7 +18,6 @@ use Rattle.refusal.specs.Numbers.{refusalOf}
 use Rattle.refusal.specs.Answers.{refused}
 use Rattle.refusal.proofs.Acceptance.{told-refused}
 use Rattle.refusal.proofs.Checks.{andThen-refused}
-use Rattle.anc.proofs.Placed.{below-more}
 use Rattle.subtitling.specs.declared.Answer.{Answer}
 use Rattle.sdp.specs.Value.{Sdp, none, numbersOf, rowsOf}
 use Rattle.subtitling.specs.Reading.{formVerdict, packetVerdict, valueOf, found, Reads, ReadsRows}
@@ -63,7 +63,7 @@ flag-refused P true true true next p q r h = absurd (h refl refl refl)
 -- one flag word more is right
 pub flag-more : (s : List ℕ) (n : ℕ) → ((i : ℕ) → i < n → getD s i 0 ≡ getD flagWords i 0) → getD s n 0 ≡ getD flagWords n 0
     → (i : ℕ) → i < suc n → getD s i 0 ≡ getD flagWords i 0
-flag-more s = below-more (λ (i : ℕ). getD s i 0 ≡ getD flagWords i 0)
+flag-more s = below-next (λ (i : ℕ). getD s i 0 ≡ getD flagWords i 0)
 
 form-refused : (s : List ℕ) → 20 ≤ length s → length s ≤ 245
     → (getD s 0 0 ≡ 0x000 → getD s 1 0 ≡ 0x3FF → getD s 2 0 ≡ 0x3FF → ⊥) → (word : ℕ) × FlagBroken s word × (refusalOf (formVerdict s) ≡ refused 2 word)
