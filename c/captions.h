@@ -67,7 +67,7 @@ enum {
     CAPTIONS_CHECKSUM = 12,        /* the sum of the user bytes, or CS, does not come out */
     CAPTIONS_LENGTH = 13,          /* a length that fits nothing: DC, LENGTH, or that of a payload */
     CAPTIONS_NO_ROOM = 14,         /* the lent output is shorter than the result */
-    CAPTIONS_UNHOLDABLE = 15,      /* a number out of its range, records under flag 0, or a slot at odds with its mark */
+    CAPTIONS_UNHOLDABLE = 15,      /* a number out of range, records under flag 0, 09 or 0A behind 03, a mismarked slot */
     CAPTIONS_ADDITIONAL_DATA = 16, /* GA94 with additional_data_flag set */
     CAPTIONS_MARKER = 18,          /* a construct's marker is not all ones, or GA94's closing byte is not FF */
     CAPTIONS_ZEROS = 19,           /* a bit of a unit's alignment or stuffing is not 0 */
@@ -122,7 +122,8 @@ typedef struct captions_unit {
 } captions_unit;
 
 /*
- * Reads the caption unit of an area.
+ * Reads the caption unit of an area: the one whose body begins with 03. With 09 or 0A behind the 03 it is a data group of
+ * another syntax, and foreign as every other unit: not read, not counted, and passed byte for byte by a replacement.
  *
  * Refuses with 1, 2, 3, 4, all at 0, then 5, 7 to 10, 18, 19 from left to right in the caption unit, each at a bit of the
  * area.
@@ -135,8 +136,9 @@ captions_unit captions_area_read(const uint8_t *area, size_t len,
  * Writes a caption unit with its start code and its stuffing at the front of `out`.
  *
  * Of `records` the first n are looked at. No number is narrowed: a reserved of 256 is refused, as 128 is.
- * Refuses with 15 (n above 31, reserved above 127, flag above 1, z above 16,384, flag 0 with records); for each record in
- * order with 15, 7, 8, 9; then with 1, then with 14.
+ * Refuses with 15 (n above 31, reserved above 127, flag above 1, z above 16,384, flag 0 with records, reserved 4 with flag
+ * 1 or 5 with flag 0, which make a unit of 03 09 or 03 0A); for each record in order with 15, 7, 8, 9; then with 1, then
+ * with 14.
  * Lent: the first `len` bytes of `out` are stored to.
  */
 captions_written captions_unit_write(uint32_t reserved, uint32_t vbi_data_flag, size_t n, size_t z,

@@ -63,7 +63,13 @@ void append(struct area *a, const void *data, size_t len);
 /* Appends a foreign unit that tells AFD 8. */
 void append_afd(struct area *a);
 
+/* Appends a foreign unit with a data group of another syntax: 03, the type, 95 20. */
+void append_group(struct area *a, uint8_t type);
+
 /* Leaves the program where the library refused a legal value. */
 void must(captions_written w);
+
+/* Leaves the program where the library did anything but refuse with that number. */
+void must_refuse(captions_written w, uint8_t number);
 
 #endif

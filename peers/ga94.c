@@ -149,6 +149,22 @@ static void refused_behind_scte20(struct area *a)
     APPEND(a, "\0\0\1\xB2GA94\3\xE1\xFF\xFC\x94\x2C\xFF");
 }
 
+/* ---- Data groups of another syntax ---- */
+
+static void group_09(struct area *a) { append_group(a, 0x09); }
+static void group_0a(struct area *a) { append_group(a, 0x0A); }
+static void behind_group(struct area *a)
+{
+    struct value v = value_of(1, one);
+    group_09(a);
+    replace_unit(a, &v);
+}
+static void before_group(struct area *a)
+{
+    legal_one(a);
+    group_09(a);
+}
+
 /* ---- Defects ---- */
 
 static void put_before(struct area *a, const void *data, size_t len)
@@ -253,6 +269,10 @@ static const struct area_case cases[] = {
     { 0, "unit G put behind SCTE 20 with 95 20", behind_scte20 },
     { 0, "unit G, then SCTE 20 with 95 20", before_scte20 },
     { 0, "SCTE 20 with 95 20, then a GA94 unit without records", empty_behind_scte20 },
+    { 0, "data group 03 09 95 20 alone (foreign)", group_09 },
+    { 0, "data group 03 0A 95 20 alone (foreign)", group_0a },
+    { 0, "unit G put behind a data group 03 09 95 20", behind_group },
+    { 0, "unit G, then a data group 03 09 95 20", before_group },
     { 1, "16,385 bytes: unit G and stuffing", too_long },
     { 2, "41 42 before the first start code", no_start_code },
     { 2, "the body of unit G without 00 00 01 B2", bare_body },

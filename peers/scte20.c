@@ -88,11 +88,13 @@ struct raw {
     unsigned alignment;    /* the bit that fills up to a whole byte */
 };
 
-static void raw_unit(struct area *a, struct raw r, size_t n, const captions_record *records)
+/* `second` is the byte behind the 03: the reserved bits, and the flag, which is 1. */
+static void raw_unit_of(struct area *a, uint8_t second, struct raw r, size_t n, const captions_record *records)
 {
     struct bits b = { a, 0 };
     put(&b, 32, 0x000001B2);
-    put(&b, 16, 0x0381);
+    put(&b, 8, 0x03);
+    put(&b, 8, second);
     put(&b, 5, r.count);
     for (size_t i = 0; i < n; i++) {
         put(&b, 2, records[i].cc_priority);
@@ -105,6 +107,11 @@ static void raw_unit(struct area *a, struct raw r, size_t n, const captions_reco
     put(&b, 4, r.video_count);
     while (b.at % 8 != 0)
         put(&b, 1, r.alignment);
+}
+
+static void raw_unit(struct area *a, struct raw r, size_t n, const captions_record *records)
+{
+    raw_unit_of(a, 0x81, r, n, records);
 }
 
 static void raw_records(struct area *a, size_t n, const captions_record *records)
@@ -150,6 +157,12 @@ static void legal_reserved(struct area *a, uint32_t reserved)
 }
 static void legal_reserved_0(struct area *a) { legal_reserved(a, 0); }
 static void legal_reserved_127(struct area *a) { legal_reserved(a, 127); }
+static void legal_08(struct area *a)
+{
+    struct value v = { .reserved = 4 };
+    write_unit(a, &v);
+}
+static void legal_0b(struct area *a) { legal_reserved(a, 5); }
 static void legal_stuffing(struct area *a)
 {
     struct value v = value_of(1, one);
@@ -169,6 +182,61 @@ static void legal_beside_a53(struct area *a)
     struct value v = value_of(1, one);
     APPEND(a, "\0\0\1\xB2" "GA94\3\xC1\xFF\xFC\x95\x20\xFF");
     replace_unit(a, &v);
+}
+
+/* ---- Data groups of another syntax: legal areas, in which they are foreign ---- */
+
+/* The library does not write what would be a caption unit but for its second byte. */
+static void not_written(uint32_t reserved, uint32_t flag)
+{
+    uint8_t out[64];
+    captions_record none[CAPTIONS_RECORDS] = { { 0 } };
+    must_refuse(captions_unit_write(reserved, flag, 0, 0, none, out, sizeof out), CAPTIONS_UNHOLDABLE);
+}
+static void unit_of_09(struct area *a)
+{
+    not_written(4, 1);
+    raw_unit_of(a, 0x09, (struct raw){ .count = 1, .marker = 1 }, 1, one);
+}
+static void unit_of_0a(struct area *a)
+{
+    not_written(5, 0);
+    APPEND(a, "\0\0\1\xB2\3\x0A");
+}
+static void group_09(struct area *a) { append_group(a, 0x09); }
+static void group_0a(struct area *a) { append_group(a, 0x0A); }
+static void groups(struct area *a)
+{
+    group_09(a);
+    APPEND(a, "\3\x0A\x15\xAD");
+}
+static void put_behind(struct area *a, void (*first)(struct area *))
+{
+    struct value v = value_of(1, one);
+    first(a);
+    replace_unit(a, &v);
+}
+static void behind_09(struct area *a) { put_behind(a, group_09); }
+static void behind_0a(struct area *a) { put_behind(a, group_0a); }
+static void behind_unit_of_09(struct area *a) { put_behind(a, unit_of_09); }
+static void before_09(struct area *a)
+{
+    legal_one(a);
+    group_09(a);
+}
+static void before_0a(struct area *a)
+{
+    legal_one(a);
+    group_0a(a);
+}
+
+/* Each of the 128 values with flag 1, also the one that is not written. */
+static void any_reserved(struct area *a, uint32_t reserved)
+{
+    if (reserved == 4)
+        unit_of_09(a);
+    else
+        legal_reserved(a, reserved);
 }
 
 /* ---- Defects ---- */
@@ -309,6 +377,18 @@ static const struct area_case cases[] = {
     { 0, "a foreign unit alone", legal_foreign },
     { 0, "put behind a foreign DTG1 unit with AFD 8", legal_beside_afd },
     { 0, "put behind a foreign GA94 unit with FC 95 20", legal_beside_a53 },
+    { 0, "reserved 4, flag 0: 03 08", legal_08 },
+    { 0, "reserved 5, flag 1: second byte 0B", legal_0b },
+    { 0, "second byte 09 (foreign, not written)", unit_of_09 },
+    { 0, "03 0A alone (foreign, not written)", unit_of_0a },
+    { 0, "data group 03 09 95 20 alone (foreign)", group_09 },
+    { 0, "data group 03 0A 95 20 alone (foreign)", group_0a },
+    { 0, "data groups 03 09 95 20 03 0A 15 AD alone (foreign)", groups },
+    { 0, "put behind a data group 03 09 95 20", behind_09 },
+    { 0, "put behind a data group 03 0A 95 20", behind_0a },
+    { 0, "put behind a unit with second byte 09", behind_unit_of_09 },
+    { 0, "case A, then a data group 03 09 95 20", before_09 },
+    { 0, "case A, then a data group 03 0A 95 20", before_0a },
     { 1, "16,385 bytes: case A and stuffing", too_long },
     { 2, "41 42 before the first start code", no_start_code },
     { 2, "the body of case A without 00 00 01 B2", bare_body },
@@ -362,7 +442,8 @@ static void random_area(struct area *a, struct triples *t, const struct picture 
     struct value v = random_value(random_below(2) ? 64 : 0, p->structure == 3 ? 3 : 1);
     expect(t, p, &v);
     if (replace) {
-        struct value old = random_value(random_below(128), 3);
+        uint32_t reserved = random_below(128);
+        struct value old = random_value(reserved == 4 ? 64 : reserved, 3); /* not 4: that would be a data group */
         write_unit(a, &old);
         append_afd(a);
         replace_unit(a, &v);
@@ -399,7 +480,7 @@ const struct carriage scte20 = {
     .put_pair = put_pair,
     .carried = "reserved",
     .carried_values = 128,
-    .with_carried = legal_reserved,
+    .with_carried = any_reserved,
     .count_31 = count_says_31,
     .read = read_area,
     .cases = cases,

@@ -153,7 +153,7 @@ bool agree_payload_write(const payload_value *v, size_t room)
 /* Bytes that matter to some rule come often. */
 static uint8_t odd_byte(void)
 {
-    static const uint8_t likely[] = {0, 0, 1, 2, 3, 4, 0xB2, 0xB3, 0x80, 0x81, 0x55, 0xFF, 31, 32, 63, 64};
+    static const uint8_t likely[] = {0, 0, 1, 2, 3, 4, 9, 10, 0xB2, 0xB3, 0x80, 0x81, 0x55, 0xFF, 31, 32, 63, 64};
     return below(3) == 0 ? (uint8_t)below(256) : likely[below(sizeof likely)];
 }
 
@@ -205,6 +205,12 @@ static void random_value(unit_value *v)
         v->flag = 0;
         v->n = 0;
     }
+    /* 08 to 0B behind 03: the two in the middle begin a data group. */
+    if (below(16) == 0) {
+        v->reserved = 4 + below(2);
+        v->flag = below(2);
+        v->n = v->flag == 0 ? 0 : v->n;
+    }
 }
 
 /* How many bytes a GA94 unit has without its stuffing. */
@@ -241,7 +247,7 @@ static void random_area(area_input *area)
 {
     area->len = 0;
     for (uint32_t left = below(4); left > 0; left--) {
-        add_foreign(area, below(below(50) != 0 ? 40 : 4000), (enum body)below(3));
+        add_foreign(area, below(below(50) != 0 ? 40 : 4000), (enum body)below(BODIES));
     }
     for (uint32_t left = some_units(); left > 0; left--) {
         unit_value v;
@@ -254,7 +260,7 @@ static void random_area(area_input *area)
         carry_ga94(&v, area);
     }
     if (below(3) == 0 && area->len < CAPTIONS_AREA_BYTES - 60) {
-        add_foreign(area, below(40), (enum body)below(3));
+        add_foreign(area, below(40), (enum body)below(BODIES));
     }
     mutate(area->bytes, area->len);
     /* What is before the length stays: a new end may cut any item. */

@@ -165,6 +165,15 @@ static void foreign_small(sample *s, size_t n)
     }
 }
 
+/* Each begins as a caption unit does, and its second byte decides. */
+static void foreign_groups(sample *s, size_t n)
+{
+    (void)n;
+    while (s->area.len < CAPTIONS_AREA_BYTES) {
+        add_foreign(&s->area, 4, GROUP_BODY);
+    }
+}
+
 /* Units of 60 to 260 bytes, then one that fills the area. */
 static void foreign_text(sample *s, size_t n)
 {
@@ -228,6 +237,7 @@ static const row rows[] = {
     {"scan 16,384 bytes: zeros", &plain_calls, foreign_zeros, 0, run_area_read},
     {"scan 16,384 bytes: 8-byte units", &plain_calls, foreign_small, 0, run_area_read},
     {"scan 16,384 bytes: text", &plain_calls, foreign_text, 0, run_area_read},
+    {"scan 16,384 bytes: data groups of 8 bytes", &plain_calls, foreign_groups, 0, run_area_read},
     {"scan 16,384 bytes: random: C with glibc's memchr", &memchr_calls, foreign_random, 0, run_area_read},
     {"scan 16,384 bytes: zeros: C with glibc's memchr", &memchr_calls, foreign_zeros, 0, run_area_read},
     {"scan 16,384 bytes: 8-byte units: C with glibc's memchr", &memchr_calls, foreign_small, 0, run_area_read},

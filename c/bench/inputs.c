@@ -34,11 +34,14 @@ static uint8_t byte(void)
     return (uint8_t)below(256);
 }
 
-/* Lines rise by one within each field, which leaves room for 31 records in one field. */
+/*
+ * Lines rise by one within each field, which leaves room for 31 records in one field. Reserved is not 4, which with flag 1
+ * would begin a data group.
+ */
 void make_unit(unit_value *v, size_t n, size_t z)
 {
     memset(v, 0, sizeof *v);
-    v->reserved = below(128);
+    v->reserved = (5 + below(127)) % 128;
     v->flag = 1;
     v->n = n;
     v->z = z;
@@ -128,14 +131,34 @@ static uint8_t text_byte(void)
     return (uint8_t)(kind == 0 ? below(2) : kind < 6 ? ' ' : 'a' + below(26));
 }
 
+/* Byte i of data groups: length 03, type 09 or 0A, two bytes. */
+static uint8_t group_byte(size_t i)
+{
+    return (uint8_t)(i % 4 == 0 ? 3 : i % 4 == 1 ? 9 + below(2) : 1 + below(255));
+}
+
+static uint8_t body_byte(enum body kind, size_t i)
+{
+    switch (kind) {
+    case ZERO_BODY:
+        return 0;
+    case TEXT_BODY:
+        return text_byte();
+    case GROUP_BODY:
+        return group_byte(i);
+    default:
+        return byte();
+    }
+}
+
 void add_foreign(area_input *area, size_t body, enum body kind)
 {
     uint8_t *s = area->bytes + area->len;
     memcpy(s, (const uint8_t[]){0, 0, 1, 0xB2}, 4);
     for (size_t i = 4; i < 4 + body; i++) {
-        s[i] = kind == ZERO_BODY ? 0 : kind == TEXT_BODY ? text_byte() : byte();
-        /* No start code within, and no caption unit. */
-        if ((s[i] == 1 && s[i - 1] == 0 && s[i - 2] == 0) || (i == 4 && s[i] == 3)) {
+        s[i] = body_byte(kind, i - 4);
+        /* No start code within, and no caption unit: of one byte, 03 would be one in each kind. */
+        if ((s[i] == 1 && s[i - 1] == 0 && s[i - 2] == 0) || (i == 4 && s[i] == 3 && (kind != GROUP_BODY || body < 2))) {
             s[i] = 0xFF;
         }
     }

@@ -86,8 +86,8 @@ void carry_ga94(const ga94_value *v, area_input *area);
 void carry_packet(const packet_value *v, packet_input *packet);
 void carry_payload(const payload_value *v, payload_input *payload);
 
-/* Puts a foreign unit with a body of that many bytes behind what stands in the area. */
-enum body { RANDOM_BODY, ZERO_BODY, TEXT_BODY };
+/* Puts a foreign unit with a body of that many bytes behind what stands in the area. Data groups are four bytes each. */
+enum body { RANDOM_BODY, ZERO_BODY, TEXT_BODY, GROUP_BODY, BODIES };
 void add_foreign(area_input *area, size_t body, enum body kind);
 
 #endif

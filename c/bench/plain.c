@@ -239,9 +239,13 @@ static void lay_unit(uint32_t reserved, uint32_t flag, size_t n, size_t z, const
     if (n > CAPTIONS_RECORDS || reserved > 127 || flag > 1 || z > CAPTIONS_AREA_BYTES || (flag == 0 && n != 0)) {
         return;
     }
+    uint32_t second = reserved << 1 | flag;
+    if (is_group_type(second)) {
+        return;
+    }
     store_be32(unit->bytes, 0x000001B2);
     unit->bytes[4] = 3;
-    unit->bytes[5] = (uint8_t)(reserved << 1 | flag);
+    unit->bytes[5] = (uint8_t)second;
     unit->len = START_BYTES + 2;
     unit->number = flag == 0 ? CAPTIONS_ACCEPTED : lay_constructs(n, records, unit);
 }

@@ -25,9 +25,15 @@ typedef size_t search(const uint8_t *s, size_t from, size_t len);
 /* Whether the unit with this body is the one to find. */
 typedef bool mine(const uint8_t *body, size_t len);
 
+/* What a data group has behind its 03 ("Picture area"). */
+static inline bool is_group_type(unsigned byte)
+{
+    return byte == 0x09 || byte == 0x0A;
+}
+
 static inline bool is_caption(const uint8_t *body, size_t len)
 {
-    return len > 0 && body[0] == 3;
+    return len > 0 && body[0] == 3 && !(len > 1 && is_group_type(body[1]));
 }
 
 /* 1, 2, 3, 4 in this order: a second unit is told only when every start code was seen. */

@@ -4,11 +4,14 @@
 #include <stdio.h>
 #include <string.h>
 
-/* A foreign unit, the caption unit of case A (docs/RULES.md), and a foreign unit behind it. */
+/*
+ * A foreign unit, the caption unit of case A (docs/RULES.md), and a foreign unit behind it: a data group of another syntax,
+ * which the 09 behind its 03 tells from a second caption unit.
+ */
 static const uint8_t area[] = {
     0x00, 0x00, 0x01, 0xB2, 'D', 'T', 'G', '1', 0x41,
     0x00, 0x00, 0x01, 0xB2, 0x03, 0x81, 0x08, 0xAC, 0xA4, 0xD2, 0x00,
-    0x00, 0x00, 0x01, 0xB2, 0x47,
+    0x00, 0x00, 0x01, 0xB2, 0x03, 0x09, 0x94, 0x2C,
 };
 
 static void list(const captions_record *records, size_t n)
@@ -39,7 +42,7 @@ int main(void)
         return 1;
     }
     printf("a new area of %zu bytes, its foreign units untouched: %s\n", made.len,
-           memcmp(out, area, 9) == 0 && memcmp(out + made.len - 5, area + sizeof area - 5, 5) == 0 ? "yes" : "no");
+           memcmp(out, area, 9) == 0 && memcmp(out + made.len - 8, area + sizeof area - 8, 8) == 0 ? "yes" : "no");
     unit = captions_area_read(out, made.len, records);
     list(records, unit.n);
 
@@ -47,5 +50,9 @@ int main(void)
     records[0].field_number = 0;
     made = captions_unit_write(64, 1, 1, 0, records, out, sizeof out);
     printf("field number 0: refused %d at %zu\n", made.refusal.number, made.refusal.place);
+
+    /* Together they are 09, so that the unit would be a data group. */
+    made = captions_unit_write(4, 1, 0, 0, records, out, sizeof out);
+    printf("reserved 4 with flag 1: refused %d at %zu\n", made.refusal.number, made.refusal.place);
     return 0;
 }

@@ -69,7 +69,7 @@ static void stretch_some(dice *d, question *q, area_map *map, bool legal)
 /* Start codes, identifiers and the bytes of which they are made, in any order behind a first start code. */
 static void start_code_soup(dice *d, question *q)
 {
-    static const uint8_t bytes[] = {0x00, 0x00, 0x00, 0x01, 0x01, 0xB2, 0xB2, 0x03, 0x80, 0x81, 0x40, 0xFF, 0xE0};
+    static const uint8_t bytes[] = {0x00, 0x00, 0x00, 0x01, 0x01, 0xB2, 0xB2, 0x03, 0x80, 0x81, 0x40, 0xFF, 0xE0, 0x09, 0x0A};
     static const uint8_t start[LAYOUT_START] = {0x00, 0x00, 0x01, 0xB2};
     static const uint8_t identifier[] = {0x47, 0x41, 0x39, 0x34, 0x03};
     size_t most = LAYOUT_START + below(d, 60);
@@ -80,9 +80,11 @@ static void start_code_soup(dice *d, question *q)
         if (chance(d, 10)) {
             memcpy(q->bytes + q->len, identifier, sizeof identifier);
             q->len += chance(d, 80) ? 5 : 4;
-        } else if (chance(d, 5)) {
+        } else if (chance(d, 10)) {
             memcpy(q->bytes + q->len, start, LAYOUT_START);
             q->len += LAYOUT_START;
+            if (chance(d, 60))
+                q->bytes[q->len++] = 0x03;
         } else {
             q->bytes[q->len++] = bytes[below(d, sizeof bytes)];
         }
@@ -219,9 +221,10 @@ static void packet_write_case(dice *d, question *q, bool legal)
 static void payload_read_case(dice *d, question *q, bool legal)
 {
     static const size_t lengths[] = {0, 1, 2, 5, 6, 7, 1451, 1455, 1456, 1457, 1461, 2037, 65535, 65536};
+    size_t laid_out;
 
     legal_payload(d, &q->payload);
-    q->len = layout_payload(&q->payload, q->bytes);
+    laid_out = q->len = layout_payload(&q->payload, q->bytes);
     if (legal)
         return;
     if (chance(d, 10))
@@ -229,7 +232,7 @@ static void payload_read_case(dice *d, question *q, bool legal)
     else
         q->len = below(d, chance(d, 90) ? 60 : 1500);
     for (size_t i = 0; i < q->len; i++)
-        q->bytes[i] = (uint8_t)(i % 8 == 0 ? roll(d) : q->bytes[i]);
+        q->bytes[i] = (uint8_t)(i % 8 == 0 || i >= laid_out ? roll(d) : q->bytes[i]);
 }
 
 static void payload_write_case(dice *d, question *q, bool legal)

@@ -3,6 +3,8 @@
 
 #include <string.h>
 
+#include "model_area.h"
+
 /* ---- Dice ---- */
 
 uint64_t roll(dice *d)
@@ -92,11 +94,13 @@ static void legal_records(dice *d, unit_value *to)
 
 void legal_unit(dice *d, unit_value *to)
 {
-    static const uint32_t telling[] = {0, 64, 127};
+    static const uint32_t telling[] = {0, 64, 127, 4, 5, 5};
 
     any_bytes(d, to->records, sizeof to->records);
-    to->reserved = chance(d, 50) ? telling[below(d, 3)] : (uint32_t)below(d, 128);
+    to->reserved = chance(d, 50) ? telling[below(d, 6)] : (uint32_t)below(d, 128);
     to->vbi_data_flag = !chance(d, 10);
+    if (to->reserved == 4 || to->reserved == 5)
+        to->vbi_data_flag = to->reserved - 4; /* 08 and 0B are legal behind 03; 09 and 0A between them are not */
     to->n = to->vbi_data_flag == 0 ? 0 : some_n(d);
     to->z = chance(d, 60) ? 0 : below(d, chance(d, 80) ? 8 : 300);
     legal_records(d, to);
@@ -137,10 +141,10 @@ unit_kind other_kind(unit_kind kind)
 
 static const uint8_t identifier[] = {0x47, 0x41, 0x39, 0x34, 0x03};
 
-/* A foreign body may hold anything but a start code. It may not begin as one of our kind: with 03, or as GA94 does. */
+/* A foreign body may hold anything but a start code. It may not begin as one of our kind: as a caption unit or GA94 does. */
 static void make_foreign(unit_kind kind, uint8_t *body, size_t len)
 {
-    if (kind == SCTE20_KIND && len > 0 && body[0] == 0x03)
+    if (kind == SCTE20_KIND && len > 0 && body[0] == 0x03 && !model_is_data_group(body, len))
         body[0] = 0x02;
     if (kind == GA94_KIND && len >= 4 && memcmp(body, identifier, len > 4 ? 5 : 4) == 0)
         body[len > 4 ? 4 : 3] = 0x05;
@@ -202,10 +206,36 @@ static size_t unit_of_other_kind(dice *d, unit_kind kind, uint8_t *to)
     return LAYOUT_START + len;
 }
 
-static size_t foreign_unit(dice *d, unit_kind kind, uint8_t *to)
-{
-    static const uint8_t start[LAYOUT_START] = {0x00, 0x00, 0x01, 0xB2};
+static const uint8_t start[LAYOUT_START] = {0x00, 0x00, 0x01, 0xB2};
 
+/*
+ * A unit of data groups, each 03, then 09 or 0A, then two bytes (003, Table 1); often cut short. Nothing behind the first type
+ * is looked at, so that it may be a caption unit's content too, legal but for that byte.
+ */
+static size_t group_unit(dice *d, unit_kind kind, uint8_t *to)
+{
+    static const size_t lengths[] = {2, 2, 3, 4, 4, 5, 6, 8, 12, 40};
+    size_t len = lengths[below(d, sizeof lengths / sizeof *lengths)];
+    uint8_t *body = to + LAYOUT_START;
+    unit_value value;
+
+    memcpy(to, start, LAYOUT_START);
+    for (size_t i = 0; i < len; i++)
+        body[i] = i % 4 == 0 ? 0x03 : i % 4 == 1 ? (uint8_t)(0x09 + below(d, 2)) : any_byte(d);
+    if (chance(d, 30)) {
+        legal_unit(d, &value);
+        len = layout_unit(&value, to) - LAYOUT_START;
+        body[1] = (uint8_t)(0x09 + below(d, 2));
+    }
+    make_foreign(kind, body, len);
+    return LAYOUT_START + len;
+}
+
+/* `groups`: how many of a hundred are data groups. */
+static size_t foreign_unit(dice *d, unit_kind kind, unsigned groups, uint8_t *to)
+{
+    if (chance(d, groups))
+        return group_unit(d, kind, to);
     if (chance(d, 30))
         return unit_of_other_kind(d, kind, to);
     memcpy(to, start, LAYOUT_START);
@@ -214,6 +244,8 @@ static size_t foreign_unit(dice *d, unit_kind kind, uint8_t *to)
 
 void legal_area(dice *d, question *q, unit_kind kind, area_map *map)
 {
+    unsigned groups = chance(d, 15) ? 90 : 15;
+
     q->len = 0;
     map->kind = kind;
     map->count = chance(d, 2) ? 0 : 1 + below(d, chance(d, 70) ? 4 : AREA_UNITS_MAX);
@@ -223,7 +255,7 @@ void legal_area(dice *d, question *q, unit_kind kind, area_map *map)
         if (i == map->ours)
             q->len += legal_of_kind(d, kind, map, q->bytes + q->len);
         else
-            q->len += foreign_unit(d, kind, q->bytes + q->len);
+            q->len += foreign_unit(d, kind, groups, q->bytes + q->len);
     }
     map->starts[map->count] = q->len;
 }

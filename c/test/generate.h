@@ -38,7 +38,10 @@ typedef struct area_map {
     ga94_value ga94;
 } area_map;
 
-/* A legal area of that kind in q->bytes: foreign units, some of the other kind, and in most cases a unit of ours. */
+/*
+ * A legal area of that kind in q->bytes: foreign units, some of them of the other kind or data groups, and in most cases a unit
+ * of ours.
+ */
 void legal_area(dice *d, question *q, unit_kind kind, area_map *map);
 
 /* Lengthens one unit, so that the area has `len` bytes, which is legal up to 16,384. */

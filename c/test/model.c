@@ -6,10 +6,10 @@
 #include "layout.h"
 #include "model_area.h"
 
-/* A caption unit is one whose body begins with 03. A unit may have no body. */
+/* A caption unit is one whose body begins with 03 and is no data group. A unit may have no body. */
 static bool is_caption_unit(const uint8_t *body, size_t len)
 {
-    return len > 0 && body[0] == 0x03;
+    return len > 0 && body[0] == 0x03 && !model_is_data_group(body, len);
 }
 
 /* ---- The content of a caption unit (RULES, the table; most significant bit first) ---- */
@@ -176,6 +176,8 @@ static uint8_t judge_value(uint32_t reserved, uint32_t vbi_data_flag, size_t n, 
         return 15;
     if (vbi_data_flag == 0 && n > 0)
         return 15;
+    if ((reserved == 4 && vbi_data_flag == 1) || (reserved == 5 && vbi_data_flag == 0))
+        return 15; /* the byte 09 or 0A behind 03, with which the unit would be foreign (02, request 3) */
     for (size_t i = 0; i < n; i++) {
         uint8_t refused;
         if (records[i].cc_priority > 3 || records[i].field_number > 3 || records[i].line_offset > 31)

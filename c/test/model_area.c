@@ -17,13 +17,17 @@ static bool start_code_at(const uint8_t *area, size_t len, size_t i)
     return prefix_at(area, len, i) && i + 3 < len && area[i + 3] == 0xB2;
 }
 
-/* A unit runs to the next 00 00 01 or to the end. */
-static size_t end_of_unit(const uint8_t *area, size_t len, size_t start)
+size_t model_unit_end(const uint8_t *area, size_t len, size_t start)
 {
     for (size_t i = start + 1; i < len; i++)
         if (prefix_at(area, len, i))
             return i;
     return len;
+}
+
+bool model_is_data_group(const uint8_t *body, size_t len)
+{
+    return len >= 2 && body[0] == 0x03 && (body[1] == 0x09 || body[1] == 0x0A);
 }
 
 uint8_t model_find_unit(const uint8_t *area, size_t len, ours *is_ours, unit_span *span)
@@ -40,7 +44,7 @@ uint8_t model_find_unit(const uint8_t *area, size_t len, ours *is_ours, unit_spa
         size_t end;
         if (!start_code_at(area, len, i))
             continue;
-        end = end_of_unit(area, len, i);
+        end = model_unit_end(area, len, i);
         if (!is_ours(area + i + LAYOUT_START, end - i - LAYOUT_START))
             continue;
         if (span->found)

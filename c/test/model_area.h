@@ -14,6 +14,15 @@ typedef struct unit_span {
 /* Whether a unit with this body is one of ours. */
 typedef bool ours(const uint8_t *body, size_t len);
 
+/* Where the unit that begins at `start` ends: at the next 00 00 01 or with the area. */
+size_t model_unit_end(const uint8_t *area, size_t len, size_t start);
+
+/*
+ * Whether a body is one of data groups (02, request 3): user_data_length 03, then user_data_type 09 or 0A (003, Table 1). Nothing
+ * behind them is looked at. 03 alone is none.
+ */
+bool model_is_data_group(const uint8_t *body, size_t len);
+
 /* The checks 1 to 4, each over the whole area before the next one. Gives the number, 0 where all hold; the place is 0. */
 uint8_t model_find_unit(const uint8_t *area, size_t len, ours *is_ours, unit_span *span);
 

@@ -103,6 +103,31 @@ static void move_unit(dice *d, question *q, const area_map *map)
     insert(q, q->len, copy, len);
 }
 
+/* Whether a unit's body begins with 03 and has more. */
+static bool begins_with_03(const question *q, const area_map *map, size_t unit)
+{
+    size_t body = map->starts[unit] + LAYOUT_START, end = map->starts[unit + 1];
+
+    return body + 1 < end && end <= q->len && q->bytes[body] == 0x03;
+}
+
+/* The byte behind a unit's 03, which tells a caption unit from a data group. Or the unit is cut behind the 03. */
+static void change_type(dice *d, question *q, const area_map *map)
+{
+    static const uint8_t telling[] = {0x09, 0x0A, 0x09, 0x0A, 0x08, 0x0B, 0x00, 0x01, 0x81, 0x89, 0x8A};
+    size_t unit = below(d, map->count), second;
+
+    for (size_t i = 0; i < map->count && !begins_with_03(q, map, unit); i++)
+        unit = (unit + 1) % map->count;
+    if (!begins_with_03(q, map, unit))
+        return;
+    second = map->starts[unit] + LAYOUT_START + 1;
+    if (chance(d, 25))
+        drop(q, second, map->starts[unit + 1] - second);
+    else
+        q->bytes[second] = telling[below(d, sizeof telling)];
+}
+
 /* A 00 00 01 without its B2, somewhere or at the very end. */
 static void break_start(dice *d, question *q, const area_map *map)
 {
@@ -242,14 +267,16 @@ void mutate_area(dice *d, question *q, const area_map *map)
     bool ours = map->ours < map->count;
     unsigned sort = (unsigned)below(d, 100);
 
-    if (map->count == 0 || sort < 30)
+    if (map->count == 0 || sort < 28)
         mutate_bytes(d, q);
-    else if (ours && sort < 80)
+    else if (ours && sort < 75)
         mutate_ours(d, q, map);
-    else if (sort < 88)
+    else if (sort < 82)
         duplicate_unit(d, q, map);
-    else if (sort < 92)
+    else if (sort < 86)
         move_unit(d, q, map);
+    else if (sort < 93)
+        change_type(d, q, map);
     else
         break_start(d, q, map);
 }

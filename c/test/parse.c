@@ -270,12 +270,12 @@ static parsed skipped(vector_line *to, const char *why)
 }
 
 /*
- * ` STATE ` behind the operation: `1-2`, the rules with requests 1 and 2. By others the same input may have another number or
- * place. Gives the TAG, or null.
+ * ` STATE ` behind the operation: `1-3`, the rules with requests 1 to 3. By others the same input may have another answer.
+ * Gives the TAG, or null.
  */
 static const char *behind_state(const char *at)
 {
-    static const char state[] = " 1-2 ";
+    static const char state[] = " 1-3 ";
 
     return strncmp(at, state, strlen(state)) == 0 ? at + strlen(state) : NULL;
 }

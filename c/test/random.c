@@ -3,15 +3,16 @@
  *
  *     random [COUNT [SEED [FIRST]]]
  *
- * The status is 1 where an answer or a round trip differs, fewer than a third of an operation's cases are accepted, or a
- * refusal that an operation has arose at too few places. Case i depends on SEED and i alone: `random 1 SEED i` asks it again
- * and shows it, and demands of it only that nothing differs.
+ * The status is 1 where an answer or a round trip differs, fewer than a third of an operation's cases are accepted, a refusal
+ * that an operation has arose at too few places, or data groups were met too seldom. Case i depends on SEED and i alone:
+ * `random 1 SEED i` asks it again and shows it, and demands of it only that nothing differs.
  */
 #include <stdio.h>
 #include <stdlib.h>
 #include <string.h>
 
 #include "cases.h"
+#include "groups.h"
 #include "show.h"
 #include "trips.h"
 
@@ -95,6 +96,7 @@ static void run_case(void)
     r->cases++;
     r->numbers[by_model.numbers[0]]++;
     note_place(r, by_model.numbers[0], by_model.numbers[1]);
+    note_groups(&q, &by_model, r == &rows[ROW_REPLACE_AREA]);
     differs = difference(&q, &by_model, &by_library);
     if (differs != NULL) {
         r->differs++;
@@ -235,10 +237,12 @@ static void print_places(void)
 /* `whole`: not some cases asked again, but a run in which everything must arise. */
 static bool report(bool whole)
 {
-    bool good = true;
+    bool good;
 
     print_numbers();
     print_places();
+    print_groups();
+    good = !whole || enough_groups();
     for (int i = 0; i < ROWS; i++) {
         if (whole) {
             good = all_arose(i) && good;

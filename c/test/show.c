@@ -71,7 +71,7 @@ static void show_payload(const payload_value *p)
 
 void show_question(const question *q, const char *tag)
 {
-    printf("%s 1-2 %s", operation_names[q->op], tag);
+    printf("%s 1-3 %s", operation_names[q->op], tag);
     if (takes_input(q->op)) {
         printf(" in=");
         if (q->op == PACKET_READ)

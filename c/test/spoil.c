@@ -89,6 +89,15 @@ static void spoil_record(dice *d, unit_value *value)
     }
 }
 
+/* Reserved bits and flag that make 09 or 0A, so that the unit would be a data group; or 08 or 0B beside them, which are legal. */
+static void spoil_type(dice *d, unit_value *value)
+{
+    value->reserved = (uint32_t)(4 + below(d, 2));
+    value->vbi_data_flag = chance(d, 75) ? 5 - value->reserved : value->reserved - 4;
+    if (value->vbi_data_flag == 0 && chance(d, 80))
+        value->n = 0;
+}
+
 /* z so that the unit has 16,384 bytes, give or take some. */
 static size_t z_at_limit(dice *d, const unit_value *value)
 {
@@ -99,7 +108,7 @@ static size_t z_at_limit(dice *d, const unit_value *value)
 
 void spoil_unit(dice *d, unit_value *value)
 {
-    switch (below(d, 10)) {
+    switch (below(d, 12)) {
     case 0:
         value->reserved = (uint32_t)above(d, value->reserved, 127, 32);
         break;
@@ -115,6 +124,10 @@ void spoil_unit(dice *d, unit_value *value)
     case 4:
         if (value->n <= CAPTIONS_RECORDS)
             value->z = chance(d, 30) ? CAPTIONS_AREA_BYTES - below(d, 2) : z_at_limit(d, value);
+        break;
+    case 5:
+    case 6:
+        spoil_type(d, value);
         break;
     default:
         spoil_record(d, value);

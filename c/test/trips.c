@@ -3,6 +3,8 @@
 
 #include <string.h>
 
+#include "model_area.h"
+
 static question back;
 static outcome expected, answer;
 
@@ -120,11 +122,60 @@ static void lend_area(const uint8_t *bytes, size_t len)
     back.len = len;
 }
 
+/* ---- Data groups, which are foreign to both kinds ---- */
+
+static bool is_group(const uint8_t *area, size_t start, size_t end)
+{
+    return model_is_data_group(area + start + LAYOUT_START, end - start - LAYOUT_START);
+}
+
+/* An area without its data groups is read as with them. */
+static const char *groups_do_not_count(const question *q, const outcome *got, unsigned long *made)
+{
+    begin(q->op, q);
+    back.len = 0;
+    for (size_t at = 0, end; at < q->len; at = end) {
+        end = model_unit_end(q->bytes, q->len, at);
+        if (!is_group(q->bytes, at, end)) {
+            memcpy(back.bytes + back.len, q->bytes + at, end - at);
+            back.len += end - at;
+        }
+    }
+    if (back.len == q->len)
+        return NULL;
+    outcome_begin(&back, &expected);
+    memcpy(expected.numbers, got->numbers, sizeof expected.numbers);
+    memcpy(expected.memory, got->memory, got->size);
+    return compare(made);
+}
+
+/* Each stands in the new area as in the old one, as the same unit in order: ours has given way in its place, or is the last. */
+static const char *groups_are_kept(const question *q, const outcome *got, unsigned long *made)
+{
+    const uint8_t *new_area = got->memory;
+    size_t new_len = got->numbers[2];
+
+    for (size_t at = 0, new_at = 0, end, new_end; at < q->len; at = end, new_at = new_end) {
+        end = model_unit_end(q->bytes, q->len, at);
+        new_end = model_unit_end(new_area, new_len, new_at);
+        if (!is_group(q->bytes, at, end))
+            continue;
+        ++*made;
+        if (new_end - new_at != end - at || memcmp(new_area + new_at, q->bytes + at, end - at) != 0)
+            return "a data group is not what it was";
+    }
+    return NULL;
+}
+
+/* ---- Areas: reading and replacing ---- */
+
 /* The value of an area's unit, put in its place again, gives the same area. */
 static const char *after_area_read(const question *q, const outcome *got, unsigned long *made)
 {
-    if (got->numbers[2] == 0)
-        return NULL;
+    const char *differs = groups_do_not_count(q, got, made);
+
+    if (differs != NULL || got->numbers[2] == 0)
+        return differs;
     begin(replacer(q), q);
     lend_area(q->bytes, q->len);
     value_read(got);
@@ -171,7 +222,7 @@ static const char *other_is_kept(const question *q, const outcome *got, unsigned
     return difference(&back, &expected, &answer);
 }
 
-/* The old value put back gives the old area. */
+/* The old value put back gives the old area. Where there was none, the new unit follows the last byte. */
 static const char *is_put_back(const question *q, const outcome *got, unsigned long *made)
 {
     begin(reader(q), q);
@@ -180,7 +231,7 @@ static const char *is_put_back(const question *q, const outcome *got, unsigned l
     if (answer.numbers[0] != 0)
         return "an area that was replaced in but is not read";
     if (answer.numbers[2] == 0)
-        return NULL;
+        return memcmp(got->memory, q->bytes, q->len) == 0 ? NULL : "a unit that is not put behind the last byte";
     begin(replacer(q), q);
     lend_area(got->memory, got->numbers[2]);
     value_read(&answer);
@@ -194,6 +245,8 @@ static const char *after_replace(const question *q, const outcome *got, unsigned
 
     if (differs == NULL)
         differs = other_is_kept(q, got, made);
+    if (differs == NULL)
+        differs = groups_are_kept(q, got, made);
     return differs != NULL ? differs : is_put_back(q, got, made);
 }
 

@@ -19,7 +19,7 @@ use Rattle.cases.specs.Table.{Comes, table}
 
 pub starred-cases : Each Comes table
 unfolding reversed ours frontVerdict splitVerdict padding recordVerdict scte20.missing scte20.constructAt scte20.markerVerdict scte20.sampledVerdict scte20.restVerdict scte20.headVerdict scte20.contentVerdict scte20.valueOf ga94.missing ga94.constructAt ga94.markerVerdict ga94.headVerdict ga94.closingVerdict ga94.contentVerdict ga94.valueOf decimal textOf parityOf wordOf wordVerdict nineBitSum checksumOf sumVerdict lineVerdict structureVerdict headVerdict tailVerdict slotOf counterIn formVerdict headerVerdict checksumVerdict packetVerdict lengthVerdict readUnit
-starred-cases = (refl, (refl, (refl, (refl, (refl, (refl, (refl, (refl, (refl, (refl, (refl, (refl, (refl, (refl, (refl, (refl, (refl, (refl, (refl, (refl, (refl, (refl, ((refl, refl), ((refl, refl), (refl, (refl, tt))))))))))))))))))))))))))
+starred-cases = (refl, (refl, (refl, (refl, (refl, (refl, (refl, (refl, (refl, (refl, (refl, (refl, (refl, (refl, (refl, (refl, (refl, (refl, (refl, (refl, (refl, (refl, (refl, (refl, (refl, (refl, (refl, ((refl, refl), ((refl, refl), (refl, (refl, tt)))))))))))))))))))))))))))))))
 
-pub starred-count : length table ≡ 26
+pub starred-count : length table ≡ 31
 starred-count = refl

@@ -18,8 +18,8 @@ pub two-fault-cases : Each Decided two-faults
 two-fault-cases = faults.two-fault-cases
 
 -- No row is lost.
-pub starred-count : length table ≡ 26
+pub starred-count : length table ≡ 31
 starred-count = starred.starred-count
 
-pub two-fault-count : length two-faults ≡ 73
+pub two-fault-count : length two-faults ≡ 81
 two-fault-count = faults.two-fault-count

@@ -94,9 +94,17 @@ withPair =
     r : ga94-record.Record
     r = record { «cc_valid» = 1; «cc_type» = 0; «cc_data_1» = 0x94; «cc_data_2» = 0x2C }
 
--- reserved 64, a flag, no records
+-- reserved, a flag, no records
+abbrev bare : ℕ → ℕ → scte20.Content
+bare reserved flag = record { reserved = reserved; flag = flag; records = []; z = 0 }
+
+-- the same of reserved 64
 abbrev withoutRecords : ℕ → scte20.Content
-withoutRecords flag = record { reserved = 64; flag = flag; records = []; z = 0 }
+withoutRecords = bare 64
+
+-- 03 0A and two bytes: a data group (003, Table 1)
+abbrev group : List ℕ
+group = layoutUnit (0x03 ∷ 0x0A ∷ 0x94 ∷ 0x2C ∷ [])
 
 -- a payload's flags byte and its units
 abbrev units : ℕ → List AccessUnit → line21.Line21
@@ -161,6 +169,14 @@ table =
     ∷ area Scte20 (marked 0xD2 ++ q) accepted (withRecord 0 ∷ [])
     -- case U: A, then Q, for GA94: as Q
     ∷ area Ga94 (marked 0xD2 ++ q) accepted (withPair ∷ [])
+    -- case V: 00 00 01 B2 03 0A 94 2C: none
+    ∷ area Scte20 group accepted []
+    -- case W: V, then A: as A
+    ∷ area Scte20 (group ++ marked 0xD2) accepted (withRecord 0 ∷ [])
+    -- case X: 00 00 01 B2 03 08: reserved 4, flag 0
+    ∷ area Scte20 (layoutUnit (0x03 ∷ 0x08 ∷ [])) accepted (bare 4 0 ∷ [])
+    -- case Y: 00 00 01 B2 03 0B 00 00: reserved 5, flag 1, no records
+    ∷ area Scte20 (layoutUnit (0x03 ∷ 0x0B ∷ 0x00 ∷ 0x00 ∷ [])) accepted (bare 5 1 ∷ [])
     -- cclist A: the first line, then 0 1 11 94 2C
     ∷ prints (marked 0xD2)
     (headLine ++ (0x30 ∷ 0x20 ∷ 0x31 ∷ 0x20 ∷ 0x31 ∷ 0x31 ∷ 0x20 ∷ 0x39 ∷ 0x34 ∷ 0x20 ∷ 0x32 ∷ 0x43 ∷ 0x0A ∷ []))
@@ -170,6 +186,8 @@ table =
     ∷ prints (layoutUnit (0x03 ∷ 0x80 ∷ [])) headLine
     -- cclist G: none
     ∷ prints [] (0x6E ∷ 0x6F ∷ 0x6E ∷ 0x65 ∷ 0x0A ∷ [])
+    -- cclist V: none
+    ∷ prints group (0x6E ∷ 0x6F ∷ 0x6E ∷ 0x65 ∷ 0x0A ∷ [])
     -- cclist E: refused 5 at 40
     ∷ prints (layoutUnit (0x03 ∷ [])) (refusedText ++ (0x35 ∷ 0x20 ∷ 0x61 ∷ 0x74 ∷ 0x20 ∷ 0x34 ∷ 0x30 ∷ 0x0A ∷ []))
     -- cclist F: refused 5 at 79

@@ -75,6 +75,10 @@ j = marked 0xD0
 abbrev foreign : List ℕ
 foreign = layoutUnit (0x04 ∷ [])
 
+-- a data group of eight bytes (003, Table 1), which is foreign
+abbrev group : List ℕ
+group = layoutUnit (0x03 ∷ 0x09 ∷ 0x94 ∷ 0x2C ∷ [])
+
 -- four records of priority 0 in field 1, on lines 10 to 13, and the last 26 bits and those behind them as they are
 -- given
 abbrev fifth : List ℕ → List ℕ
@@ -117,9 +121,13 @@ one line first second framing foot =
     ∷ 0x206 ∷ line ∷ 0x200 ∷ 0x200 ∷ 0x200 ∷ first ∷ second ∷ framing
     ∷ (replicate 42 0x200 ++ (foot ∷ 0x200 ∷ 0x200 ∷ 0x200 ∷ 0x200 ∷ []))
 
--- a value of caption content, held in a struct: reserved 64, flag 1
+-- a value of caption content, held in a struct: reserved, flag, records, z
+abbrev told : ℕ → ℕ → List Record → ℕ → CaptionUnit
+told reserved flag rs z = scte20.stored (record { reserved = reserved; flag = flag; records = rs; z = z })
+
+-- the same of reserved 64, flag 1
 abbrev value : List Record → ℕ → CaptionUnit
-value rs z = scte20.stored (record { reserved = 64; flag = 1; records = rs; z = z })
+value = told 64 1
 
 -- a record: priority, field, line
 abbrev caption : ℕ → ℕ → ℕ → Record
@@ -184,6 +192,12 @@ two-faults =
     ∷ area Scte20 (layoutUnit (0x03 ∷ 0x81 ∷ 0x08 ∷ 0xAC ∷ 0xA4 ∷ 0xD2 ∷ 0x05 ∷ [])) (Unfixed fixed.Alignment) 19 85
     -- 19 and 19: two bits 1 in the stuffing behind flag 0, in a unit behind a foreign one
     ∷ area Scte20 (foreign ++ layoutUnit (0x03 ∷ 0x80 ∷ 0x00 ∷ 0x30 ∷ [])) (Unfixed fixed.Stuffing) 19 98
+    -- 3 and no 4: a data group between two caption units, and a bad start code behind them
+    ∷ area Scte20 (a ++ (group ++ (a ++ (0x00 ∷ 0x00 ∷ 0x01 ∷ 0xB3 ∷ [])))) StartCode 3 0
+    -- 4 and 18: two caption units, each with its marker 0, and a data group between them
+    ∷ area Scte20 (j ++ (group ++ j)) SecondUnit 4 0
+    -- 18 and no 4: a data group, and behind it a caption unit with its marker 0
+    ∷ area Scte20 (group ++ j) (Unfixed fixed.Marker) 18 142
     -- READING AN AREA FOR GA94
     -- 3 and 4: a second GA94 unit before a bad start code
     ∷ area Ga94 (q ++ (q ++ (0x00 ∷ 0x00 ∷ 0x01 ∷ 0xB3 ∷ []))) StartCode 3 0
@@ -265,6 +279,12 @@ two-faults =
     ∷ writeUnit Scte20 (value (five []) 16384) 0 FifthPriority 9
     -- 1 and 14: a result of more than 16,384 bytes, and no room
     ∷ writeUnit Scte20 (value [] 16384) 0 TooLong 1
+    -- 15 and 7: reserved and flag that make 09, and a record of field 0
+    ∷ writeUnit Scte20 (told 4 1 (caption 0 0 10 ∷ []) 0) 0 (Unholdable excess.GroupType) 15
+    -- 15 and 15: flag 0 with a record, and reserved and flag that make 0A
+    ∷ writeUnit Scte20 (told 5 0 (caption 0 1 10 ∷ []) 0) 0 (Unholdable excess.FlagWithRecords) 15
+    -- 15 and 1: reserved and flag that make 0A, and a result of more than 16,384 bytes
+    ∷ writeUnit Scte20 (told 5 0 [] 16384) 0 (Unholdable excess.GroupType) 15
     -- WRITING A GA94 UNIT
     -- 15 and 16: em_data 256, and the third flag
     ∷ writeUnit Ga94 (ga94Value 1 256 [] 0) 0 (Unholdable excess.EmData) 15
@@ -301,6 +321,10 @@ two-faults =
     ∷ replace Scte20 a (value (caption 4 1 10 ∷ []) 0) 0 (Unholdable excess.Priority) 15 0
     -- 1 and 14: a new area of 16,389 bytes, of which the new unit has 16,384, and no room
     ∷ replace Scte20 (foreign ++ a) (value [] 16376) 0 TooLong 1 0
+    -- 18 and 15: a data group, then a caption unit with its marker 0, and a value that makes 09
+    ∷ replace Scte20 (group ++ j) (told 4 1 [] 0) 0 (Unfixed fixed.Marker) 18 142
+    -- 15 and 14: a data group alone, a value that makes 0A, and no room
+    ∷ replace Scte20 group (told 5 0 [] 0) 0 (Unholdable excess.GroupType) 15 0
     -- 16 and 15: a GA94 unit with the third flag, behind a foreign one, and a value of em_data 256
     ∷ replace Ga94 (foreign ++ layoutUnit (ga94 (0x03 ∷ 0xE0 ∷ 0xFF ∷ 0xFF ∷ []))) (ga94Value 0 256 [] 0) 0 AdditionalData 16 114
     -- 4 and 16: two GA94 units, and a value with the third flag

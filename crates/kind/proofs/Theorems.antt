@@ -2,22 +2,36 @@
 -- specs/Ours. How to read it: docs/NOTATION.md. Assumes nothing.
 use Prim.Native.Nat.{ℕ, _≤_, _<_}
 use mathlib.Core.Path.{_≡_}
-use mathlib.Core.Bool.{Bool, true, false, _&&_}
-use mathlib.Core.List.{List, []}
+use mathlib.Core.Logic.{_↔_, _⊎_}
+use mathlib.Core.Bool.{Bool, true, false, not, _&&_}
+use mathlib.Core.List.{List, [], _∷_}
 use lib.Dec.{eqb}
 use lib.ListN.{length, getD, drop}
 use Rattle.kind.specs.declared.Kind.{Kind}
 use Rattle.kind.specs.declared.Kind.the-variants.{Scte20, Ga94}
-use Rattle.kind.specs.Ours.{typedOrEnds, ours}
+use Rattle.kind.specs.Ours.{groupType, grouped, typedOrEnds, ours}
 use Rattle.kind.proofs.First as first
 
 -- A unit without a body is foreign.
 pub ours-nothing : (kind : Kind) → ours kind [] ≡ false
 ours-nothing = first.ours-nothing
 
--- Of any other the first byte decides whether it is SCTE 20's.
-pub scte20-first : (body : List ℕ) → 0 < length body → ours Scte20 body ≡ eqb (getD body 0 0) 3
+-- A body of one byte is SCTE 20's exactly where that is 03.
+pub scte20-alone : (b : ℕ) → ours Scte20 (b ∷ []) ≡ eqb b 3
+scte20-alone = first.scte20-alone
+
+-- Of a longer one the first two bytes decide: 03, and not the type of a data group,
+pub scte20-first : (body : List ℕ) → 2 ≤ length body
+    → ours Scte20 body ≡ eqb (getD body 0 0) 3 && not (groupType (getD body 1 0))
 scte20-first = first.scte20-first
+
+-- which is 09 or 0A.
+pub group-types : (b : ℕ) → groupType b ≡ true ↔ ((b ≡ 0x09) ⊎ (b ≡ 0x0A))
+group-types = first.group-types
+
+-- A data group is foreign to both kinds.
+pub group-foreign : (kind : Kind) (body : List ℕ) → grouped body ≡ true → ours kind body ≡ false
+group-foreign = first.group-foreign
 
 -- GA94's is a body that begins 47 41 39 34, and goes on with 03 or ends there.
 pub ga94-first : (body : List ℕ) → 4 ≤ length body
@@ -36,6 +50,9 @@ pub kinds-apart : (kind other : Kind) (body : List ℕ) → (kind ≡ other → 
     → ours kind body ≡ true → ours other body ≡ false
 kinds-apart = first.kinds-apart
 
--- Two answers that keep the promise of `ours` are equal.
+-- Two answers that keep the promise of `ours` are equal, and of `group_type`.
 pub ours-determined : (kind : Kind) (body : List ℕ) (a b : Bool) → a ≡ ours kind body → b ≡ ours kind body → a ≡ b
 ours-determined = first.ours-determined
+
+pub group-type-determined : (b : ℕ) (x y : Bool) → x ≡ groupType b → y ≡ groupType b → x ≡ y
+group-type-determined = first.group-type-determined

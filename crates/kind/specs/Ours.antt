@@ -1,16 +1,25 @@
 -- Which units of an area are ours, of one kind or the other (RULES, "Picture area"), told by the first bytes of the
 -- body. Nothing else in the project says which units are ours.
 use Prim.Native.Nat.{ℕ}
-use mathlib.Core.Bool.{Bool, true, false, _&&_}
+use mathlib.Core.Bool.{Bool, true, false, not, _&&_, _||_}
 use mathlib.Core.List.{List, [], _∷_}
 use lib.Dec.{eqb}
 use Rattle.kind.specs.declared.Kind.{Kind}
 use Rattle.kind.specs.declared.Kind.the-variants.{Scte20, Ga94}
 
--- user_data_type_code 03 (001, 5.4)
+-- a data group of another syntax (003, Table 1): user_data_length 03, then user_data_type 09 or 0A
+abbrev pub groupType : ℕ → Bool
+groupType b = eqb b 0x09 || eqb b 0x0A
+
+abbrev pub grouped : List ℕ → Bool
+grouped [] = false
+grouped (a ∷ []) = false
+grouped (a ∷ b ∷ body) = eqb a 3 && groupType b
+
+-- user_data_type_code 03 (001, 5.4), where no data group begins. 03 alone is ours
 abbrev pub typed : List ℕ → Bool
 typed [] = false
-typed (b ∷ body) = eqb b 3
+typed (b ∷ body) = eqb b 3 && not (grouped (b ∷ body))
 
 -- behind ATSC_identifier: user_data_type_code 03, or nothing more
 abbrev pub typedOrEnds : List ℕ → Bool

@@ -132,7 +132,7 @@ module _ (k : Kind) where
   legal-found (uncaptioned us) h = nowhere-exactly (ours k) (units.layout us) .1 (us, foreign-clean us (h .units), foreign-other us (h .units), h .short, refl)
   legal-found (captioned before c after) h =
       at-found (ours k) before (bodyOf k c) after (foreign-clean before (h .units .0)) (legal-clean k c (h .units .1)) (foreign-clean after (h .units .2))
-      (foreign-other before (h .units .0)) (foreign-other after (h .units .2)) (caption-ours k c) (h .short)
+      (foreign-other before (h .units .0)) (foreign-other after (h .units .2)) (caption-ours k c (h .units .1)) (h .short)
 
   -- and the value there
   abbrev contentsOf : Area k → List (Content k)

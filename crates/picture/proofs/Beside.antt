@@ -32,11 +32,11 @@ use Rattle.units.specs.Split.{bodiesOf, putIf, ofKind}
 use Rattle.units.proofs.Splits.{layout-bodies, layout-accepted}
 use Rattle.units.proofs.Spans.{nowhere-exactly, at-found, part-body, second-many}
 use Rattle.picture.specs.Kinds.{Content, LegalContent, bodyOf, contentVerdict, valueOf, CaptionUnit, held, numbersOf, bytesOf}
-use Rattle.picture.specs.Value.{Area, uncaptioned, captioned, bodies, layout, Foreign, Legal, replaced}
+use Rattle.picture.specs.Value.{Area, uncaptioned, captioned, bodies, layout, Foreign, LegalBodies, Legal, replaced}
 use Rattle.picture.specs.Reading.{placed, captionsIn, foundVerdict, areaVerdict, foundContent, Answer, answerOf, readOf, Reads, Alike}
 use Rattle.picture.specs.Lent.{Head, ReadsInto}
 use Rattle.picture.specs.Writing.{Replaces}
-use Rattle.picture.proofs.Contents.{caption-ours, body-bytes}
+use Rattle.picture.proofs.Contents.{caption-ours, body-bytes, legal-held}
 use Rattle.picture.proofs.CleanBody.{legal-clean}
 use Rattle.picture.proofs.Unique.{bodies-clean}
 use Rattle.picture.proofs.Accepting.{refused-in-order, zero-accepted}
@@ -48,7 +48,7 @@ pub other-foreign : (k other : Kind) → (k ≡ other → ⊥) → (s : List ℕ
 other-foreign k other apart s bytes clean mine = record { bytes = bytes; clean = clean; other = kinds-apart k other s apart mine }
 
 pub caption-foreign : (k other : Kind) → (k ≡ other → ⊥) → (c : Content k) → LegalContent k c → Foreign other (bodyOf k c)
-caption-foreign k other apart c h = other-foreign k other apart (bodyOf k c) (body-bytes k c h) (legal-clean k c h) (caption-ours k c)
+caption-foreign k other apart c h = other-foreign k other apart (bodyOf k c) (body-bytes k c h) (legal-clean k c h) (caption-ours k c h)
 
 -- THE BODIES OF ONE KIND
 
@@ -103,7 +103,7 @@ module _ (mine : List ℕ → Bool) where
   kind-one (b ∷ bs) x e = one-test (mine b) b bs x refl (kind-one bs x) e
 
   -- one that is not of the kind does not count
-  kind-around : (before : List (List ℕ)) (x : List ℕ) (after : List (List ℕ)) → mine x ≡ false → ofKind mine (before ++ (x ∷ after)) ≡ ofKind mine (before ++ after)
+  pub kind-around : (before : List (List ℕ)) (x : List ℕ) (after : List (List ℕ)) → mine x ≡ false → ofKind mine (before ++ (x ∷ after)) ≡ ofKind mine (before ++ after)
   kind-around [] x after f = ap (λ (t : Bool). putIf t x (ofKind mine after)) f
   kind-around (b ∷ before) x after f = ap (λ (ds : List (List ℕ)). putIf (mine b) b ds) (kind-around before x after f)
 
@@ -160,7 +160,7 @@ module _ (k : Kind) where
       same-alike _ _ (found-told s _ (second-many (ours k) s (layout-accepted bs clean short) several))
 
   -- two areas with the same bodies of the kind
-  same-told : (bs ds : List (List ℕ)) → Each Clean bs → length (units.layout bs) ≤ 16384 → Each Clean ds → length (units.layout ds) ≤ 16384
+  pub same-told : (bs ds : List (List ℕ)) → Each Clean bs → length (units.layout bs) ≤ 16384 → Each Clean ds → length (units.layout ds) ≤ 16384
       → ofKind (ours k) bs ≡ ofKind (ours k) ds → Alike k (readOf k (units.layout bs)) (readOf k (units.layout ds))
   same-told bs ds cb sb cd sd e =
       let one = bodies-told bs cb sb (ofKind (ours k) bs) refl in
@@ -189,12 +189,14 @@ module _ (k : Kind) where
 -- REPLACING LEAVES THE OTHER KIND
 
 module _ (k other : Kind) (apart : k ≡ other → ⊥) where
-  others-kept : (v : Area k) (c : Content k) → ofKind (ours other) (bodies k (replaced k v c)) ≡ ofKind (ours other) (bodies k v)
-  others-kept (uncaptioned us) c =
-      kind-around (ours other) us (bodyOf k c) [] (kinds-apart k other (bodyOf k c) apart (caption-ours k c)) ∙ ap (ofKind (ours other)) (append-nil us)
-  others-kept (captioned before old after) c =
-      kind-around (ours other) before (bodyOf k c) after (kinds-apart k other (bodyOf k c) apart (caption-ours k c))
-      ∙ sym (kind-around (ours other) before (bodyOf k old) after (kinds-apart k other (bodyOf k old) apart (caption-ours k old)))
+  caption-other : (c : Content k) → LegalContent k c → ours other (bodyOf k c) ≡ false
+  caption-other c h = kinds-apart k other (bodyOf k c) apart (caption-ours k c h)
+
+  others-kept : (v : Area k) → LegalBodies k v → (c : Content k) → LegalContent k c → ofKind (ours other) (bodies k (replaced k v c)) ≡ ofKind (ours other) (bodies k v)
+  others-kept (uncaptioned us) old c h = kind-around (ours other) us (bodyOf k c) [] (caption-other c h) ∙ ap (ofKind (ours other)) (append-nil us)
+  others-kept (captioned before d after) old c h =
+      kind-around (ours other) before (bodyOf k c) after (caption-other c h)
+      ∙ sym (kind-around (ours other) before (bodyOf k d) after (caption-other d (old .1)))
 
   module _ (s : List ℕ) (u : CaptionUnit k) (out : List ℕ) (r : Written) (exit : List ℕ) (p : Replaces k s u out r exit) (done : r .refusal .number ≡ 0) where
     told-kept : Alike other (readOf other (take (r .len) exit)) (readOf other s)
@@ -204,7 +206,7 @@ module _ (k other : Kind) (apart : k ≡ other → ⊥) where
         let here : Replaces k (layout k v) u out r exit = subst (λ (t : List ℕ). Replaces k t u out r exit) (sym (w .2)) p in
         let new = the-new-area k v (w .1) u out r exit here done in
         let told = same-told other (bodies k (replaced k v (held k u))) (bodies k v)
-        (bodies-clean k (replaced k v (held k u)) (new .2 .units)) (new .2 .short) (bodies-clean k v (w .1 .units)) (w .1 .short) (others-kept v (held k u)) in
+        (bodies-clean k (replaced k v (held k u)) (new .2 .units)) (new .2 .short) (bodies-clean k v (w .1 .units)) (w .1 .short) (others-kept v (w .1 .units) (held k u) (legal-held k u (w .3))) in
         subst (λ (t : List ℕ). Alike other (readOf other t) (readOf other s)) (sym (new-bytes k v (w .1) u out r exit here done))
         (subst (λ (t : List ℕ). Alike other (readOf other (layout k (replaced k v (held k u)))) (readOf other t)) (w .2) told)
 

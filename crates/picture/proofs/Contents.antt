@@ -2,7 +2,7 @@
 -- Assumes nothing.
 use Prim.Native.Nat.{ℕ, _*_, _≤_, _<_}
 use native.Mathlib.Omega.{arith}
-use mathlib.Core.Path.{_≡_, ap, refl}
+use mathlib.Core.Path.{_≡_, refl}
 use mathlib.Core.Bool.{true}
 use mathlib.Core.List.{List, []}
 use lib.ListN.{length, take, replicate}
@@ -24,7 +24,7 @@ use Rattle.kind.specs.declared.Kind.the-variants.{Scte20, Ga94}
 use Rattle.kind.specs.Ours.{ours}
 use Rattle.scte20.specs.Value as scte20
 use Rattle.scte20.proofs.Sizes as scte20-sizes
-use Rattle.scte20.proofs.Sizes.{begins}
+use Rattle.scte20.proofs.Own.{legal-ours}
 use Rattle.scte20.proofs.Contents as scte20-contents
 use Rattle.scte20.proofs.Layouts as scte20-layouts
 use Rattle.scte20.proofs.Placed as scte20-placed
@@ -51,11 +51,11 @@ use Rattle.picture.specs.Kinds.{Numbers, count, width, places, unitIn, n
 
 -- THE VALUE AND ITS BYTES
 
--- a caption unit's body is of its kind
-pub caption-ours : (k : Kind) (c : Content k) → ours k (bodyOf k c) ≡ true
+-- a legal caption unit's body is of its kind
+pub caption-ours : (k : Kind) (c : Content k) → LegalContent k c → ours k (bodyOf k c) ≡ true
 unfolding ours
-caption-ours Scte20 c = let front = begins c in ap (λ (s : List ℕ). ours Scte20 s) (front .1)
-caption-ours Ga94 c = refl
+caption-ours Scte20 c h = legal-ours c h
+caption-ours Ga94 c h = refl
 
 pub body-bytes : (k : Kind) (c : Content k) → LegalContent k c → Bytes (bodyOf k c)
 body-bytes Scte20 c h = scte20-sizes.layout-bytes c

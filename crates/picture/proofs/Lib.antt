@@ -15,5 +15,6 @@ pub mod Writing
 pub mod Replacing
 pub mod LentBack
 pub mod Beside
+pub mod Groups
 pub mod Determined
 pub mod Theorems

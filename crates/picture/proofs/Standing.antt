@@ -1,15 +1,15 @@
 -- What a refusal of an area tells of its place: 0 before the caption unit's body is read, and in it the bit at which something stands that is wrong.
 -- An area in which such a thing stands is refused.
 -- Assumes nothing.
-use Prim.Native.Nat.{ℕ, _+_, _*_, _≤_}
+use Prim.Native.Nat.{ℕ, _+_, _*_, _≤_, _<_}
 use native.Mathlib.Omega.{arith}
 use mathlib.Core.Path.{_≡_, _∙_, ap, sym, subst, refl}
 use mathlib.Core.Logic.{_⊎_, inl, inr, ⊎-elim}
-use mathlib.Core.Bool.{true, not, _&&_, true≢false}
+use mathlib.Core.Bool.{true, false, not, _&&_, true≢false}
 use mathlib.Core.List.{List, [], _∷_, _++_}
-use borrow.Author.Tests.{eqb-true}
+use borrow.Author.Tests.{eqb-true, not-true}
 use lib.Dec.{eqb, ltb}
-use lib.ListN.{length, drop}
+use lib.ListN.{length, getD, drop}
 use lib.Seq.{drop-drop, drop-append-add, drop-append-le}
 use Rattle.lists.specs.Bytes.{Bytes}
 use Rattle.lists.specs.Part.{part}
@@ -25,15 +25,20 @@ use Rattle.refusal.proofs.Checks.{both-hold, refused-not-accepted}
 use Rattle.refusal.proofs.Gives.{Gives, refuseIf-gives, andThen-gives}
 use Rattle.bits.specs.Bits.{bits, num, bitsOf, field}
 use Rattle.bits.proofs.Stream.{length-bitsOf, bitsOf-append, drop-bitsOf}
+use Rattle.bits.proofs.Fields.{field-whole}
 use Rattle.kind.specs.declared.Kind.{Kind}
 use Rattle.kind.specs.declared.Kind.the-variants.{Scte20, Ga94}
-use Rattle.kind.specs.Ours.{typedOrEnds, ours}
+use Rattle.kind.specs.Ours.{groupType, typedOrEnds, ours}
+use Rattle.kind.proofs.First.{scte20-first, scte20-begins, ours-nothing}
 use Rattle.units.specs.declared.Found.{Found}
 use Rattle.units.specs.declared.Found.the-variants as found
 use Rattle.units.specs.Layout as units
 use Rattle.units.specs.Split.{cutOf, opened, allOpened, empty, frontVerdict, splitVerdict}
 use Rattle.units.proofs.Splits.{layout-append, length-around}
 use Rattle.units.proofs.Spans.{Alone, found-at, refused-split}
+use Rattle.scte20.specs.Value.{flagByte}
+use Rattle.scte20.specs.Reading.{reservedIn, flagIn}
+use Rattle.scte20.proofs.Bytewise.{flag-byte}
 use Rattle.scte20.proofs.Faults as scte20-faults
 use Rattle.ga94.proofs.Faults as ga94-faults
 use Rattle.picture.specs.Kinds.{contentVerdict, Stands}
@@ -47,10 +52,19 @@ use Rattle.picture.proofs.Refusing.{refused-content}
 -- THE NUMBERS OF A BODY
 
 -- a unit of a kind begins with the identifier and the type of that kind
-scte20-typed : (s : List ℕ) → ours Scte20 s ≡ true → field (bitsOf s) 0 8 ≡ 3
-unfolding ours
-scte20-typed [] mine = absurd (true≢false (sym mine))
-scte20-typed (b ∷ s) mine = ap (λ (x : ℕ). num (bits 8 x)) (eqb-true b 3 mine)
+scte20-typed : (s : List ℕ) → Bytes s → ours Scte20 s ≡ true
+    → (field (bitsOf s) 0 8 ≡ 3) × (16 ≤ length (bitsOf s) → groupType (flagByte (reservedIn (bitsOf s)) (flagIn (bitsOf s))) ≡ false)
+scte20-typed s bytes mine = (
+  field-whole s 0 bytes (some s mine) ∙ scte20-begins s mine .0,
+  λ long.
+      let two : 2 ≤ length s = omega (arith, length-bitsOf s) in
+      let both = both-hold (eqb (getD s 0 0) 3) (not (groupType (getD s 1 0))) (sym (scte20-first s two) ∙ mine) in
+      ap groupType (flag-byte s bytes two) ∙ not-true (groupType (getD s 1 0)) (both .1),
+)
+  where
+    some : (s : List ℕ) → ours Scte20 s ≡ true → 0 < length s
+    some [] mine = absurd (true≢false (sym mine ∙ ours-nothing Scte20))
+    some (b ∷ s) mine = omega arith
 
 ga94-typed : (s : List ℕ) → ours Ga94 s ≡ true → (field (bitsOf s) 0 32 ≡ 0x47413934) × (40 ≤ length (bitsOf s) → field (bitsOf s) 32 8 ≡ 3)
 unfolding ours
@@ -72,11 +86,12 @@ ga94-typed (a ∷ b ∷ c ∷ d ∷ s) mine =
     type-code (e ∷ s) t long = ap (λ (x : ℕ). num (bits 8 x)) (eqb-true e 3 t)
 
 -- so that its body gives no number below 5, and no 6
-stands-numbers : (k : Kind) (s : List ℕ) (number bit : ℕ) → ours k s ≡ true → Stands k s number bit → (5 ≤ number) × (number ≡ 6 → ⊥)
-stands-numbers Scte20 s number bit mine stands =
+stands-numbers : (k : Kind) (s : List ℕ) → Bytes s → (number bit : ℕ) → ours k s ≡ true → Stands k s number bit → (5 ≤ number) × (number ≡ 6 → ⊥)
+stands-numbers Scte20 s bytes number bit mine stands =
     let given = scte20-faults.stands-numbers (bitsOf s) number bit stands in
-    (given .0, λ six. given .1 six (scte20-typed s mine))
-stands-numbers Ga94 s number bit mine stands =
+    let typed = scte20-typed s bytes mine in
+    (given .0, λ six. given .1 six (typed .0) (typed .1))
+stands-numbers Ga94 s bytes number bit mine stands =
     let given = ga94-faults.stands-numbers (bitsOf s) number bit stands in
     let typed = ga94-typed s mine in
     (given .0, λ six. given .1 six (typed .0) (typed .1))
@@ -127,7 +142,7 @@ module _ (k : Kind) (s : List ℕ) (bytes : Bytes s) where
       let short : length (w .body) ≤ 16384 = omega (arith, w .short, sym (ap length (w .whole)) ∙ length-around (w .before) (w .body) (w .after)) in
       let at : AtBit (8 * length (w .body)) (Stands k (w .body)) reason item =
       content-placed k (w .body) (foreign .1) short reason item (ap (contentVerdict k) (sym (w .lies)) ∙ same) in
-      let numbers = stands-numbers k (w .body) (numberOf reason) (at .bit) (w .mine) (at .stands) in
+      let numbers = stands-numbers k (w .body) (foreign .1) (numberOf reason) (at .bit) (w .mine) (at .stands) in
       let here : refusalOf (Refused reason (placedItem unit item)) .place ≡ areaBit (w .before) (at .bit) =
       ap (λ (i : Item). refusalOf (Refused reason (placedItem unit i)) .place) (at .here) ∙ ap (λ (n : ℕ). 8 * (n + 4) + at .bit) (w .starts) in
       inr
@@ -191,12 +206,15 @@ module _ (k : Kind) (s : List ℕ) (r : Answer k) (p : Reads k s r) where
     short : length (units.layout (u .before ++ (u .body ∷ u .after))) ≤ 16384
     short = let v = accepted-exactly k s r p .0 accepts in subst (λ (t : List ℕ). length t ≤ 16384) (v .2 ∙ sym (u .whole)) (v .1 .short)
 
+    bytes : Bytes (u .body)
+    bytes = unit-bytes (u .before) (u .body) (u .after) (subst Bytes (sym (u .whole)) (p .bytes))
+
     body-refused : (verdict : Verdict) → contentVerdict k (u .body) ≡ verdict → ⊥
-    body-refused Accepted same = content-stands k (u .body) (unit-bytes (u .before) (u .body) (u .after) (subst Bytes (sym (u .whole)) (p .bytes))) number (u .bit) (u .stands) same
+    body-refused Accepted same = content-stands k (u .body) bytes number (u .bit) (u .stands) same
     body-refused (Refused reason item) same =
         let reads : Reads k (units.layout (u .before ++ (u .body ∷ u .after))) r = subst (λ (t : List ℕ). Reads k t r) (sym (u .whole)) p in
         let at = refused-content k (u .before) (u .body) (u .after) r reads (u .foreign-before) (u .clean) (u .mine) (u .foreign-after) short reason item same in
-        omega (arith, ap (λ (a : Refusal). a .number) (at .1), stands-numbers k (u .body) (numberOf reason) (at .0) (u .mine) (at .3) .0)
+        omega (arith, ap (λ (a : Refusal). a .number) (at .1), stands-numbers k (u .body) bytes (numberOf reason) (at .0) (u .mine) (at .3) .0)
 
   pub stands-refused : (number place : ℕ) → InUnit k s number place → r .refusal .number ≡ 0 → ⊥
   stands-refused number place u accepts = body-refused number place u accepts (contentVerdict k (u .body)) refl

@@ -18,7 +18,7 @@ use mathlib.Core.Path.{_≡_}
 use mathlib.Core.Logic.{_↔_}
 use mathlib.Core.Bool.{true, false}
 use mathlib.Core.List.{List, [], _∷_, _++_}
-use lib.ListN.{length, take, drop}
+use lib.ListN.{length, getD, take, drop}
 use Rattle.lists.specs.Each.{Each}
 use Rattle.lists.specs.Bytes.{Bytes}
 use Rattle.lists.specs.Room.{filled, over}
@@ -35,12 +35,14 @@ use Rattle.units.specs.Layout.{Clean, startCode}
 use Rattle.units.specs.Layout as units
 use Rattle.units.specs.Split.{bodiesOf, ofKind}
 use Rattle.kind.specs.declared.Kind.{Kind}
-use Rattle.kind.specs.Ours.{ours}
+use Rattle.kind.specs.declared.Kind.the-variants.{Scte20}
+use Rattle.kind.specs.Ours.{groupType, grouped, ours}
+use Rattle.scte20.specs.Value.{flagByte}
 use Rattle.picture.specs.Kinds.{Content, LegalContent, none, bodyOf, contentVerdict, Stands}
 use Rattle.picture.specs.Kinds.{CaptionUnit, stored, held, LegalCaptionUnit, stuffing, wholeVerdict, writeVerdict}
 use Rattle.picture.specs.Kinds.{ForValue, Numbers, count, width, places, unitIn, bytesOf}
 use Rattle.picture.specs.declared.Spot.{Spot}
-use Rattle.picture.specs.Value.{Area, captioned, bodies, layout, Foreign, Legal, replaced, foreignOf}
+use Rattle.picture.specs.Value.{Area, uncaptioned, captioned, bodies, layout, Foreign, Legal, replaced, foreignOf}
 use Rattle.picture.specs.Reading.{areaVerdict, Answer, shown, Reads, Alike}
 use Rattle.picture.specs.Lent.{Head, headOf, ReadsInto}
 use Rattle.picture.specs.Inside.{ReadsOld}
@@ -52,11 +54,13 @@ use Rattle.picture.proofs.Unique as unique
 use Rattle.picture.proofs.Sequence as sequence
 use Rattle.picture.proofs.Refusing as refusing
 use Rattle.picture.proofs.Standing as standing
+use Rattle.picture.proofs.Contents as contents
 use Rattle.picture.proofs.CleanBody as clean-body
 use Rattle.picture.proofs.Writing as writing
 use Rattle.picture.proofs.Replaced as value-replaced
 use Rattle.picture.proofs.Replacing as replacing
 use Rattle.picture.proofs.Beside as beside
+use Rattle.picture.proofs.Groups as groups
 use Rattle.picture.proofs.LentBack as lent-back
 use Rattle.picture.proofs.Determined as determined
 
@@ -163,6 +167,10 @@ area-bits = standing.area-bits
 pub legal-clean : (k : Kind) (c : Content k) → LegalContent k c → Clean (bodyOf k c)
 legal-clean = clean-body.legal-clean
 
+-- And it is of its kind: no legal value's layout is foreign.
+pub caption-ours : (k : Kind) (c : Content k) → LegalContent k c → ours k (bodyOf k c) ≡ true
+caption-ours = contents.caption-ours
+
 -- WRITING A UNIT
 
 -- Writing succeeds exactly when the value is legal and the unit, with its start code and its stuffing, fits limit and
@@ -266,6 +274,14 @@ the-new-area = replacing.the-new-area
 pub foreign-kept : (k : Kind) (v : Area k) (c : Content k) → foreignOf k (replaced k v c) ≡ foreignOf k v
 foreign-kept = value-replaced.foreign-kept
 
+-- So the unit that has number i in the area, where it is foreign, has number i in the new area, byte for byte.
+pub foreign-stays : (k : Kind) (s : List ℕ) (u : CaptionUnit k) (out : List ℕ) (r : Written) (exit : List ℕ)
+    → Replaces k s u out r exit → r .refusal .number ≡ 0
+    → (i : ℕ) → i < length (bodiesOf s) → ours k (getD (bodiesOf s) i []) ≡ false
+    → (i < length (bodiesOf (take (r .len) exit)))
+    × (getD (bodiesOf (take (r .len) exit)) i [] ≡ getD (bodiesOf s) i [])
+foreign-stays = groups.foreign-stays
+
 -- Cut into units, the new area is those of its value.
 pub new-units : (k : Kind) (v : Area k) → Legal k v → (u : CaptionUnit k) (out : List ℕ) (r : Written) (exit : List ℕ)
     → Replaces k (layout k v) u out r exit → r .refusal .number ≡ 0
@@ -343,6 +359,46 @@ replace-14 = replacing.replace-14
 pub replace-untouched : (k : Kind) (s : List ℕ) (u : CaptionUnit k) (out : List ℕ) (r : Written) (exit : List ℕ)
     → Replaces k s u out r exit → (r .refusal .number ≡ 0 → ⊥) → (r .len ≡ 0) × (exit ≡ out)
 replace-untouched = replacing.replace-untouched
+
+-- DATA GROUPS
+
+-- A unit whose body begins 03 09 or 03 0A (`grouped`, crate `kind`) is a foreign unit, to either kind.
+pub group-foreign : (k : Kind) (s : List ℕ) → Bytes s → Clean s → grouped s ≡ true → Foreign k s
+group-foreign = groups.group-foreign
+
+-- Wherever it stands, it passes through every replacement, byte for byte, and keeps its number.
+pub group-stays : (k : Kind) (s : List ℕ) (u : CaptionUnit k) (out : List ℕ) (r : Written) (exit : List ℕ)
+    → Replaces k s u out r exit → r .refusal .number ≡ 0
+    → (i : ℕ) → i < length (bodiesOf s) → grouped (getD (bodiesOf s) i []) ≡ true
+    → (i < length (bodiesOf (take (r .len) exit)))
+    × (getD (bodiesOf (take (r .len) exit)) i [] ≡ getD (bodiesOf s) i [])
+group-stays = groups.group-stays
+
+-- An area whose only units that begin 03 are data groups reads as one without a caption unit.
+pub group-none : (bs : List (List ℕ)) → Each Clean bs → length (units.layout bs) ≤ 16384
+    → Each (λ (s : List ℕ). getD s 0 0 ≡ 3 → grouped s ≡ true) bs
+    → (r : Answer Scte20) → Reads Scte20 (units.layout bs) r → r ≡ shown Scte20 (uncaptioned bs)
+group-none = groups.group-none
+
+-- Anywhere in an area it is neither read nor counted: without it the answer is the same, but for the place of a refusal.
+pub group-alike : (k : Kind) (before : List (List ℕ)) (s : List ℕ) (after : List (List ℕ))
+    → Each Clean before → Clean s → Each Clean after → grouped s ≡ true
+    → length (units.layout (before ++ (s ∷ after))) ≤ 16384
+    → (a b : Answer k) → Reads k (units.layout (before ++ (s ∷ after))) a → Reads k (units.layout (before ++ after)) b
+    → Alike k a b
+group-alike = groups.group-alike
+
+-- A value whose reserved bits and flag would make 09 or 0A is refused with 15, whatever else is wrong with it, written
+pub write-group : (u : CaptionUnit Scte20) (out : List ℕ) (r : Written) (exit : List ℕ) → Writes Scte20 u out r exit
+    → groupType (flagByte (u .reserved) (u .«vbi_data_flag»)) ≡ true → r .refusal ≡ refused 15 0
+write-group = groups.write-group
+
+-- or put into a legal area.
+pub replace-group : (v : Area Scte20) → Legal Scte20 v
+    → (u : CaptionUnit Scte20) (out : List ℕ) (r : Written) (exit : List ℕ)
+    → Replaces Scte20 (layout Scte20 v) u out r exit
+    → groupType (flagByte (u .reserved) (u .«vbi_data_flag»)) ≡ true → r .refusal ≡ refused 15 0
+replace-group = groups.replace-group
 
 -- TWO KINDS IN ONE AREA
 

@@ -10,7 +10,7 @@ use Rattle.units.specs.Layout.{Clean}
 use Rattle.units.proofs.Theorems as units
 use Rattle.kind.specs.declared.Kind.{Kind}
 use Rattle.kind.specs.Ours.{ours}
-use Rattle.picture.specs.Kinds.{Content, bodyOf}
+use Rattle.picture.specs.Kinds.{Content, LegalContent, bodyOf}
 use Rattle.picture.specs.Value.{Area, uncaptioned, captioned, bodies, layout, LegalBodies, Legal}
 use Rattle.picture.proofs.Contents.{caption-ours}
 use Rattle.picture.proofs.Contents as contents
@@ -41,18 +41,19 @@ module _ (k : Kind) where
       let rest = around b d x y a e (hb .1) (hd .1) mx my (tail-eq-of-cons-eq same) in
       record { before = ap₂ (λ (h : List ℕ) (t : List (List ℕ)). h ∷ t) (head-eq-of-cons-eq same) (rest .before); body = rest .body; after = rest .after }
 
-  never : (us before : List (List ℕ)) (c : Content k) (after : List (List ℕ)) → Each (Other k) us → us ≡ before ++ (bodyOf k c ∷ after) → ⊥
-  never us before c after h e =
+  never : (us before : List (List ℕ)) (c : Content k) (after : List (List ℕ)) → LegalContent k c → Each (Other k) us → us ≡ before ++ (bodyOf k c ∷ after) → ⊥
+  never us before c after legal h e =
       let parts = append-each (Other k) before (bodyOf k c ∷ after) (subst (λ (bs : List (List ℕ)). Each (Other k) bs) e h) in
-      both-ways (bodyOf k c) (caption-ours k c) (parts .1 .0)
+      both-ways (bodyOf k c) (caption-ours k c legal) (parts .1 .0)
 
   same-bodies : (v w : Area k) → LegalBodies k v → LegalBodies k w → bodies k v ≡ bodies k w → v ≡ w
   same-bodies (uncaptioned us) (uncaptioned ws) hv hw e = ap uncaptioned e
-  same-bodies (uncaptioned us) (captioned before c after) hv hw e = absurd (never us before c after (foreign-other k us hv) e)
-  same-bodies (captioned before c after) (uncaptioned ws) hv hw e = absurd (never ws before c after (foreign-other k ws hw) (sym e))
+  same-bodies (uncaptioned us) (captioned before c after) hv hw e = absurd (never us before c after (hw .1) (foreign-other k us hv) e)
+  same-bodies (captioned before c after) (uncaptioned ws) hv hw e = absurd (never ws before c after (hv .1) (foreign-other k ws hw) (sym e))
   same-bodies (captioned before c after) (captioned front d back) hv hw e =
       let same =
-      around before front (bodyOf k c) (bodyOf k d) after back (foreign-other k before (hv .0)) (foreign-other k front (hw .0)) (caption-ours k c) (caption-ours k d) e in
+      around before front (bodyOf k c) (bodyOf k d) after back (foreign-other k before (hv .0)) (foreign-other k front (hw .0))
+      (caption-ours k c (hv .1)) (caption-ours k d (hw .1)) e in
       let value : c ≡ d = contents.only-one k c d (hv .1) (hw .1) (same .body) in
       λ i. captioned (same .before i) (value i) (same .after i)
 

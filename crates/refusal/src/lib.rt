@@ -39,6 +39,8 @@ pub enum Excess {
     Flag,
     Stuffing,
     FlagWithRecords,
+    // Reserved bits and flag that make user_data_type 09 or 0A.
+    GroupType,
     Counter,
     Priority,
     FieldNumber,

@@ -16,7 +16,8 @@ use Rattle.refusal.specs.Checks.{refuseIf}
 use Rattle.bits.specs.Bits.{bitsOf, field}
 use Rattle.bits.proofs.Stream.{length-bitsOf}
 use Rattle.bits.proofs.Fields.{field-byte}
-use Rattle.scte20.specs.Reading.{missing, flagIn, countIn}
+use Rattle.scte20.specs.Value.{flagByte}
+use Rattle.scte20.specs.Reading.{missing, reservedIn, flagIn, countIn}
 use Rattle.scte20.proofs.Constructs.{missing-accepted}
 
 -- 5, by how many bytes there are
@@ -39,6 +40,10 @@ module _ (s : List ℕ) (h : Bytes s) where
 
   pub flag-in : 1 < length s → flagIn (bitsOf s) ≡ getD s 1 0 % 2
   flag-in inside = omega (arith, field-byte s 1 7 1 h inside (omega arith))
+
+  -- the byte of both
+  pub flag-byte : 1 < length s → flagByte (reservedIn (bitsOf s)) (flagIn (bitsOf s)) ≡ getD s 1 0
+  flag-byte inside = omega (arith, reserved-in inside, flag-in inside)
 
   pub count-in : 2 < length s → countIn (bitsOf s) ≡ getD s 2 0 / 8
   count-in inside =

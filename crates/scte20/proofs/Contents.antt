@@ -3,7 +3,7 @@
 use Prim.Native.Nat.{ℕ, zero, suc, _+_, _-_, _*_, _≤_}
 use native.Mathlib.Omega.{arith}
 use mathlib.Core.Path.{_≡_, _∙_, ap, ap₂, sym, refl}
-use mathlib.Core.Bool.{not}
+use mathlib.Core.Bool.{false, not}
 use mathlib.Core.List.{List, [], _∷_, _++_, append-assoc, append-nil}
 use lib.Dec.{eqb, ltb}
 use lib.ListN.{length, take, drop, replicate, length-drop, take-append-drop}
@@ -17,17 +17,18 @@ use Rattle.refusal.specs.declared.Reason.the-variants.{TooLong, Unfixed, Sample
 use Rattle.refusal.specs.declared.Fixed.the-variants.{Alignment, Stuffing, Identifier}
 use Rattle.refusal.specs.declared.Item.the-variants.{Whole, Bit}
 use Rattle.refusal.specs.Checks.{refuseIf, first}
-use Rattle.refusal.proofs.Checks.{accepted-andThen, accepted-equal, accepted-within}
+use Rattle.refusal.proofs.Checks.{accepted-andThen, accepted-refuseIf, accepted-equal, accepted-within}
 use Rattle.bits.specs.Bits.{bits, bitsOf, field}
 use Rattle.bits.proofs.Numbers.{AreBits}
 use Rattle.bits.proofs.Stream.{length-bitsOf, bitsOf-are, bitsOf-same}
 use Rattle.bits.proofs.Fields.{field-lt, field-bits}
 use Rattle.stuffing.specs.Zeros.{zeroVerdict}
 use Rattle.stuffing.proofs.Zeros.{accepted-zero}
+use Rattle.kind.specs.Ours.{groupType}
 use Rattle.scte20.specs.declared.Record.{Record}
-use Rattle.scte20.specs.Value.{LegalRecord, Legal, fieldOf, Ranged}
+use Rattle.scte20.specs.Value.{flagByte, LegalRecord, Legal, fieldOf, Ranged}
 use Rattle.scte20.specs.Layout.{constructsBits, flaggedBits, itemBits, padding, layout}
-use Rattle.scte20.specs.Reading.{missing, constructsVerdict, recordsAt, sampledVerdict, restVerdict, headVerdict, flagIn, countIn, flagVerdict, contentVerdict, recordsIn, valueOf}
+use Rattle.scte20.specs.Reading.{missing, constructsVerdict, recordsAt, sampledVerdict, restVerdict, headVerdict, reservedIn, flagIn, countIn, flagVerdict, contentVerdict, recordsIn, valueOf}
 use Rattle.scte20.specs.Places.{bitsIn}
 use Rattle.scte20.proofs.Fitting.{AllFit, fit-allowed, fit-order, fit-four}
 use Rattle.scte20.proofs.Constructs.{accepted-missing, length-records, records-ranged, constructs-fit, constructs-again}
@@ -57,21 +58,25 @@ pub record Head (body : List ℕ) : Type 0 where
   pub short : length body ≤ 16384
   pub identified : field (bitsOf body) 0 8 ≡ 3
   pub complete : 16 ≤ length (bitsOf body)
+  pub no-group : groupType (flagByte (reservedIn (bitsOf body)) (flagIn (bitsOf body))) ≡ false
 
 pub accepted-head : (body : List ℕ) → headVerdict body ≡ Accepted → Head body
 unfolding headVerdict
 accepted-head body e =
     let xs = bitsOf body in
     let third = refuseIf (not (eqb (field xs 0 8) 3)) (Unfixed Identifier) (Bit 0) in
-    let one = accepted-andThen (refuseIf (ltb 16384 (length body)) TooLong Whole) (first (missing 0 8 xs ∷ third ∷ missing 8 7 xs ∷ missing 15 1 xs ∷ [])) e in
-    let two = accepted-andThen (missing 0 8 xs) (first (third ∷ missing 8 7 xs ∷ missing 15 1 xs ∷ [])) (one .1) in
-    let three = accepted-andThen third (first (missing 8 7 xs ∷ missing 15 1 xs ∷ [])) (two .1) in
-    let four = accepted-andThen (missing 8 7 xs) (first (missing 15 1 xs ∷ [])) (three .1) in
-    let five = accepted-andThen (missing 15 1 xs) Accepted (four .1) in
+    let last = refuseIf (groupType (flagByte (reservedIn xs) (flagIn xs))) (Unfixed Identifier) (Bit 8) in
+    let one = accepted-andThen (refuseIf (ltb 16384 (length body)) TooLong Whole) (first (missing 0 8 xs ∷ third ∷ missing 8 7 xs ∷ missing 15 1 xs ∷ last ∷ [])) e in
+    let two = accepted-andThen (missing 0 8 xs) (first (third ∷ missing 8 7 xs ∷ missing 15 1 xs ∷ last ∷ [])) (one .1) in
+    let three = accepted-andThen third (first (missing 8 7 xs ∷ missing 15 1 xs ∷ last ∷ [])) (two .1) in
+    let four = accepted-andThen (missing 8 7 xs) (first (missing 15 1 xs ∷ last ∷ [])) (three .1) in
+    let five = accepted-andThen (missing 15 1 xs) (first (last ∷ [])) (four .1) in
+    let six = accepted-andThen last Accepted (five .1) in
     record {
       short = accepted-within 16384 (length body) TooLong Whole (one .0);
       identified = accepted-equal (field xs 0 8) 3 (Unfixed Identifier) (Bit 0) (three .0);
       complete = accepted-missing 15 1 xs (five .0);
+      no-group = accepted-refuseIf _ _ _ (six .0);
     }
 
 -- the three fields are laid out again as they stand
@@ -168,6 +173,7 @@ value-legal body h e =
       order = fit-order rs fit;
       four = fit-four rs fit;
       bare = bare-in (flagIn xs) xs;
+      no-group = accepted-content body e .0 .no-group;
     }
 
 -- the items are laid out again as they stand

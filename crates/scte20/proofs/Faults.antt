@@ -4,7 +4,7 @@ use Prim.Native.Nat.{ℕ, zero, suc, _+_, _*_, _≤_, _<_}
 use native.Mathlib.Omega.{arith}
 use mathlib.Core.Path.{_≡_, _∙_, ap, ap₂, sym, subst, refl}
 use mathlib.Core.Logic.{⊎-elim}
-use mathlib.Core.Bool.{_&&_}
+use mathlib.Core.Bool.{true, false, _&&_, true≢false}
 use mathlib.Core.List.{List, [], _∷_}
 use borrow.Author.Tests.{eq-eqb}
 use lib.Dec.{eqb}
@@ -14,32 +14,37 @@ use Rattle.lists.specs.Bytes.{Bytes}
 use Rattle.lists.proofs.Each.{each-at}
 use Rattle.refusal.specs.declared.Verdict.the-variants.{Accepted}
 use Rattle.bits.specs.Bits.{bitsOf}
+use Rattle.kind.specs.Ours.{groupType}
 use Rattle.scte20.specs.declared.Record.{Record}
 use Rattle.scte20.specs.declared.Head.{Head}
-use Rattle.scte20.specs.Value.{Content, Legal, LegalRecord, Follows, InOrder, blank, fieldOf, countIf, urgent}
+use Rattle.scte20.specs.Value.{Content, flagByte, Legal, LegalRecord, Follows, InOrder, blank, fieldOf, countIf, urgent}
 use Rattle.scte20.specs.Layout.{itemBits, layout}
 use Rattle.scte20.specs.Reading.{contentVerdict, valueOf}
 use Rattle.scte20.specs.Lent.{ReadsInto}
 use Rattle.scte20.specs.Places.{Element, user-data-type-code, reserved-bits, vbi-data-flag, cc-count, construct, cc-priority, field-number, line-offset, marker, video-count}
 use Rattle.scte20.specs.Places.{firstBit, bitCount, elementIn, Has, HasIn, bitsIn, zerosIn, urgentIn, recordAt, Stands}
-use Rattle.scte20.specs.Places.{ends-5, type-code-6, field-zero-7, field-falls-8, line-stays-8, fifth-9, video-count-10, marker-18, zeros-19}
+use Rattle.scte20.specs.Places.{ends-5, type-code-6, group-type-6, field-zero-7, field-falls-8, line-stays-8, fifth-9, video-count-10, marker-18, zeros-19}
 use Rattle.scte20.proofs.Sizes.{length-items}
 use Rattle.scte20.proofs.Contents.{value-legal, value-layout}
 use Rattle.scte20.proofs.Layouts.{zerosAt, layout-stands}
 use Rattle.scte20.proofs.Elements.{layout-elements, layout-zeros}
 use Rattle.scte20.proofs.Accepting.{refused-in-order}
 
--- which numbers are given: none below 5, and 6 only where user_data_type_code is another
-pub stands-numbers : (xs : List ℕ) (number bit : ℕ) → Stands xs number bit → (5 ≤ number) × (number ≡ 6 → elementIn xs user-data-type-code ≡ 3 → ⊥)
-stands-numbers xs number bit (ends-5 e is has here inside few) = (omega (arith, is), λ six. omega (arith, is))
-stands-numbers xs number bit (type-code-6 is all other) = (omega (arith, is), λ six. other)
-stands-numbers xs number bit (field-zero-7 i is all none) = (omega (arith, is), λ six. omega (arith, is))
-stands-numbers xs number bit (field-falls-8 i is all below) = (omega (arith, is), λ six. omega (arith, is))
-stands-numbers xs number bit (line-stays-8 i is all same low) = (omega (arith, is), λ six. omega (arith, is))
-stands-numbers xs number bit (fifth-9 i is all none four) = (omega (arith, is), λ six. omega (arith, is))
-stands-numbers xs number bit (video-count-10 n is all some) = (omega (arith, is), λ six. omega (arith, is))
-stands-numbers xs number bit (marker-18 i is all none) = (omega (arith, is), λ six. omega (arith, is))
-stands-numbers xs number bit (zeros-19 is one) = (omega (arith, is), λ six. omega (arith, is))
+-- which numbers are given: none below 5, and 6 only where user_data_type_code is another or a data group begins
+pub stands-numbers : (xs : List ℕ) (number bit : ℕ) → Stands xs number bit
+    → (5 ≤ number)
+    × (number ≡ 6 → elementIn xs user-data-type-code ≡ 3
+    → (16 ≤ length xs → groupType (flagByte (elementIn xs reserved-bits) (elementIn xs vbi-data-flag)) ≡ false) → ⊥)
+stands-numbers xs number bit (ends-5 e is has here inside few) = (omega (arith, is), λ six typed own. omega (arith, is))
+stands-numbers xs number bit (type-code-6 is all other) = (omega (arith, is), λ six typed own. other typed)
+stands-numbers xs number bit (group-type-6 is all both group) = (omega (arith, is), λ six typed own. true≢false (sym group ∙ own (omega (arith, all .here))))
+stands-numbers xs number bit (field-zero-7 i is all none) = (omega (arith, is), λ six typed own. omega (arith, is))
+stands-numbers xs number bit (field-falls-8 i is all below) = (omega (arith, is), λ six typed own. omega (arith, is))
+stands-numbers xs number bit (line-stays-8 i is all same low) = (omega (arith, is), λ six typed own. omega (arith, is))
+stands-numbers xs number bit (fifth-9 i is all none four) = (omega (arith, is), λ six typed own. omega (arith, is))
+stands-numbers xs number bit (video-count-10 n is all some) = (omega (arith, is), λ six typed own. omega (arith, is))
+stands-numbers xs number bit (marker-18 i is all none) = (omega (arith, is), λ six typed own. omega (arith, is))
+stands-numbers xs number bit (zeros-19 is one) = (omega (arith, is), λ six typed own. omega (arith, is))
 
 -- the elements that a body has stand before its zeros: those before the flag's decision
 always : (flag n : ℕ) → 16 ≤ bitsIn flag n
@@ -134,6 +139,11 @@ module _ (c : Content) (legal : Legal c) where
   nothing-stands : (number bit : ℕ) → Stands (bitsOf (layout c)) number bit → ⊥
   nothing-stands number bit (ends-5 e is has here inside few) = omega (arith, before-zeros _ _ e has, long-enough)
   nothing-stands number bit (type-code-6 is all other) = other (layout-elements c legal user-data-type-code tt)
+  nothing-stands number bit (group-type-6 is all both group) =
+      true≢false
+      (sym group
+      ∙ ap₂ (λ (a b : ℕ). groupType (flagByte a b)) (layout-elements c legal reserved-bits tt) (layout-elements c legal vbi-data-flag tt)
+      ∙ legal .no-group)
   nothing-stands number bit (field-zero-7 i is all none) =
       let mine = own i (all .has) in
       omega (arith, field-is i mine, each-at LegalRecord blank (c .records) (legal .each) i (mine .1) .allowed)

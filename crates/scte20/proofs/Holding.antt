@@ -10,9 +10,10 @@ use lib.Seq.{length-take-le}
 use borrow.Author.Tests.{eqb-true, eq-eqb, ne-eqb, not-false, le-ltb}
 use Rattle.refusal.specs.declared.Verdict.the-variants.{Accepted}
 use Rattle.refusal.proofs.Checks.{accepted-andThen, accepted-refuseIf, accepted-within}
+use Rattle.kind.specs.Ours.{groupType}
 use Rattle.scte20.specs.declared.Record.{Record}
 use Rattle.scte20.specs.declared.CaptionUnit.{CaptionUnit}
-use Rattle.scte20.specs.Value.{fieldOf, held}
+use Rattle.scte20.specs.Value.{flagByte, fieldOf, held}
 use Rattle.scte20.specs.Layout.{layout, sizeIn}
 use Rattle.scte20.specs.Writing.{wholeVerdict, rangeVerdict, valueVerdict}
 use Rattle.scte20.proofs.Sizes.{length-layout}
@@ -24,6 +25,7 @@ pub record Whole (u : CaptionUnit) : Type 0 where
   pub flag : u .«vbi_data_flag» ≤ 1
   pub stuffing : u .z ≤ 16384
   pub bare : u .«vbi_data_flag» ≡ 0 → u .n ≡ 0
+  pub no-group : groupType (flagByte (u .reserved) (u .«vbi_data_flag»)) ≡ false
 
 -- where not both tests hold and the first does, the second does not
 and-false-right : (a b : Bool) → (a && b) ≡ false → a ≡ true → b ≡ false
@@ -41,12 +43,14 @@ accepted-whole u e =
     let flag = accepted-andThen _ _ (reserved .1) in
     let stuffing = accepted-andThen _ _ (flag .1) in
     let bare = accepted-andThen _ _ (stuffing .1) in
+    let group = accepted-andThen _ _ (bare .1) in
     record {
       few = accepted-within 31 (u .n) _ _ (count .0);
       reserved = accepted-within 127 (u .reserved) _ _ (reserved .0);
       flag = accepted-within 1 (u .«vbi_data_flag») _ _ (flag .0);
       stuffing = accepted-within 16384 (u .z) _ _ (stuffing .0);
       bare = bare-accepted (u .«vbi_data_flag») (u .n) (accepted-refuseIf _ _ _ (bare .0));
+      no-group = accepted-refuseIf _ _ _ (group .0);
     }
 
 accepted-bare : (flag n : ℕ) → (flag ≡ 0 → n ≡ 0) → (eqb flag 0 && not (eqb n 0)) ≡ false
@@ -64,6 +68,7 @@ whole-accepted u w =
       le-ltb 1 (u .«vbi_data_flag») (w .flag),
       le-ltb 16384 (u .z) (w .stuffing),
       accepted-bare (u .«vbi_data_flag») (u .n) (w .bare),
+      w .no-group,
     )
 
 pub accepted-range : (at : ℕ) (r : Record) → rangeVerdict at r ≡ Accepted → (r .«cc_priority» ≤ 3) × (fieldOf r ≤ 3) × (r .«line_offset» ≤ 31)

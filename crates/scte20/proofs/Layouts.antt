@@ -2,8 +2,8 @@
 -- Assumes nothing.
 use Prim.Native.Nat.{ℕ, zero, suc, _+_, _-_, _*_, _≤_}
 use native.Mathlib.Omega.{arith}
-use mathlib.Core.Path.{_≡_, _∙_, ap, sym, refl}
-use mathlib.Core.Bool.{not}
+use mathlib.Core.Path.{_≡_, _∙_, ap, ap₂, sym, refl}
+use mathlib.Core.Bool.{false, not}
 use mathlib.Core.List.{List, [], _∷_, _++_, append-assoc}
 use borrow.Author.Tests.{eq-eqb, le-ltb}
 use lib.Dec.{eqb, ltb}
@@ -22,10 +22,11 @@ use Rattle.bits.specs.Bits.{bits, num, bitsOf, field}
 use Rattle.bits.proofs.Numbers.{num-bits-small}
 use Rattle.stuffing.specs.Zeros.{zeroVerdict}
 use Rattle.stuffing.proofs.Zeros.{zero-accepted}
+use Rattle.kind.specs.Ours.{groupType}
 use Rattle.scte20.specs.declared.Record.{Record}
-use Rattle.scte20.specs.Value.{Content, LegalRecord, Legal, fieldOf}
+use Rattle.scte20.specs.Value.{Content, flagByte, LegalRecord, Legal, fieldOf}
 use Rattle.scte20.specs.Layout.{constructsBits, flaggedBits, itemBits, padding, layout, sizeIn}
-use Rattle.scte20.specs.Reading.{missing, constructsVerdict, recordsAt, sampledVerdict, restVerdict, headVerdict, flagIn, countIn, flagVerdict, contentVerdict, recordsIn, valueOf}
+use Rattle.scte20.specs.Reading.{missing, constructsVerdict, recordsAt, sampledVerdict, restVerdict, headVerdict, reservedIn, flagIn, countIn, flagVerdict, contentVerdict, recordsIn, valueOf}
 use Rattle.scte20.specs.Places.{bitsIn}
 use Rattle.scte20.proofs.Fitting.{AllFit, legal-fit}
 use Rattle.scte20.proofs.Constructs.{length-constructs, missing-accepted, long-enough, constructs-accepted, records-back}
@@ -152,25 +153,32 @@ module _ (c : Content) (legal : Legal c) where
   accepted-head short =
       let xs = bitsOf (layout c) in
       let third = refuseIf (not (eqb (field xs 0 8) 3)) (Unfixed Identifier) (Bit 0) in
+      let group = groupType (flagByte (reservedIn xs) (flagIn xs)) in
+      let last = refuseIf group (Unfixed Identifier) (Bit 8) in
+      let none : group ≡ false = ap₂ (λ (a b : ℕ). groupType (flagByte a b)) reserved-back flag-back ∙ legal .no-group in
       let three : field xs 0 8 ≡ 3 = ap (λ (l : List ℕ). field l 0 8) layout-stands in
       let long : 16 ≤ length xs = omega (arith, ap length layout-stands) in
       andThen-accepted
       (refuseIf (ltb 16384 (length (layout c))) TooLong Whole)
-      (first (missing 0 8 xs ∷ third ∷ missing 8 7 xs ∷ missing 15 1 xs ∷ []))
+      (first (missing 0 8 xs ∷ third ∷ missing 8 7 xs ∷ missing 15 1 xs ∷ last ∷ []))
       (refuseIf-accepted (ltb 16384 (length (layout c))) TooLong Whole (le-ltb 16384 (length (layout c)) short))
       (andThen-accepted
       (missing 0 8 xs)
-      (first (third ∷ missing 8 7 xs ∷ missing 15 1 xs ∷ []))
+      (first (third ∷ missing 8 7 xs ∷ missing 15 1 xs ∷ last ∷ []))
       (missing-accepted 0 8 xs (omega arith))
       (andThen-accepted
       third
-      (first (missing 8 7 xs ∷ missing 15 1 xs ∷ []))
+      (first (missing 8 7 xs ∷ missing 15 1 xs ∷ last ∷ []))
       (refuseIf-accepted (not (eqb (field xs 0 8) 3)) (Unfixed Identifier) (Bit 0) (ap not (eq-eqb (field xs 0 8) 3 three)))
       (andThen-accepted
       (missing 8 7 xs)
-      (first (missing 15 1 xs ∷ []))
+      (first (missing 15 1 xs ∷ last ∷ []))
       (missing-accepted 8 7 xs (omega arith))
-      (andThen-accepted (missing 15 1 xs) Accepted (missing-accepted 15 1 xs long) refl))))
+      (andThen-accepted
+      (missing 15 1 xs)
+      (first (last ∷ []))
+      (missing-accepted 15 1 xs long)
+      (andThen-accepted last Accepted (refuseIf-accepted group (Unfixed Identifier) (Bit 8) none) refl)))))
 
   fit-legal : AllFit [] (c .records)
   fit-legal =

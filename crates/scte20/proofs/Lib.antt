@@ -7,6 +7,7 @@ pub mod Layouts
 pub mod Zeros
 pub mod Quiet
 pub mod Bytewise
+pub mod Own
 pub mod Lending
 pub mod Stepwise
 pub mod Placed

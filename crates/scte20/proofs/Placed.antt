@@ -30,13 +30,14 @@ use Rattle.bits.proofs.Runs.{zeros-le, zeros-stop, zeros-on}
 use Rattle.stuffing.specs.Zeros.{FirstOne}
 use Rattle.stuffing.proofs.Zeros.{accepted-zero}
 use Rattle.stuffing.proofs.Numbered.{zero-only, first-one}
-use Rattle.scte20.specs.Value.{fieldOf, countIf, urgent}
+use Rattle.kind.specs.Ours.{groupType}
+use Rattle.scte20.specs.Value.{flagByte, fieldOf, countIf, urgent}
 use Rattle.scte20.specs.Layout.{padding}
 use Rattle.scte20.specs.Rules.{falls, notRising, recordVerdict}
-use Rattle.scte20.specs.Reading.{missing, constructAt, markerVerdict, constructsVerdict, sampledVerdict, restVerdict, headVerdict, flagIn, countIn, flagVerdict, contentVerdict}
+use Rattle.scte20.specs.Reading.{missing, constructAt, markerVerdict, constructsVerdict, sampledVerdict, restVerdict, headVerdict, reservedIn, flagIn, countIn, flagVerdict, contentVerdict}
 use Rattle.scte20.specs.Places.{Element, user-data-type-code, reserved-bits, vbi-data-flag, cc-count, construct, cc-priority, field-number, line-offset, marker, video-count}
 use Rattle.scte20.specs.Places.{firstBit, bitCount, elementIn, HasIn, bitsIn, zerosIn, urgentIn, Complete, Stands}
-use Rattle.scte20.specs.Places.{ends-5, type-code-6, field-zero-7, field-falls-8, line-stays-8, fifth-9, video-count-10, marker-18, zeros-19}
+use Rattle.scte20.specs.Places.{ends-5, type-code-6, group-type-6, field-zero-7, field-falls-8, line-stays-8, fifth-9, video-count-10, marker-18, zeros-19}
 use Rattle.scte20.proofs.Constructs.{accepted-missing, constructs-within}
 use Rattle.scte20.proofs.Stepwise.{behind}
 
@@ -207,28 +208,34 @@ module _ (xs : List ℕ) (are : AreBits xs) where
       ∷ refuseIf (not (eqb (field xs 0 8) 3)) (Unfixed Identifier) (Bit 0)
       ∷ missing 8 7 xs
       ∷ missing 15 1 xs
+      ∷ refuseIf (groupType (flagByte (reservedIn xs) (flagIn xs))) (Unfixed Identifier) (Bit 8)
       ∷ [])
 
   start-only : Only Here startVerdict
   unfolding startVerdict
   start-only =
       let code = field xs 0 8 in
+      let group = groupType (flagByte (reservedIn xs) (flagIn xs)) in
       andThen-only Here (missing 0 8 xs) _ (missing-only user-data-type-code tt (omega arith)) (λ e.
       let typed : 0 + 8 ≤ length xs = accepted-missing 0 8 xs e in
       andThen-only Here _ _ (check-only (not (eqb code 3)) (Unfixed Identifier) 0 (omega arith) (λ t.
       type-code-6 refl (record { has = tt; here = refl; all = typed }) (eqb-false code 3 (not-true (eqb code 3) t)))) (λ f.
       andThen-only Here (missing 8 7 xs) _ (missing-only reserved-bits tt typed) (λ g.
       andThen-only Here (missing 15 1 xs) _ (missing-only vbi-data-flag tt (accepted-missing 8 7 xs g)) (λ i.
-      accepted-only Here))))
+      let both : 8 + 8 ≤ length xs = accepted-missing 15 1 xs i in
+      andThen-only Here _ _ (check-only group (Unfixed Identifier) 8 (omega arith) (λ t.
+      group-type-6 refl (record { has = tt; here = refl; all = omega arith }) both t)) (λ j.
+      accepted-only Here)))))
 
   start-there : startVerdict ≡ Accepted → 16 ≤ length xs
   unfolding startVerdict
   start-there e =
       let identifier = refuseIf (not (eqb (field xs 0 8) 3)) (Unfixed Identifier) (Bit 0) in
-      let one = accepted-andThen (missing 0 8 xs) (first (identifier ∷ missing 8 7 xs ∷ missing 15 1 xs ∷ [])) e in
-      let two = accepted-andThen identifier (first (missing 8 7 xs ∷ missing 15 1 xs ∷ [])) (one .1) in
-      let three = accepted-andThen (missing 8 7 xs) (first (missing 15 1 xs ∷ [])) (two .1) in
-      accepted-missing 15 1 xs (accepted-andThen (missing 15 1 xs) Accepted (three .1) .0)
+      let last = refuseIf (groupType (flagByte (reservedIn xs) (flagIn xs))) (Unfixed Identifier) (Bit 8) in
+      let one = accepted-andThen (missing 0 8 xs) (first (identifier ∷ missing 8 7 xs ∷ missing 15 1 xs ∷ last ∷ [])) e in
+      let two = accepted-andThen identifier (first (missing 8 7 xs ∷ missing 15 1 xs ∷ last ∷ [])) (one .1) in
+      let three = accepted-andThen (missing 8 7 xs) (first (missing 15 1 xs ∷ last ∷ [])) (two .1) in
+      accepted-missing 15 1 xs (accepted-andThen (missing 15 1 xs) (first (last ∷ [])) (three .1) .0)
 
   -- behind the check of the body's length
   inner-only : Only Here (andThen startVerdict (flagVerdict (flagIn xs) xs))

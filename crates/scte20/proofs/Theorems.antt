@@ -13,6 +13,7 @@
 use Prim.Native.Nat.{ℕ, _+_, _*_, _≤_, _<_, min}
 use mathlib.Core.Path.{_≡_}
 use mathlib.Core.Logic.{_↔_}
+use mathlib.Core.Bool.{true, not}
 use mathlib.Core.List.{List, []}
 use lib.ListN.{length, getD}
 use Rattle.lists.specs.Room.{overAt}
@@ -24,12 +25,14 @@ use Rattle.refusal.specs.declared.Laid.{Laid}
 use Rattle.refusal.specs.Checks.{first}
 use Rattle.refusal.specs.Answers.{AtBit}
 use Rattle.bits.specs.Bits.{bitsOf, longest}
+use Rattle.kind.specs.declared.Kind.the-variants.{Scte20}
+use Rattle.kind.specs.Ours.{groupType, ours}
 use Rattle.scte20.specs.declared.Record.{Record}
 use Rattle.scte20.specs.declared.Last.{Last}
 use Rattle.scte20.specs.declared.Numbers.{Numbers}
 use Rattle.scte20.specs.declared.CaptionUnit.{CaptionUnit}
 use Rattle.scte20.specs.declared.Head.{Head}
-use Rattle.scte20.specs.Value.{Content, withData, LegalRecord}
+use Rattle.scte20.specs.Value.{Content, flagByte, withData, LegalRecord}
 use Rattle.scte20.specs.Value.{Legal, LegalCaptionUnit, Typed, blank, none, stored, held}
 use Rattle.scte20.specs.Layout.{contentBits, contentBytes, layout, sizeIn}
 use Rattle.scte20.specs.Rules.{recordVerdict}
@@ -44,6 +47,7 @@ use Rattle.scte20.proofs.Faults as faults
 use Rattle.scte20.proofs.Writing as writing
 use Rattle.scte20.proofs.Sequence as sequence
 use Rattle.scte20.proofs.Elements as elements
+use Rattle.scte20.proofs.Own as own
 use Rattle.scte20.proofs.Sizes as sizes
 use Rattle.scte20.proofs.Zeros as zeros
 use Rattle.scte20.proofs.Order as order
@@ -105,8 +109,8 @@ refused-zero = accepting.refused-zero
 -- WHAT STANDS AT THE PLACE
 
 -- A refusal of a body within the limit of an area is at a bit of it or at its end, and there stands what `Stands`
--- (specs/Places) says of its number: 5, 7 to 10, 18 or 19, and 6 for a body that does not begin 03, which is none of an
--- area's caption units.
+-- (specs/Places) says of its number: 5, 7 to 10, 18 or 19, and 6 for a body that does not begin 03, or begins 03 09 or
+-- 03 0A, which is none of an area's caption units.
 pub refused-at : (body lent : List ℕ) (r : Head) (exit : List ℕ) → ReadsInto body lent r exit → length body ≤ 16384
     → (reason : Reason) (item : Item) → r .verdict ≡ Refused reason item
     → AtBit (8 * length body) (Stands (bitsOf body)) reason item
@@ -129,6 +133,18 @@ layout-elements = elements.layout-elements
 pub layout-zeros : (c : Content) → Legal c → (i : ℕ) → bitsIn (c .flag) (length (c .records)) ≤ i
     → getD (bitsOf (layout c)) i 0 ≡ 0
 layout-zeros = elements.layout-zeros
+
+-- WHICH ARE OURS
+
+-- Where the layout holds reserved and flag, a unit with that body is SCTE 20's exactly where both make neither 09 nor
+-- 0A (`groupType`, crate `kind`).
+pub layout-ours : (c : Content) → c .reserved < 128 → c .flag < 2
+    → ours Scte20 (layout c) ≡ not (groupType (flagByte (c .reserved) (c .flag)))
+layout-ours = own.layout-ours
+
+-- So no legal value's layout is foreign: what can be written is what is read as ours.
+pub legal-ours : (c : Content) → Legal c → ours Scte20 (layout c) ≡ true
+legal-ours = own.legal-ours
 
 -- SIZES
 

@@ -14,16 +14,17 @@ use Rattle.refusal.specs.declared.Refusal.{Refusal}
 use Rattle.refusal.specs.declared.Verdict.{Verdict}
 use Rattle.refusal.specs.declared.Verdict.the-variants.{Accepted, Refused}
 use Rattle.refusal.specs.declared.Reason.the-variants.{TooLong, NoRoom, FieldNumberZero, FieldFalls, LineDoesNotRise, FifthPriority, Unholdable}
-use Rattle.refusal.specs.declared.Excess.the-variants.{Count, Reserved, Flag, Stuffing, FlagWithRecords, Priority, FieldNumber, LineOffset}
+use Rattle.refusal.specs.declared.Excess.the-variants.{Count, Reserved, Flag, Stuffing, FlagWithRecords, GroupType, Priority, FieldNumber, LineOffset}
 use Rattle.refusal.specs.declared.Item.the-variants.{Whole, Bit}
 use Rattle.refusal.specs.Numbers.{refusalOf}
 use Rattle.refusal.specs.Checks.{andThen, first, fitVerdict}
 use Rattle.refusal.specs.Answers.{refused}
 use Rattle.refusal.proofs.Checks.{accepted-andThen, andThen-accepted, andThen-assoc, accepted-fit, fit-accepted, fit-long, fit-no-room}
 use Rattle.refusal.proofs.Gives.{Gives, refuseIf-gives, andThen-gives, refused-gives, gives-as, Unplaced, refused-unplaced, fit-unplaced, gives-unplaced}
+use Rattle.kind.specs.Ours.{groupType}
 use Rattle.scte20.specs.declared.Record.{Record}
 use Rattle.scte20.specs.declared.CaptionUnit.{CaptionUnit}
-use Rattle.scte20.specs.Value.{fieldOf, urgent, Ranged, LegalRecord, ByteRecord, LegalCaptionUnit, Typed, held}
+use Rattle.scte20.specs.Value.{flagByte, fieldOf, urgent, Ranged, LegalRecord, ByteRecord, LegalCaptionUnit, Typed, held}
 use Rattle.scte20.specs.Layout.{layout}
 use Rattle.scte20.specs.Rules.{falls, notRising, recordVerdict}
 use Rattle.scte20.specs.Writing.{wholeVerdict, rangeVerdict, recordsVerdict, valueVerdict, ForValue, writeVerdict}
@@ -92,6 +93,7 @@ accepted-unit u t e =
         order = fit-order rs fit;
         four = fit-four rs fit;
         bare = λ zero. ap (λ (n : ℕ). take n (u .records)) (whole .bare zero);
+        no-group = whole .no-group;
       };
     }
 
@@ -106,6 +108,7 @@ unit-accepted u t h short =
       flag = omega (arith, v .flag);
       stuffing = short;
       bare = λ zero. omega (arith, ap length (v .bare zero), length-held u (t .places) (h .few));
+      no-group = v .no-group;
     } in
     let allowed = each-map LegalRecord (λ (r : Record). 1 ≤ fieldOf r) (λ r legal. legal .allowed) rs (v .each) in
     let ranged = each-map LegalRecord Ranged (λ r legal. legal .ranged) rs (v .each) in
@@ -142,7 +145,8 @@ whole-gives P p u =
     (andThen-gives P _ _ (refuseIf-gives P (ltb 127 (u .reserved)) (Unholdable Reserved) Whole p)
     (andThen-gives P _ _ (refuseIf-gives P (ltb 1 (u .«vbi_data_flag»)) (Unholdable Flag) Whole p)
     (andThen-gives P _ _ (refuseIf-gives P (ltb 16384 (u .z)) (Unholdable Stuffing) Whole p)
-    (andThen-gives P _ _ (refuseIf-gives P (eqb (u .«vbi_data_flag») 0 && not (eqb (u .n) 0)) (Unholdable FlagWithRecords) Whole p) (inl refl)))))
+    (andThen-gives P _ _ (refuseIf-gives P (eqb (u .«vbi_data_flag») 0 && not (eqb (u .n) 0)) (Unholdable FlagWithRecords) Whole p)
+    (andThen-gives P _ _ (refuseIf-gives P (groupType (flagByte (u .reserved) (u .«vbi_data_flag»))) (Unholdable GroupType) Whole p) (inl refl))))))
 
 range-gives : (at : ℕ) (r : Record) → Gives ForValue (rangeVerdict at r)
 unfolding rangeVerdict

@@ -118,6 +118,7 @@ legal-widest =
       order = tt;
       four = few-urgent;
       bare = λ e. let f : ⊥ = omega arith in absurd f;
+      no-group = refl;
     }
 
 pub zero-run-reached : (c : Content) × Legal c × (longest (contentBits c) ≡ 22)

@@ -13,12 +13,13 @@ use Rattle.refusal.specs.declared.Item.the-variants.{Whole, Bit}
 use Rattle.refusal.specs.Checks.{refuseIf}
 use Rattle.bits.specs.Bits.{bitsOf, field}
 use Rattle.stuffing.specs.Zeros.{zeroChecks}
+use Rattle.kind.specs.Ours.{groupType}
 use Rattle.scte20.specs.declared.Record.{Record}
 use Rattle.scte20.specs.declared.CaptionUnit.{CaptionUnit}
-use Rattle.scte20.specs.Value.{fieldOf, urgent, held}
+use Rattle.scte20.specs.Value.{flagByte, fieldOf, urgent, held}
 use Rattle.scte20.specs.Layout.{padding}
 use Rattle.scte20.specs.Rules.{falls, notRising}
-use Rattle.scte20.specs.Reading.{constructAt, flagIn, countIn}
+use Rattle.scte20.specs.Reading.{constructAt, reservedIn, flagIn, countIn}
 
 -- READING
 
@@ -74,7 +75,8 @@ flagChecks (suc f) xs =
     -- 19: alignment bits, then stuffing
     ∷ restChecks (25 + 26 * countIn xs) xs))
 
--- a unit's body. One in an area is shorter than 16,384 bytes and begins 03, so that 1 and 6 are never given there
+-- a unit's body. A caption unit's in an area is shorter than 16,384 bytes and begins 03, and neither 09 nor 0A follows,
+-- so that 1 and 6 are never given there
 abbrev pub readingChecks : List ℕ → List Verdict
 readingChecks body =
     -- 1: longer than an area
@@ -86,6 +88,8 @@ readingChecks body =
     ∷ ends 8 7 (bitsOf body)
     -- 5: vbi_data_flag
     ∷ ends 15 1 (bitsOf body)
+    -- 6: both make 09 or 0A
+    ∷ refuseIf (groupType (flagByte (reservedIn (bitsOf body)) (flagIn (bitsOf body)))) (Unfixed Identifier) (Bit 8)
     ∷ flagChecks (flagIn (bitsOf body)) (bitsOf body)
 
 -- WRITING
@@ -114,6 +118,8 @@ writingChecks u size room =
     ∷ refuseIf (ltb 16384 (u .z)) (Unholdable excess.Stuffing) Whole
     -- 15: flag 0 with records
     ∷ refuseIf (eqb (u .«vbi_data_flag») 0 && not (eqb (u .n) 0)) (Unholdable excess.FlagWithRecords) Whole
+    -- 15: reserved and flag make 09 or 0A
+    ∷ refuseIf (groupType (flagByte (u .reserved) (u .«vbi_data_flag»))) (Unholdable excess.GroupType) Whole
     -- 15, 7, 8, 8, 9: each record, in order. Entries beyond n are not looked at
     ∷ (recordsChecks [] 21 (held u .records)
     -- 1: the result is longer than 16,384 bytes

@@ -2,14 +2,15 @@
 -- alone, without the reader. RULES, "Picture area" and "Refusals"; document 001, 5.4 to 5.8.
 use Prim.Native.Nat.{ℕ, zero, suc, _+_, _*_, _≤_, _<_}
 use mathlib.Core.Path.{_≡_}
-use mathlib.Core.Bool.{_&&_}
+use mathlib.Core.Bool.{true, _&&_}
 use mathlib.Core.List.{List}
 use lib.Dec.{eqb}
 use lib.ListN.{length, getD}
 use Rattle.bits.specs.Bits.{num, field}
 use Rattle.stuffing.specs.Zeros.{FirstOne}
+use Rattle.kind.specs.Ours.{groupType}
 use Rattle.scte20.specs.declared.Record.{Record}
-use Rattle.scte20.specs.Value.{Content, fieldOf, countIf, blank}
+use Rattle.scte20.specs.Value.{Content, flagByte, fieldOf, countIf, blank}
 use Rattle.scte20.specs.Layout.{constructBits}
 
 -- THE ELEMENTS
@@ -107,6 +108,11 @@ pub data Stands (xs : List ℕ) (number bit : ℕ) : Type 0 where
   -- user_data_type_code is not 03; an area has no caption unit of this kind
   type-code-6 : number ≡ 6
       → Complete xs user-data-type-code bit → (elementIn xs user-data-type-code ≡ 3 → ⊥)
+      → Stands xs number bit
+  -- the reserved bits, from this bit on, and the flag make 09 or 0A; an area has no caption unit of this kind
+  group-type-6 : number ≡ 6
+      → Complete xs reserved-bits bit → bit + 8 ≤ length xs
+      → groupType (flagByte (elementIn xs reserved-bits) (elementIn xs vbi-data-flag)) ≡ true
       → Stands xs number bit
   -- a field_number is 0
   field-zero-7 : (i : ℕ) → number ≡ 7

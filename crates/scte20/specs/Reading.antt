@@ -15,8 +15,9 @@ use Rattle.refusal.specs.declared.Item.the-variants.{Whole, Bit}
 use Rattle.refusal.specs.Checks.{refuseIf, andThen, first}
 use Rattle.bits.specs.Bits.{bitsOf, field, reversed}
 use Rattle.stuffing.specs.Zeros.{zeroVerdict}
+use Rattle.kind.specs.Ours.{groupType}
 use Rattle.scte20.specs.declared.Record.{Record}
-use Rattle.scte20.specs.Value.{Content}
+use Rattle.scte20.specs.Value.{Content, flagByte}
 use Rattle.scte20.specs.Layout.{padding, sizeIn}
 use Rattle.scte20.specs.Rules.{recordVerdict}
 
@@ -65,8 +66,14 @@ restVerdict at xs =
     ∷ zeroVerdict Stuffing (at + padding at) (drop (at + padding at) xs)
     ∷ [])
 
+abbrev pub reservedIn : List ℕ → ℕ
+reservedIn xs = field xs 8 7
+
+abbrev pub flagIn : List ℕ → ℕ
+flagIn xs = field xs 15 1
+
 -- what stands before the flag's decision. A body of an area's caption unit is shorter than 16,384 bytes and begins 03,
--- so that 1 and 6 are never given there
+-- and neither 09 nor 0A follows, so that 1 and 6 are never given there
 unfoldable pub headVerdict : List ℕ → Verdict
 headVerdict body =
     first
@@ -75,10 +82,8 @@ headVerdict body =
     ∷ refuseIf (not (eqb (field (bitsOf body) 0 8) 3)) (Unfixed Identifier) (Bit 0)
     ∷ missing 8 7 (bitsOf body)
     ∷ missing 15 1 (bitsOf body)
+    ∷ refuseIf (groupType (flagByte (reservedIn (bitsOf body)) (flagIn (bitsOf body)))) (Unfixed Identifier) (Bit 8)
     ∷ [])
-
-abbrev pub flagIn : List ℕ → ℕ
-flagIn xs = field xs 15 1
 
 -- cc_count
 abbrev pub countIn : List ℕ → ℕ
@@ -105,7 +110,7 @@ recordsIn (suc f) xs = recordsAt (countIn xs) 21 xs
 unfoldable pub valueOf : List ℕ → Content
 valueOf body =
     record {
-      reserved = field (bitsOf body) 8 7;
+      reserved = reservedIn (bitsOf body);
       flag = flagIn (bitsOf body);
       records = recordsIn (flagIn (bitsOf body)) (bitsOf body);
       z = length body - sizeIn (flagIn (bitsOf body)) (countIn (bitsOf body));

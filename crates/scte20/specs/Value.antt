@@ -1,6 +1,6 @@
 -- The value of a caption unit, when it is legal, and how the code's structs hold it. RULES, "Picture area"; document
 -- 001, 5.4 to 5.8.
-use Prim.Native.Nat.{ℕ, _+_, _≤_, _<_}
+use Prim.Native.Nat.{ℕ, _+_, _*_, _≤_, _<_}
 use mathlib.Core.Path.{_≡_}
 use mathlib.Core.Bool.{Bool, true, false, _&&_}
 use mathlib.Core.Logic.{_⊎_}
@@ -9,6 +9,7 @@ use lib.Dec.{eqb}
 use lib.ListN.{length, take}
 use Rattle.lists.specs.Each.{Each}
 use Rattle.lists.specs.Room.{filled}
+use Rattle.kind.specs.Ours.{groupType}
 use Rattle.scte20.specs.declared.Record.{Record}
 use Rattle.scte20.specs.declared.CaptionUnit.{CaptionUnit}
 
@@ -18,6 +19,10 @@ pub record Content : Type 0 where
   pub flag : ℕ
   pub records : List Record
   pub z : ℕ
+
+-- the byte that reserved and flag make, behind user_data_type_code (001, 5.4)
+abbrev pub flagByte : ℕ → ℕ → ℕ
+flagByte reserved flag = 2 * reserved + flag
 
 -- which display field a record is of
 abbrev pub fieldOf : Record → ℕ
@@ -80,6 +85,8 @@ pub record Legal (c : Content) : Type 0 where
   pub order : InOrder (c .records)
   pub four : (f : ℕ) → urgent f (c .records) ≤ 4
   pub bare : c .flag ≡ 0 → c .records ≡ []
+  -- with such a byte the unit would be a data group's, and foreign (crate `kind`)
+  pub no-group : groupType (flagByte (c .reserved) (c .flag)) ≡ false
 
 -- a record of zeros, which fills the room beyond the n records
 abbrev pub blank : Record

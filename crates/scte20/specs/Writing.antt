@@ -12,17 +12,19 @@ use Rattle.refusal.specs.declared.Laid.{Laid}
 use Rattle.refusal.specs.declared.Verdict.{Verdict}
 use Rattle.refusal.specs.declared.Verdict.the-variants.{Accepted}
 use Rattle.refusal.specs.declared.Reason.the-variants.{Unholdable}
-use Rattle.refusal.specs.declared.Excess.the-variants.{Count, Reserved, Flag, Stuffing, FlagWithRecords, Priority, FieldNumber, LineOffset}
+use Rattle.refusal.specs.declared.Excess.the-variants.{Count, Reserved, Flag, Stuffing, FlagWithRecords, GroupType, Priority, FieldNumber, LineOffset}
 use Rattle.refusal.specs.declared.Item.the-variants.{Whole, Bit}
 use Rattle.refusal.specs.Checks.{refuseIf, andThen, first, fitVerdict}
 use Rattle.refusal.specs.Answers.{refused, laidOf, bodyLeft}
+use Rattle.kind.specs.Ours.{groupType}
 use Rattle.scte20.specs.declared.Record.{Record}
 use Rattle.scte20.specs.declared.CaptionUnit.{CaptionUnit}
-use Rattle.scte20.specs.Value.{fieldOf, held, Typed}
+use Rattle.scte20.specs.Value.{flagByte, fieldOf, held, Typed}
 use Rattle.scte20.specs.Layout.{layout}
 use Rattle.scte20.specs.Rules.{recordVerdict}
 
--- 15: n above 31, reserved above 127, a flag that is no bit, z above 16,384, flag 0 with records
+-- 15: n above 31, reserved above 127, a flag that is no bit, z above 16,384, flag 0 with records, reserved and flag that
+-- make 09 or 0A
 unfoldable pub wholeVerdict : CaptionUnit → Verdict
 wholeVerdict u =
     first
@@ -31,6 +33,7 @@ wholeVerdict u =
     ∷ refuseIf (ltb 1 (u .«vbi_data_flag»)) (Unholdable Flag) Whole
     ∷ refuseIf (ltb 16384 (u .z)) (Unholdable Stuffing) Whole
     ∷ refuseIf (eqb (u .«vbi_data_flag») 0 && not (eqb (u .n) 0)) (Unholdable FlagWithRecords) Whole
+    ∷ refuseIf (groupType (flagByte (u .reserved) (u .«vbi_data_flag»))) (Unholdable GroupType) Whole
     ∷ [])
 
 -- 15: a number that the construct, which would begin at bit `at`, cannot hold

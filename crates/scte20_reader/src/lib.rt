@@ -59,6 +59,10 @@ fn judge_head(body: &[u8]) -> Verdict
     if body.len() < 2 {
         return Verdict::Refused(Reason::Ends, Item::Bit(8));
     }
+    // A data group is no caption unit of an area.
+    if kind::group_type(body[1]) {
+        return Verdict::Refused(Reason::Unfixed(Fixed::Identifier), Item::Bit(8));
+    }
     Verdict::Accepted
 }
 

@@ -63,6 +63,10 @@ fn judge_whole(v: Numbers) -> Verdict
     if v.vbi_data_flag == 0 && v.n != 0 {
         return Verdict::Refused(Reason::Unholdable(Excess::FlagWithRecords), Item::Whole);
     }
+    // The byte of the reserved bits and the flag follows 03: with 09 or 0A the unit would be foreign.
+    if kind::group_type(2 * v.reserved + v.vbi_data_flag) {
+        return Verdict::Refused(Reason::Unholdable(Excess::GroupType), Item::Whole);
+    }
     Verdict::Accepted
 }
 

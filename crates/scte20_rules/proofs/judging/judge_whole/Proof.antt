@@ -1,10 +1,21 @@
 -- `scte20_rules::judging::judge_whole` meets its contract: at each return the tests that led there pick that check of `wholeVerdict`.
 -- Assumes nothing.
-use mathlib.Core.Path.{_≡_, ap, ap₂}
+use native.Mathlib.Omega.{arith}
+use mathlib.Core.Path.{_≡_, _∙_, ap, ap₂, sym}
 use mathlib.Core.Logic.{⊎-elim}
-use mathlib.Core.Bool.{Bool, false, not, _&&_}
+use mathlib.Core.Bool.{Bool, true, false, not, _&&_}
+use mathlib.Core.List.{[]}
+use borrow.Author.Needs.{needs}
 use borrow.Author.Tests.{eq-eqb, ne-eqb, lt-ltb, le-ltb}
 use lib.Dec.{eqb}
+use Rattle.refusal.specs.declared.Reason.the-variants.{Unholdable}
+use Rattle.refusal.specs.declared.Excess.the-variants.{GroupType}
+use Rattle.refusal.specs.declared.Item.the-variants.{Whole}
+use Rattle.refusal.specs.Checks.{refuseIf}
+use Rattle.refusal.proofs.Checks.{andThen-last}
+use Rattle.kind.specs.Ours.{groupType}
+use Rattle.scte20.specs.Value.{flagByte}
+use Rattle.scte20.specs.Lent.{unitIn}
 use Rattle.scte20.specs.Writing.{wholeVerdict}
 use Rattle.scte20_rules.proofs.judging.judge_whole.Statement.{statement}
 use Rattle.scte20_rules.proofs.judging.judge_whole.Tie as tie
@@ -56,17 +67,34 @@ unmet c =
     (λ flagged. ap (λ (t : Bool). t && not (eqb (v .n) 0)) (ne-eqb _ _ (flagged .left)))
     (c .if5 .came)
 
-accepted : tie.Need-returns-6
+-- the byte of reserved and flag is one by then, and whether it is the type of a data group decides
+decided : (c : tie.After-group-type) (t : Bool) → let joined = c .before .before .before in
+    let v = joined .before .before .before .before .before .before .before .before .before .before .args .v in
+    groupType (flagByte (v .reserved) (v .«vbi_data_flag»)) ≡ t → refuseIf t (Unholdable GroupType) Whole ≡ wholeVerdict (unitIn v [])
 unfolding wholeVerdict
-accepted c =
-    let past = c .before .before in
+decided c t e =
+    let joined = c .before .before .before in
+    let past = joined .before .before in
     simp (
       le-ltb _ _ (past .before .before .before .before .before .before .if1 .left),
       le-ltb _ _ (past .before .before .before .before .if2 .left),
       le-ltb _ _ (past .before .before .if3 .left),
       le-ltb _ _ (past .if4 .left),
-      unmet c,
+      unmet joined,
+      e,
+      andThen-last,
     )
 
+group : tie.Need-returns-6
+group c = decided (c .before) true (sym (c .before .group-type .ensures) ∙ c .if7 .taken)
+
+accepted : tie.Need-returns-7
+accepted c = decided (c .before) false (sym (c .before .group-type .ensures) ∙ c .if7 .left)
+
 pub judge-whole-spec : {M : Type 1} → statement M
-judge-whole-spec = tie.close (tie.spec count reserved flag stuffing flag-0 accepted)
+judge-whole-spec =
+    tie.close
+    (tie.spec count reserved flag stuffing flag-0
+    (λ c. let past = c .before .before .before .before .before in omega (arith, past .before .before .if2 .left))
+    (λ c. let past = c .before .before .before .before .before .before in omega (arith, past .before .before .if2 .left, past .if3 .left))
+    (λ c. search needs) group accepted)
