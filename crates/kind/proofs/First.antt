@@ -71,6 +71,7 @@ group-types b = (told (eqb b 0x09) (eqb b 0x0A) refl refl, back)
     told true t e f h = inl (eqb-true b 0x09 e)
     told false true e f h = inr (eqb-true b 0x0A f)
     told false false e f h = absurd (false≢true h)
+
     back : (b ≡ 0x09) ⊎ (b ≡ 0x0A) → groupType b ≡ true
     back (inl e) = ap groupType e
     back (inr e) = ap groupType e

@@ -101,8 +101,7 @@ module _ (k : Kind) where
         let old : bodiesOf s ≡ bodies k v = ap bodiesOf (sym (w .2)) ∙ layout-bodies (bodies k v) (bodies-clean k v (w .1 .units)) in
         let new : bodiesOf (take (r .len) exit) ≡ bodies k (replaced k v (held k u)) =
         new-units k v (w .1) u out r exit (subst (λ (t : List ℕ). Replaces k t u out r exit) (sym (w .2)) p) done in
-        let kept = stays v (w .1 .units) (held k u) i (subst (λ (bs : List (List ℕ)). i < length bs) old low) (subst (λ (bs : List (List ℕ)). ours k (getD bs i []) ≡ false) old other) in
-        (
+        let kept = stays v (w .1 .units) (held k u) i (subst (λ (bs : List (List ℕ)). i < length bs) old low) (subst (λ (bs : List (List ℕ)). ours k (getD bs i []) ≡ false) old other) in (
           subst (λ (bs : List (List ℕ)). i < length bs) (sym new) (kept .0),
           ap (λ (bs : List (List ℕ)). getD bs i []) new ∙ kept .1 ∙ sym (ap (λ (bs : List (List ℕ)). getD bs i []) old),
         )

@@ -380,7 +380,7 @@ pub group-none : (bs : List (List ℕ)) → Each Clean bs → length (units.layo
     → (r : Answer Scte20) → Reads Scte20 (units.layout bs) r → r ≡ shown Scte20 (uncaptioned bs)
 group-none = groups.group-none
 
--- Anywhere in an area it is neither read nor counted: without it the answer is the same, but for the place of a refusal.
+-- Anywhere in an area it is neither read nor counted: without it the answer is the same, but for a refusal's place.
 pub group-alike : (k : Kind) (before : List (List ℕ)) (s : List ℕ) (after : List (List ℕ))
     → Each Clean before → Clean s → Each Clean after → grouped s ≡ true
     → length (units.layout (before ++ (s ∷ after))) ≤ 16384
