@@ -19,7 +19,8 @@ use Rattle.scte20.specs.Places.{Element, user-data-type-code, reserved-b
 use Rattle.scte20.specs.Places.{Has, elementIn, bitsIn, recordAt, valueIn}
 use Rattle.scte20.proofs.Constructs.{length-construct, field-on}
 use Rattle.scte20.proofs.Sizes.{length-items}
-use Rattle.scte20.proofs.Layouts.{zerosAt, count-back, run-stands, sampled-stands, layout-stands, flagged-stands, reserved-back, flag-back}
+use Rattle.scte20.proofs.Layouts.{zerosAt, count-back, run-stands, sampled-stands, layout-stands, flagged-stands}
+use Rattle.scte20.proofs.Own.{reserved-back, flag-back}
 
 -- the constructs of records, one behind the other
 constructs-flat : (rs : List Record) → constructsBits rs ≡ flat constructBits rs
@@ -86,8 +87,8 @@ module _ (c : Content) (legal : Legal c) where
   pub layout-elements : (e : Element) → Has (c .flag) (length (c .records)) e → elementIn (bitsOf (layout c)) e ≡ valueIn c e
   unfolding xs r
   layout-elements user-data-type-code h = ap (λ (l : List ℕ). field l 0 8) (layout-stands c legal)
-  layout-elements reserved-bits h = reserved-back c legal
-  layout-elements vbi-data-flag h = flag-back c legal
+  layout-elements reserved-bits h = reserved-back c (legal .reserved)
+  layout-elements vbi-data-flag h = flag-back c (legal .flag)
   layout-elements cc-count h = at-count h
   layout-elements (construct i) h = at-construct (h .0) i (h .1)
   layout-elements (cc-priority i) h = at-priority (h .0) i (h .1)

@@ -31,6 +31,7 @@ use Rattle.scte20.specs.Places.{bitsIn}
 use Rattle.scte20.proofs.Fitting.{AllFit, legal-fit}
 use Rattle.scte20.proofs.Constructs.{length-constructs, missing-accepted, long-enough, constructs-accepted, records-back}
 use Rattle.scte20.proofs.Sizes.{length-items, bitsOf-layout, length-layout}
+use Rattle.scte20.proofs.Own.{reserved-back, flag-back}
 
 -- the zeros behind n bits: the alignment, then stuffing
 abbrev pub zerosAt : ℕ → ℕ → List ℕ
@@ -142,11 +143,8 @@ module _ (c : Content) (legal : Legal c) where
   pub flagged-stands : drop 16 (bitsOf (layout c)) ≡ flaggedBits (c .flag) (c .records) ++ zerosAt (bitsIn (c .flag) (length (c .records))) (8 * c .z)
   flagged-stands = ap (drop 16) layout-stands
 
-  pub reserved-back : field (bitsOf (layout c)) 8 7 ≡ c .reserved
-  reserved-back = ap (λ (l : List ℕ). field l 8 7) layout-stands ∙ num-bits-small 7 (c .reserved) (legal .reserved)
-
-  pub flag-back : flagIn (bitsOf (layout c)) ≡ c .flag
-  flag-back = ap flagIn layout-stands ∙ num-bits-small 1 (c .flag) (legal .flag)
+  flag-is : flagIn (bitsOf (layout c)) ≡ c .flag
+  flag-is = flag-back c (legal .flag)
 
   accepted-head : length (layout c) ≤ 16384 → headVerdict (layout c) ≡ Accepted
   unfolding headVerdict
@@ -155,7 +153,7 @@ module _ (c : Content) (legal : Legal c) where
       let third = refuseIf (not (eqb (field xs 0 8) 3)) (Unfixed Identifier) (Bit 0) in
       let group = groupType (flagByte (reservedIn xs) (flagIn xs)) in
       let last = refuseIf group (Unfixed Identifier) (Bit 8) in
-      let none : group ≡ false = ap₂ (λ (a b : ℕ). groupType (flagByte a b)) reserved-back flag-back ∙ legal .no-group in
+      let none : group ≡ false = ap₂ (λ (a b : ℕ). groupType (flagByte a b)) (reserved-back c (legal .reserved)) flag-is ∙ legal .no-group in
       let three : field xs 0 8 ≡ 3 = ap (λ (l : List ℕ). field l 0 8) layout-stands in
       let long : 16 ≤ length xs = omega (arith, ap length layout-stands) in
       andThen-accepted
@@ -192,23 +190,23 @@ module _ (c : Content) (legal : Legal c) where
       (headVerdict (layout c))
       (flagVerdict (flagIn xs) xs)
       (accepted-head short)
-      (ap (λ (f : ℕ). flagVerdict f xs) flag-back
+      (ap (λ (f : ℕ). flagVerdict f xs) flag-is
       ∙ accepted-flag (c .flag) (c .records) xs (8 * c .z) (legal .few) (legal .each) fit-legal flagged-stands)
 
   records-back-all : recordsIn (flagIn (bitsOf (layout c))) (bitsOf (layout c)) ≡ c .records
   records-back-all =
       let xs = bitsOf (layout c) in
-      ap (λ (f : ℕ). recordsIn f xs) flag-back
+      ap (λ (f : ℕ). recordsIn f xs) flag-is
       ∙ records-flag (c .flag) (c .records) xs (8 * c .z) (legal .few) (legal .each) (legal .bare) flagged-stands
 
   z-back : length (layout c) - sizeIn (flagIn (bitsOf (layout c))) (countIn (bitsOf (layout c))) ≡ c .z
   z-back =
       let xs = bitsOf (layout c) in
       let size : sizeIn (flagIn xs) (countIn xs) ≡ sizeIn (c .flag) (length (c .records)) =
-      ap (λ (f : ℕ). sizeIn f (countIn xs)) flag-back ∙ size-flag (c .flag) (c .records) xs (8 * c .z) (legal .few) flagged-stands
+      ap (λ (f : ℕ). sizeIn f (countIn xs)) flag-is ∙ size-flag (c .flag) (c .records) xs (8 * c .z) (legal .few) flagged-stands
       in
       omega (arith, length-layout c)
 
   pub layout-value : valueOf (layout c) ≡ c
   unfolding valueOf
-  layout-value = λ i. record { reserved = reserved-back i; flag = flag-back i; records = records-back-all i; z = z-back i }
+  layout-value = λ i. record { reserved = reserved-back c (legal .reserved) i; flag = flag-is i; records = records-back-all i; z = z-back i }

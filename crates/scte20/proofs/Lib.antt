@@ -2,12 +2,12 @@ pub mod Order
 pub mod Fitting
 pub mod Constructs
 pub mod Sizes
+pub mod Bytewise
+pub mod Own
 pub mod Contents
 pub mod Layouts
 pub mod Zeros
 pub mod Quiet
-pub mod Bytewise
-pub mod Own
 pub mod Lending
 pub mod Stepwise
 pub mod Placed
