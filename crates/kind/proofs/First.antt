@@ -35,7 +35,7 @@ typed-next [] h e = let f : ⊥ = omega arith in absurd f
 typed-next (b ∷ []) h e = let f : ⊥ = omega arith in absurd f
 typed-next (b ∷ c ∷ body) h e = ap (λ (t : Bool). t && not (t && groupType c)) (eq-eqb b 3 e)
 
--- 03 and a byte, or 03 alone
+-- so two bytes decide, or one where there is no more
 pub scte20-first : (body : List ℕ) → 2 ≤ length body → ours Scte20 body ≡ eqb (getD body 0 0) 3 && not (groupType (getD body 1 0))
 unfolding ours
 scte20-first [] h = let f : ⊥ = omega arith in absurd f
@@ -61,34 +61,6 @@ scte20-begins [] e = absurd (false≢true e)
 scte20-begins (b ∷ body) e =
     let both = and-eq-true-iff (eqb b 3) (not (grouped (b ∷ body))) .0 e in
     (eqb-true b 3 (both .0), not-true (grouped (b ∷ body)) (both .1))
-
--- DATA GROUPS
-
-pub group-types : (b : ℕ) → groupType b ≡ true ↔ ((b ≡ 0x09) ⊎ (b ≡ 0x0A))
-group-types b = (told (eqb b 0x09) (eqb b 0x0A) refl refl, back)
-  where
-    told : (s t : Bool) → eqb b 0x09 ≡ s → eqb b 0x0A ≡ t → (s || t) ≡ true → (b ≡ 0x09) ⊎ (b ≡ 0x0A)
-    told true t e f h = inl (eqb-true b 0x09 e)
-    told false true e f h = inr (eqb-true b 0x0A f)
-    told false false e f h = absurd (false≢true h)
-
-    back : (b ≡ 0x09) ⊎ (b ≡ 0x0A) → groupType b ≡ true
-    back (inl e) = ap groupType e
-    back (inr e) = ap groupType e
-
--- a data group is foreign to either kind
-pub group-foreign : (kind : Kind) (body : List ℕ) → grouped body ≡ true → ours kind body ≡ false
-unfolding ours
-group-foreign kind [] e = absurd (false≢true e)
-group-foreign kind (a ∷ []) e = absurd (false≢true e)
-group-foreign Scte20 (a ∷ b ∷ body) e = ap₂ (λ (s t : Bool). s && not t) (and-eq-true-iff (eqb a 3) (groupType b) .0 e .0) e
-group-foreign Ga94 (a ∷ b ∷ body) e = other-first a (b ∷ body) (eqb-true a 3 (and-eq-true-iff (eqb a 3) (groupType b) .0 e .0))
-  where
-    other-first : (a : ℕ) (body : List ℕ) → a ≡ 3 → identified (a ∷ body) ≡ false
-    other-first a [] e = refl
-    other-first a (b ∷ []) e = refl
-    other-first a (b ∷ c ∷ []) e = refl
-    other-first a (b ∷ c ∷ d ∷ body) e = ap (λ (t : Bool). t && (eqb b 0x41 && (eqb c 0x39 && (eqb d 0x34 && typedOrEnds body)))) (ap (λ (n : ℕ). eqb n 0x47) e)
 
 -- GA94
 
@@ -168,6 +140,32 @@ kinds-apart kind other (b ∷ body) h e = go (ours other (b ∷ body)) refl
     go : (t : Bool) → ours other (b ∷ body) ≡ t → ours other (b ∷ body) ≡ false
     go false f = f
     go true f = absurd (apart kind other h (sym (first-there kind b body e) ∙ first-there other b body f))
+
+-- DATA GROUPS
+
+pub group-types : (b : ℕ) → groupType b ≡ true ↔ ((b ≡ 0x09) ⊎ (b ≡ 0x0A))
+group-types b = (told (eqb b 0x09) (eqb b 0x0A) refl refl, back)
+  where
+    told : (s t : Bool) → eqb b 0x09 ≡ s → eqb b 0x0A ≡ t → (s || t) ≡ true → (b ≡ 0x09) ⊎ (b ≡ 0x0A)
+    told true t e f h = inl (eqb-true b 0x09 e)
+    told false true e f h = inr (eqb-true b 0x0A f)
+    told false false e f h = absurd (false≢true h)
+
+    back : (b ≡ 0x09) ⊎ (b ≡ 0x0A) → groupType b ≡ true
+    back (inl e) = ap groupType e
+    back (inr e) = ap groupType e
+
+-- a data group is foreign to either kind
+pub group-foreign : (kind : Kind) (body : List ℕ) → grouped body ≡ true → ours kind body ≡ false
+unfolding ours
+group-foreign kind [] e = absurd (false≢true e)
+group-foreign kind (a ∷ []) e = absurd (false≢true e)
+group-foreign Scte20 (a ∷ b ∷ body) e = ap₂ (λ (s t : Bool). s && not t) (and-eq-true-iff (eqb a 3) (groupType b) .0 e .0) e
+group-foreign Ga94 (a ∷ b ∷ body) e = go (ours Ga94 (a ∷ b ∷ body)) refl
+  where
+    go : (t : Bool) → ours Ga94 (a ∷ b ∷ body) ≡ t → ours Ga94 (a ∷ b ∷ body) ≡ false
+    go false f = f
+    go true f = let three = eqb-true a 3 (and-eq-true-iff (eqb a 3) (groupType b) .0 e .0) in let x : ⊥ = omega (arith, three, first-there Ga94 a (b ∷ body) f) in absurd x
 
 -- Two answers that keep the promise of `ours` are equal, and of `group_type`.
 pub ours-determined : (kind : Kind) (body : List ℕ) (a b : Bool) → a ≡ ours kind body → b ≡ ours kind body → a ≡ b

@@ -254,7 +254,7 @@ narrow-determined = determined.narrow-determined
 pub nothing-determined : (a b : CaptionUnit) → a ≡ stored none → b ≡ stored none → a ≡ b
 nothing-determined = determined.nothing-determined
 
--- and of scte20_rules.
+-- and of scte20_value and scte20_rules.
 pub judge-value-determined : (v : Numbers) (s : List ℕ) (a b : Verdict)
     → a ≡ valueVerdict (unitIn v s) → b ≡ valueVerdict (unitIn v s) → a ≡ b
 judge-value-determined = determined.judge-value-determined

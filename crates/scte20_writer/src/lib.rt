@@ -42,7 +42,7 @@ pub fn write_from(
     ensures { λ r. ⌜ Writes (unitIn v (now (records .entry))) before after (now (out .entry)) r (now (out .exit)) ⌝ }
 {
     lists::known(records);
-    let value = scte20_rules::judge_value(v, records);
+    let value = scte20_value::judge_value(v, records);
     if let Verdict::Refused(_, _) = value {
         return Laid {
             verdict: value,

@@ -1,4 +1,4 @@
--- `scte20_rules::rules::counted` meets its contract: the sum is made by the first test, and held to four by the second.
+-- `scte20_rules::counted` meets its contract: the sum is made by the first test, and held to four by the second.
 -- Assumes nothing.
 use Prim.Native.Nat.{_+_}
 use native.Mathlib.Omega.{arith}
@@ -6,8 +6,8 @@ use mathlib.Core.Path.{_≡_, ap}
 use mathlib.Core.Logic.{⊎-elim}
 use borrow.Author.Needs.{needs}
 use Rattle.scte20.specs.Value.{countIf}
-use Rattle.scte20_rules.proofs.rules.counted.Statement.{statement}
-use Rattle.scte20_rules.proofs.rules.counted.Tie as tie
+use Rattle.scte20_rules.proofs.counted.Statement.{statement}
+use Rattle.scte20_rules.proofs.counted.Tie as tie
 
 -- what the first test leaves
 sum : (c : tie.Joined1) → c .if1 .all ≡ countIf (c .before .args .more) + c .before .args .kept

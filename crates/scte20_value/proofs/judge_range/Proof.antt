@@ -1,10 +1,10 @@
--- `scte20_rules::judging::judge_range` meets its contract: at each return the tests that led there pick that check of `rangeVerdict`.
+-- `scte20_value::judge_range` meets its contract: at each return the tests that led there pick that check of `rangeVerdict`.
 -- Assumes nothing.
 use borrow.Author.Needs.{needs}
 use borrow.Author.Tests.{lt-ltb, le-ltb}
 use Rattle.scte20.specs.Writing.{rangeVerdict}
-use Rattle.scte20_rules.proofs.judging.judge_range.Statement.{statement}
-use Rattle.scte20_rules.proofs.judging.judge_range.Tie as tie
+use Rattle.scte20_value.proofs.judge_range.Statement.{statement}
+use Rattle.scte20_value.proofs.judge_range.Tie as tie
 
 priority : tie.Need-returns
 unfolding rangeVerdict

@@ -1,4 +1,4 @@
--- `scte20_rules::judging::judge_value` meets its contract. The loop's invariant: i records are judged and accepted, and `last` is what counts of them.
+-- `scte20_value::judge_value` meets its contract. The loop's invariant: i records are judged and accepted, and `last` is what counts of them.
 -- Assumes nothing.
 use Prim.Native.Nat.{ℕ, _+_, _-_, _*_, _≤_, _<_}
 use native.Mathlib.Omega.{arith}
@@ -22,8 +22,8 @@ use Rattle.scte20.specs.Writing.{wholeVerdict, rangeVerdict, recordsVerdict, va
 use Rattle.scte20.proofs.Lending.{lent-length}
 use Rattle.scte20.proofs.Holding.{accepted-whole, length-held}
 use Rattle.scte20.proofs.Judged.{Judging, judging-first, records-here, judging-next, judging-accepted}
-use Rattle.scte20_rules.proofs.judging.judge_value.Statement.{statement}
-use Rattle.scte20_rules.proofs.judging.judge_value.Tie as tie
+use Rattle.scte20_value.proofs.judge_value.Statement.{statement}
+use Rattle.scte20_value.proofs.judge_value.Tie as tie
 
 abbrev Inv-loop : tie.InvT-loop
 Inv-loop v records last₀ i₀ last i = Judging (held (unitIn v records) .records) last i

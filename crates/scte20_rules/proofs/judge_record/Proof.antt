@@ -1,4 +1,4 @@
--- `scte20_rules::rules::judge_record` meets its contract: at each return the tests that led there pick that check of `lastVerdict`.
+-- `scte20_rules::judge_record` meets its contract: at each return the tests that led there pick that check of `lastVerdict`.
 -- Assumes nothing.
 use Prim.Native.Nat.{ℕ, _+_, _≤_, _<_}
 use native.Mathlib.Omega.{arith}
@@ -12,8 +12,8 @@ use Rattle.refusal.specs.declared.Item.the-variants.{Bit}
 use Rattle.refusal.specs.Checks.{refuseIf, first}
 use Rattle.scte20.specs.Value.{fieldOf}
 use Rattle.scte20.specs.Inside.{lastVerdict}
-use Rattle.scte20_rules.proofs.rules.judge_record.Statement.{statement}
-use Rattle.scte20_rules.proofs.rules.judge_record.Tie as tie
+use Rattle.scte20_rules.proofs.judge_record.Statement.{statement}
+use Rattle.scte20_rules.proofs.judge_record.Tie as tie
 
 -- a field below 1 is 0, and no other is
 none : (f : ℕ) → f < 1 → eqb f 0 ≡ true

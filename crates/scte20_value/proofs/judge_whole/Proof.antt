@@ -1,4 +1,4 @@
--- `scte20_rules::judging::judge_whole` meets its contract: at each return the tests that led there pick that check of `wholeVerdict`.
+-- `scte20_value::judge_whole` meets its contract: at each return the tests that led there pick that check of `wholeVerdict`.
 -- Assumes nothing.
 use native.Mathlib.Omega.{arith}
 use mathlib.Core.Path.{_≡_, _∙_, ap, ap₂, sym}
@@ -17,8 +17,8 @@ use Rattle.kind.specs.Ours.{groupType}
 use Rattle.scte20.specs.Value.{flagByte}
 use Rattle.scte20.specs.Lent.{unitIn}
 use Rattle.scte20.specs.Writing.{wholeVerdict}
-use Rattle.scte20_rules.proofs.judging.judge_whole.Statement.{statement}
-use Rattle.scte20_rules.proofs.judging.judge_whole.Tie as tie
+use Rattle.scte20_value.proofs.judge_whole.Statement.{statement}
+use Rattle.scte20_value.proofs.judge_whole.Tie as tie
 
 count : tie.Need-returns
 unfolding wholeVerdict

@@ -1,10 +1,11 @@
-// Whether a value can be written.
+// Whether the value of an SCTE 20 caption unit can be written.
+//
+// Normative references: docs/RULES.md, "Picture area" and "Order of checks".
 ghost use mathlib.Core.Path.{_≡_};
 ghost use Prim.Native.Nat.{_<_};
 ghost use mathlib.Core.List.{[]};
 ghost use Rattle.scte20.specs.Lent.{unitIn};
 ghost use Rattle.scte20.specs.Writing.{wholeVerdict, rangeVerdict, valueVerdict};
-use crate::rules;
 use refusal::Excess;
 use refusal::Item;
 use refusal::Reason;
@@ -25,7 +26,7 @@ pub fn judge_value(v: Numbers, records: &[u8; LENT_RECORDS]) -> Verdict
     if let Verdict::Refused(_, _) = whole {
         return whole;
     }
-    let mut last = rules::none_yet();
+    let mut last = scte20_rules::none_yet();
     let mut i = 0;
     while i < v.n {
         let record = scte20::record_in(records, i);
@@ -34,11 +35,11 @@ pub fn judge_value(v: Numbers, records: &[u8; LENT_RECORDS]) -> Verdict
         if let Verdict::Refused(_, _) = range {
             return range;
         }
-        let verdict = rules::judge_record(last, record, at as u32);
+        let verdict = scte20_rules::judge_record(last, record, at as u32);
         if let Verdict::Refused(_, _) = verdict {
             return verdict;
         }
-        last = rules::after(last, record);
+        last = scte20_rules::after(last, record);
         i += 1;
     }
     Verdict::Accepted

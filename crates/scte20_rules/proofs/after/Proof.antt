@@ -1,4 +1,4 @@
--- `scte20_rules::rules::after` meets its contract: the test of the field is that of `lastAfter`, and `counted` counts.
+-- `scte20_rules::after` meets its contract: the test of the field is that of `lastAfter`, and `counted` counts.
 -- Assumes nothing.
 use Prim.Native.Nat.{ℕ, _+_, min}
 use mathlib.Core.Path.{_≡_, _∙_, ap, sym}
@@ -11,8 +11,8 @@ use Rattle.scte20.specs.declared.Record.{Record}
 use Rattle.scte20.specs.declared.Last.{Last}
 use Rattle.scte20.specs.Value.{fieldOf, countIf}
 use Rattle.scte20.specs.Inside.{kept, lastAfter}
-use Rattle.scte20_rules.proofs.rules.after.Statement.{statement}
-use Rattle.scte20_rules.proofs.rules.after.Tie as tie
+use Rattle.scte20_rules.proofs.after.Statement.{statement}
+use Rattle.scte20_rules.proofs.after.Tie as tie
 
 made : Record → ℕ → Last
 made r urgent = record { «field_number» = r .«field_number»; «line_offset» = r .«line_offset»; urgent = urgent }
