@@ -2,8 +2,8 @@
 -- Assumes nothing.
 use Prim.Native.Nat.{ℕ, zero, suc, _+_, _≤_}
 use native.Mathlib.Omega.{arith}
-use mathlib.Core.Path.{_≡_, _∙_, ap, sym, refl}
-use mathlib.Core.Bool.{Bool, true, false, not, _&&_}
+use mathlib.Core.Path.{_≡_, _∙_, ap, ap₂, sym, refl}
+use mathlib.Core.Bool.{Bool, true, false, not, _&&_, _||_}
 use lib.Dec.{eqb}
 use lib.ListN.{length}
 use lib.Seq.{length-take-le}
@@ -26,6 +26,19 @@ pub record Whole (u : CaptionUnit) : Type 0 where
   pub stuffing : u .z ≤ 16384
   pub bare : u .«vbi_data_flag» ≡ 0 → u .n ≡ 0
   pub no-group : groupType (flagByte (u .reserved) (u .«vbi_data_flag»)) ≡ false
+
+-- which reserved and flag make the type of a data group
+pub group-09 : (reserved flag : ℕ) → reserved ≡ 4 → flag ≡ 1 → groupType (flagByte reserved flag) ≡ true
+group-09 reserved flag e f = ap₂ (λ (a b : ℕ). groupType (flagByte a b)) e f
+
+pub group-0a : (reserved flag : ℕ) → reserved ≡ 5 → flag ≡ 0 → groupType (flagByte reserved flag) ≡ true
+group-0a reserved flag e f = ap₂ (λ (a b : ℕ). groupType (flagByte a b)) e f
+
+pub no-group : (reserved flag : ℕ) → flag ≤ 1 → (reserved ≡ 4 → flag ≡ 1 → ⊥) → (reserved ≡ 5 → flag ≡ 0 → ⊥) → groupType (flagByte reserved flag) ≡ false
+no-group reserved flag small not-09 not-0a =
+    ap₂ _||_
+    (ne-eqb (flagByte reserved flag) 0x09 (λ e. not-09 (omega (arith, e)) (omega (arith, e))))
+    (ne-eqb (flagByte reserved flag) 0x0A (λ e. not-0a (omega (arith, e)) (omega (arith, e))))
 
 -- where not both tests hold and the first does, the second does not
 and-false-right : (a b : Bool) → (a && b) ≡ false → a ≡ true → b ≡ false

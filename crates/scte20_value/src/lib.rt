@@ -64,8 +64,11 @@ fn judge_whole(v: Numbers) -> Verdict
     if v.vbi_data_flag == 0 && v.n != 0 {
         return Verdict::Refused(Reason::Unholdable(Excess::FlagWithRecords), Item::Whole);
     }
-    // The byte of the reserved bits and the flag follows 03: with 09 or 0A the unit would be foreign.
-    if kind::group_type(2 * v.reserved + v.vbi_data_flag) {
+    // Behind 03 these pairs make 09 and 0A, the types of a data group: the unit would be foreign.
+    if v.reserved == 4 && v.vbi_data_flag == 1 {
+        return Verdict::Refused(Reason::Unholdable(Excess::GroupType), Item::Whole);
+    }
+    if v.reserved == 5 && v.vbi_data_flag == 0 {
         return Verdict::Refused(Reason::Unholdable(Excess::GroupType), Item::Whole);
     }
     Verdict::Accepted

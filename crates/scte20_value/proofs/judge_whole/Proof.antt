@@ -1,12 +1,10 @@
 -- `scte20_value::judge_whole` meets its contract: at each return the tests that led there pick that check of `wholeVerdict`.
 -- Assumes nothing.
-use native.Mathlib.Omega.{arith}
 use mathlib.Core.Path.{_≡_, _∙_, ap, ap₂, sym}
 use mathlib.Core.Logic.{⊎-elim}
-use mathlib.Core.Bool.{Bool, true, false, not, _&&_}
+use mathlib.Core.Bool.{Bool, true, false, not, _&&_, true≢false}
 use mathlib.Core.List.{[]}
-use borrow.Author.Needs.{needs}
-use borrow.Author.Tests.{eq-eqb, ne-eqb, lt-ltb, le-ltb}
+use borrow.Author.Tests.{eqb-true, eq-eqb, ne-eqb, lt-ltb, le-ltb}
 use lib.Dec.{eqb}
 use Rattle.refusal.specs.declared.Reason.the-variants.{Unholdable}
 use Rattle.refusal.specs.declared.Excess.the-variants.{GroupType}
@@ -17,6 +15,7 @@ use Rattle.kind.specs.Ours.{groupType}
 use Rattle.scte20.specs.Value.{flagByte}
 use Rattle.scte20.specs.Lent.{unitIn}
 use Rattle.scte20.specs.Writing.{wholeVerdict}
+use Rattle.scte20.proofs.Holding.{group-09, group-0a, no-group}
 use Rattle.scte20_value.proofs.judge_whole.Statement.{statement}
 use Rattle.scte20_value.proofs.judge_whole.Tie as tie
 
@@ -67,34 +66,50 @@ unmet c =
     (λ flagged. ap (λ (t : Bool). t && not (eqb (v .n) 0)) (ne-eqb _ _ (flagged .left)))
     (c .if5 .came)
 
--- the byte of reserved and flag is one by then, and whether it is the type of a data group decides
-decided : (c : tie.After-group-type) (t : Bool) → let joined = c .before .before .before in
-    let v = joined .before .before .before .before .before .before .before .before .before .before .args .v in
+-- what is left is whether reserved and flag make the type of a data group
+decided : (c : tie.Joined5) (t : Bool) → let v = c .before .before .before .before .before .before .before .before .before .before .args .v in
     groupType (flagByte (v .reserved) (v .«vbi_data_flag»)) ≡ t → refuseIf t (Unholdable GroupType) Whole ≡ wholeVerdict (unitIn v [])
 unfolding wholeVerdict
 decided c t e =
-    let joined = c .before .before .before in
-    let past = joined .before .before in
+    let past = c .before .before in
     simp (
       le-ltb _ _ (past .before .before .before .before .before .before .if1 .left),
       le-ltb _ _ (past .before .before .before .before .if2 .left),
       le-ltb _ _ (past .before .before .if3 .left),
       le-ltb _ _ (past .if4 .left),
-      unmet joined,
+      unmet c,
       e,
       andThen-last,
     )
 
-group : tie.Need-returns-6
-group c = decided (c .before) true (sym (c .before .group-type .ensures) ∙ c .if7 .taken)
+type-09 : tie.Need-returns-6
+type-09 c =
+    let four = c .before .before in
+    let v = four .before .before .before .before .before .before .before .before .before .before .before .before .args .v in
+    decided (four .before .before) true (group-09 (v .reserved) (v .«vbi_data_flag») (four .if7 .taken) (eqb-true _ _ (c .if8 .taken)))
 
-accepted : tie.Need-returns-7
-accepted c = decided (c .before) false (sym (c .before .group-type .ensures) ∙ c .if7 .left)
+type-0a : tie.Need-returns-7
+type-0a c =
+    let five = c .before .before in
+    let joined = five .before .before .before .before in
+    let v = joined .before .before .before .before .before .before .before .before .before .before .args .v in
+    decided joined true (group-0a (v .reserved) (v .«vbi_data_flag») (five .if9 .taken) (eqb-true _ _ (c .if10 .taken)))
+
+-- neither pair is met
+not-09 : (c : tie.Joined7) → let v = c .before .before .before .before .before .before .before .before .before .before .before .before .args .v in
+    v .reserved ≡ 4 → v .«vbi_data_flag» ≡ 1 → ⊥
+not-09 c e f = ⊎-elim (λ four. true≢false (sym (eq-eqb _ 1 f) ∙ four .2 .left)) (λ other. other .left e) (c .if7 .came)
+
+not-0a : (c : tie.Joined9) → let v = c .before .before .before .before .before .before .before .before .before .before .before .before .before .before .args .v in
+    v .reserved ≡ 5 → v .«vbi_data_flag» ≡ 0 → ⊥
+not-0a c e f = ⊎-elim (λ five. true≢false (sym (eq-eqb _ 0 f) ∙ five .2 .left)) (λ other. other .left e) (c .if9 .came)
+
+accepted : tie.Need-returns-8
+accepted c =
+    let seven = c .before .before in
+    let joined = seven .before .before in
+    let v = joined .before .before .before .before .before .before .before .before .before .before .args .v in
+    decided joined false (no-group (v .reserved) (v .«vbi_data_flag») (joined .before .before .before .before .if3 .left) (not-09 seven) (not-0a c))
 
 pub judge-whole-spec : {M : Type 1} → statement M
-judge-whole-spec =
-    tie.close
-    (tie.spec count reserved flag stuffing flag-0
-    (λ c. let past = c .before .before .before .before .before in omega (arith, past .before .before .if2 .left))
-    (λ c. let past = c .before .before .before .before .before .before in omega (arith, past .before .before .if2 .left, past .if3 .left))
-    (λ c. search needs) group accepted)
+judge-whole-spec = tie.close (tie.spec count reserved flag stuffing flag-0 type-09 type-0a accepted)
