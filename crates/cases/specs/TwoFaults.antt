@@ -192,7 +192,7 @@ two-faults =
     ∷ area Scte20 (layoutUnit (0x03 ∷ 0x81 ∷ 0x08 ∷ 0xAC ∷ 0xA4 ∷ 0xD2 ∷ 0x05 ∷ [])) (Unfixed fixed.Alignment) 19 85
     -- 19 and 19: two bits 1 in the stuffing behind flag 0, in a unit behind a foreign one
     ∷ area Scte20 (foreign ++ layoutUnit (0x03 ∷ 0x80 ∷ 0x00 ∷ 0x30 ∷ [])) (Unfixed fixed.Stuffing) 19 98
-    -- 3 and no 4: a data group between two caption units, and a bad start code behind them
+    -- 3 and 4: two caption units, a data group between them, and a bad start code behind them
     ∷ area Scte20 (a ++ (group ++ (a ++ (0x00 ∷ 0x00 ∷ 0x01 ∷ 0xB3 ∷ [])))) StartCode 3 0
     -- 4 and 18: two caption units, each with its marker 0, and a data group between them
     ∷ area Scte20 (j ++ (group ++ j)) SecondUnit 4 0

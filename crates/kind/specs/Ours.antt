@@ -7,10 +7,11 @@ use lib.Dec.{eqb}
 use Rattle.kind.specs.declared.Kind.{Kind}
 use Rattle.kind.specs.declared.Kind.the-variants.{Scte20, Ga94}
 
--- a data group of another syntax (003, Table 1): user_data_length 03, then user_data_type 09 or 0A
+-- user_data_type of a data group, which is another syntax (003, Table 1): 09 or 0A
 abbrev pub groupType : ℕ → Bool
 groupType b = eqb b 0x09 || eqb b 0x0A
 
+-- a body that begins with a data group: user_data_length 03, then such a type
 abbrev pub grouped : List ℕ → Bool
 grouped [] = false
 grouped (a ∷ []) = false
