@@ -4,7 +4,7 @@ ghost use Prim.Native.Nat.{_+_, _*_, _≤_, _<_};
 ghost use lib.ListN.{length};
 use crate::ROOM;
 use crate::packet_reading::SLOT;
-use sdp::OddEven;
+use fields::OddEven;
 use sdp::Packet;
 use sdp::ROW_BYTES;
 use sdp::SLOTS;

@@ -1,7 +1,7 @@
 // The value of an SCTE 20 unit in an input: behind room (4 bytes), reserved (1), flag (1), n (4), z (4), then 31 records of 5 bytes.
 ghost use Prim.Native.Nat.{_<_};
+use fields::DisplayField;
 use scte20::CaptionUnit;
-use scte20::DisplayField;
 use scte20::MAX_RECORDS;
 use scte20::Record;
 

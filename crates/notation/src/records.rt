@@ -6,7 +6,7 @@ use crate::Entries;
 use crate::Entry;
 use crate::numbers;
 use crate::words;
-use scte20::DisplayField;
+use fields::DisplayField;
 use scte20::MAX_RECORDS;
 use scte20::Record;
 

@@ -4,7 +4,7 @@ use Prim.Native.Nat.{ℕ, _<_}
 use native.Mathlib.Omega.{arith}
 use mathlib.Core.Path.{_≡_, _∙_, ap, sym, refl}
 use Rattle.refusal.specs.declared.Reason.{Reason}
-use Rattle.refusal.specs.declared.Reason.the-variants.{TooLong, NoStart, StartCode, SecondUnit, Ends, Unfixed, FieldNumberZero, DescriptorLine, FieldFalls, LineDoesNotRise, FifthPriority, SampledVideo, WordRange, WordParity, SdpChecksum, Checksum, Unfit, NoRoom, Unholdable, AdditionalData}
+use Rattle.refusal.specs.declared.Reason.the-variants.{TooLong, NoStart, StartCode, SecondUnit, Ends, Unfixed, FieldNumberZero, DescriptorLine, FieldFalls, LineDoesNotRise, FifthPriority, SampledVideo, WordRange, WordParity, SdpChecksum, Checksum, Unfit, NoRoom, Unholdable, AdditionalData, NotShown, OtherLine}
 use Rattle.refusal.specs.declared.Fixed.{Fixed}
 use Rattle.refusal.specs.declared.Fixed.the-variants.{Marker, Alignment, Stuffing, Identifier, FormatCode, RunIn, FramingCode, Footer}
 use Rattle.refusal.specs.declared.Verdict.{Verdict}
@@ -44,6 +44,8 @@ number-not-zero (Unfit which) = omega arith
 number-not-zero NoRoom = omega arith
 number-not-zero (Unholdable which) = omega arith
 number-not-zero AdditionalData = omega arith
+number-not-zero NotShown = omega arith
+number-not-zero OtherLine = omega arith
 
 pub told-accepted : (verdict : Verdict) → refusalOf verdict .number ≡ 0 → verdict ≡ Accepted
 told-accepted Accepted e = refl

@@ -3,7 +3,7 @@
 -- number are a reminder; RULES says when it is given.
 use Prim.Native.Nat.{ℕ}
 use Rattle.refusal.specs.declared.Reason.{Reason}
-use Rattle.refusal.specs.declared.Reason.the-variants.{TooLong, NoStart, StartCode, SecondUnit, Ends, Unfixed, FieldNumberZero, DescriptorLine, FieldFalls, LineDoesNotRise, FifthPriority, SampledVideo, WordRange, WordParity, SdpChecksum, Checksum, Unfit, NoRoom, Unholdable, AdditionalData}
+use Rattle.refusal.specs.declared.Reason.the-variants.{TooLong, NoStart, StartCode, SecondUnit, Ends, Unfixed, FieldNumberZero, DescriptorLine, FieldFalls, LineDoesNotRise, FifthPriority, SampledVideo, WordRange, WordParity, SdpChecksum, Checksum, Unfit, NoRoom, Unholdable, AdditionalData, NotShown, OtherLine}
 use Rattle.refusal.specs.declared.Fixed.{Fixed}
 use Rattle.refusal.specs.declared.Fixed.the-variants.{Marker, Alignment, Stuffing, Identifier, FormatCode, RunIn, FramingCode, Footer}
 use Rattle.refusal.specs.declared.Item.{Item}
@@ -62,6 +62,10 @@ numberOf NoRoom = 14
 numberOf (Unholdable which) = 15
 -- GA94 with its third flag set
 numberOf AdditionalData = 16
+-- a field that the picture does not show
+numberOf NotShown = 21
+-- not on the line that is carried
+numberOf OtherLine = 22
 
 -- in an area, for what failed in a unit's body, the bit of the area; in a packet the word; the length where that is at
 -- fault. A value that is written has no place, and neither has a body that stands in no area

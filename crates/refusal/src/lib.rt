@@ -56,6 +56,12 @@ pub enum Excess {
     FlagsByte,
     CcType,
     EmData,
+    // The line offset that film's caller sets.
+    SetLine,
+    // top_field_first or repeat_first_field.
+    PictureFlag,
+    // What no call leaves as film's state.
+    FilmState,
 }
 
 // Why a check refused: finer than the numbers of RULES, since two reasons may share one.
@@ -81,6 +87,10 @@ pub enum Reason {
     Unholdable(Excess),
     // GA94's third flag.
     AdditionalData,
+    // A record of display field 3 in a picture that shows two.
+    NotShown,
+    // A record on another line than film's caller set.
+    OtherLine,
 }
 
 // What failed: the item's place, in its carriage's own measure.
@@ -148,6 +158,8 @@ pub fn number(reason: Reason) -> u8
         Reason::NoRoom => 14,
         Reason::Unholdable(_) => 15,
         Reason::AdditionalData => 16,
+        Reason::NotShown => 21,
+        Reason::OtherLine => 22,
     }
 }
 

@@ -5,12 +5,12 @@ ghost use lib.ListN.{getD};
 ghost use Rattle.scte20.specs.Value.{blank as Value·blank, none, stored};
 ghost use Rattle.scte20.specs.Lent.{recordsBytes, lentRecords, storedAt, unitIn, numbersOf};
 use crate::CaptionUnit;
-use crate::DisplayField;
 use crate::LENT_RECORD;
 use crate::LENT_RECORDS;
 use crate::MAX_RECORDS;
 use crate::Numbers;
 use crate::Record;
+use fields::DisplayField;
 
 // The record of index i, counted from 0. Beyond the last place it is all zero.
 pub fn record_in(records: &[u8; LENT_RECORDS], i: usize) -> Record

@@ -3,6 +3,7 @@
 // Normative references: docs/RULES.md, "Picture area"; document 001, 5.4 to 5.8.
 mod lent;
 
+use fields::DisplayField;
 pub use lent::bytes_of;
 pub use lent::narrow;
 pub use lent::nothing;
@@ -29,9 +30,6 @@ pub const SAMPLED_BITS: usize = 4;
 pub const LENT_RECORD: usize = 5;
 
 pub const LENT_RECORDS: usize = 155;
-
-// A display field of this picture, counted from 1. It is not the odd or the even field of a frame.
-pub struct DisplayField(pub u8);
 
 // One construct (001, 5.8), its data bytes as line 21 has them.
 pub struct Record {

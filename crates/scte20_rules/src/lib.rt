@@ -6,10 +6,10 @@ ghost use Prim.Native.Nat.{_+_, min};
 ghost use mathlib.Core.List.{[]};
 ghost use Rattle.scte20.specs.Value.{countIf};
 ghost use Rattle.scte20.specs.Inside.{lastOf, lastAfter, lastVerdict};
+use fields::DisplayField;
 use refusal::Item;
 use refusal::Reason;
 use refusal::Verdict;
-use scte20::DisplayField;
 use scte20::Last;
 use scte20::Record;
 

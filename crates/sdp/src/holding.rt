@@ -6,12 +6,12 @@ ghost use Rattle.sdp.specs.Value.{descriptor as Value·descriptor, toget
 ghost use Rattle.sdp.specs.Layout.{count as Layout·count};
 ghost use Rattle.sdp.specs.User.{slotOf};
 ghost use Rattle.sdp.specs.SlotVerdict.{allZero, unwritable, slotVerdict};
-use crate::OddEven;
 use crate::Packet;
 use crate::ROW_BYTES;
 use crate::SLOTS;
 use crate::Slot;
 use crate::user::judge_line;
+use fields::OddEven;
 use refusal::Excess;
 use refusal::Item;
 use refusal::Reason;

@@ -5,6 +5,7 @@
 mod holding;
 mod user;
 
+use fields::OddEven;
 pub use holding::count;
 pub use holding::descriptor;
 pub use holding::judge_slot;
@@ -22,10 +23,6 @@ pub const DESCRIPTORS: usize = 4;
 pub const STRUCTURES: usize = 9;
 
 pub const STRUCTURE_WORDS: usize = 45;
-
-// The odd (1) or the even (0) field of a frame. It is not a display field number.
-#[repr(C)]
-pub struct OddEven(pub u8);
 
 // One slot's numbers: 1 full or 0 empty, and what its descriptor says (002, 5.4.2).
 #[repr(C)]
