@@ -1,10 +1,12 @@
 /*
- * captions.h: closed captions and teletext in four carriages, read, written and replaced.
+ * captions.h: closed captions and teletext in four carriages, read, written and replaced; and film, from one of them into
+ * another.
  *
  * Picture area       the user data behind an MPEG-2 picture header, with an SCTE 20 caption unit
  * GA94               ATSC caption data in a unit of the same picture area
  * Subtitling packet  RDD 8 (OP-47), as ancillary data words
  * Line 21 payload    the ISMA RTP payload, what follows the RTP header
+ * Film               pictures of two or three fields, with an SCTE 20 caption unit each, into access units of that payload
  *
  * docs/RULES.md has the rules: what is not ours passes byte for byte, a unit of ours is read whole or refused with a
  * number, and nothing is repaired. docs/C-API.md is the manual.
@@ -14,10 +16,13 @@
  *
  * What a caller owes, since C cannot check it:
  *   - behind a pointer and a length stand that many bytes or words; only with length 0 may the pointer be null;
- *   - behind an array of fixed size stand all of its places;
+ *   - behind an array of fixed size stand all of its places, and behind `film` one struct;
  *   - memory that a call may store to (STORED below) overlaps no other argument of that call.
  *
  * A refused call changes no lent memory. An accepted one changes what its description says, and nothing else.
+ *
+ * A run of film has a state, which the caller keeps in a struct of its own. Runs with a struct each know nothing of each
+ * other.
  */
 #ifndef CAPTIONS_H
 #define CAPTIONS_H
@@ -67,11 +72,14 @@ enum {
     CAPTIONS_CHECKSUM = 12,        /* the sum of the user bytes, or CS, does not come out */
     CAPTIONS_LENGTH = 13,          /* a length that fits nothing: DC, LENGTH, or that of a payload */
     CAPTIONS_NO_ROOM = 14,         /* the lent output is shorter than the result */
-    CAPTIONS_UNHOLDABLE = 15,      /* a number out of range, records under flag 0, 09 or 0A behind 03, a mismarked slot */
+    CAPTIONS_UNHOLDABLE = 15,      /* a number out of range, records under flag 0, 09 or 0A behind 03, a mismarked slot;
+                                      a film state that no call leaves */
     CAPTIONS_ADDITIONAL_DATA = 16, /* GA94 with additional_data_flag set */
     CAPTIONS_MARKER = 18,          /* a construct's marker is not all ones, or GA94's closing byte is not FF */
     CAPTIONS_ZEROS = 19,           /* a bit of a unit's alignment or stuffing is not 0 */
-    CAPTIONS_RUN_IN = 20           /* a packet's run-in or framing code (55 55 27) is another */
+    CAPTIONS_RUN_IN = 20,          /* a packet's run-in or framing code (55 55 27) is another */
+    CAPTIONS_NOT_SHOWN = 21,       /* film: a record of field 3 in a picture that shows two */
+    CAPTIONS_OTHER_LINE = 22       /* film: a record on another line than the one that is carried */
 };
 
 /*
@@ -82,7 +90,8 @@ enum {
  *                      byte place / 8 of the area, and in it bit place % 8 from the most significant one
  *   in a packet        the word; with 1 and 5 the number of words
  *   in a payload       the number of bytes
- * With 1 to 4 of an area it is 0, and so where the value to write, the length of the result or the room is refused.
+ * With 1 to 4 of an area it is 0, and so where the value to write, the length of the result or the room is refused. In
+ * film it is always 0.
  */
 typedef struct captions_refusal {
     uint8_t number; /* see above */
@@ -309,6 +318,58 @@ captions_written captions_payload_write(uint32_t flags, size_t m,
                                         const captions_access_unit CAPTIONS_ARRAY(units, CAPTIONS_ACCESS_UNITS),
                                         uint8_t *CAPTIONS_STORED out, size_t room);
 
+/* ---- Film pictures into RTP frames ---- */
+
+enum { CAPTIONS_FILM_UNITS = 2 /* the most access units that a call sends */ };
+
+/*
+ * What is kept from call to call: an odd slot that waits for the even one after it. If all is zero, nothing waits, as at
+ * the start of a run.
+ */
+typedef struct captions_film {
+    uint8_t waiting;   /* 1 where a slot waits, else 0 */
+    uint8_t cc_valid;  /* 1 where that slot holds a record's bytes, 0 where it is invalid */
+    uint8_t cc_data_1; /* its two bytes, zero in an invalid slot */
+    uint8_t cc_data_2;
+} captions_film;
+
+/* What a call of film answers. */
+typedef struct captions_film_sent {
+    captions_refusal refusal;
+    size_t m; /* how many access units were sent: 0, 1 or 2; 0 in a refusal */
+} captions_film_sent;
+
+/*
+ * Carries a picture: the value of its caption unit, and how it is shown. Its two display fields, three where the first is
+ * repeated, are odd and even by turns, the first of them odd where top_field_first is 1. Each gives a slot: the two bytes
+ * of its record, or two zeros that are marked invalid.
+ *
+ * A slot of the odd side waits, and goes out beside the even one that comes next: field 1 of an access unit is the odd
+ * one, field 2 the even one. If none waits, an even slot goes out alone; so does a waiting one, if the next is odd too. Of
+ * one that goes out alone the other field is invalid and zero. The padding is 0.
+ *
+ * Of `records` the first n are looked at, and no number is narrowed, as in captions_unit_write.
+ * Refuses with 15 (*film is what no call leaves; top_field_first or repeat_first_field above 1; line_offset above 31);
+ * then with 15, 7, 8, 9 as captions_unit_write; with 21 for any record of field 3, if repeat_first_field is 0; then with 22
+ * for any record on another line than line_offset. All are at 0.
+ * Lent: *film is stored to where the call is accepted, and all places of `units`, the m units first and zeros behind them.
+ */
+captions_film_sent captions_film_picture(captions_film *CAPTIONS_STORED film,
+                                         uint32_t top_field_first, uint32_t repeat_first_field, uint32_t line_offset,
+                                         uint32_t reserved, uint32_t vbi_data_flag, size_t n, size_t z,
+                                         const captions_record CAPTIONS_ARRAY(records, CAPTIONS_RECORDS),
+                                         captions_access_unit CAPTIONS_STORED_ARRAY(units, CAPTIONS_FILM_UNITS));
+
+/*
+ * Ends a run: a slot that waits goes out, with field 2 invalid and zero. Where none waits, nothing is sent. Then nothing
+ * waits, and another run can begin.
+ *
+ * Refuses with 15 (*film is what no call leaves), at 0.
+ * Lent: *film is stored to where the call is accepted, and all places of `units`, the unit first and zeros behind it.
+ */
+captions_film_sent captions_film_close(captions_film *CAPTIONS_STORED film,
+                                       captions_access_unit CAPTIONS_STORED_ARRAY(units, CAPTIONS_FILM_UNITS));
+
 #undef CAPTIONS_STORED
 #undef CAPTIONS_ARRAY
 #undef CAPTIONS_STORED_ARRAY
@@ -402,6 +463,16 @@ CAPTIONS_FIELD(captions_payload, refusal, 0, 16);
 CAPTIONS_FIELD(captions_payload, flags, 16, 1);
 CAPTIONS_FIELD(captions_payload, m, 24, 8);
 CAPTIONS_SIZE(captions_payload, 32);
+
+CAPTIONS_FIELD(captions_film, waiting, 0, 1);
+CAPTIONS_FIELD(captions_film, cc_valid, 1, 1);
+CAPTIONS_FIELD(captions_film, cc_data_1, 2, 1);
+CAPTIONS_FIELD(captions_film, cc_data_2, 3, 1);
+CAPTIONS_SIZE(captions_film, 4);
+
+CAPTIONS_FIELD(captions_film_sent, refusal, 0, 16);
+CAPTIONS_FIELD(captions_film_sent, m, 16, 8);
+CAPTIONS_SIZE(captions_film_sent, 24);
 
 #undef CAPTIONS_SIZE
 #undef CAPTIONS_FIELD
