@@ -6,7 +6,7 @@
 #include <sys/wait.h>
 #include <unistd.h>
 
-#include "harness.h"
+#include "film_runs.h"
 
 static char text[160];
 
@@ -17,7 +17,10 @@ static const char *number_name(operation op, size_t i)
                                        "em_data", "n", "z"};
     static const char *const payload[] = {"flags", "m"};
     static const char *const slot[] = {"full", "line", "reserved", "field"};
+    static const char *const film[FILM_NUMBERS] = {"number", "place", "m"};
 
+    if (op == FILM_RUN)
+        return film[i % FILM_NUMBERS];
     if (i < 2)
         return i == 0 ? "number" : "place";
     if (is_writer(op))
@@ -93,7 +96,16 @@ const char *difference(const question *q, const outcome *expected, const outcome
         for (size_t i = 0; i < got->size; i++)
             if (expected->memory[i] != got->memory[i])
                 return memory_difference(i, expected->memory[i], got->memory[i]);
-    return broken_rule(q, got);
+    return q->op == FILM_RUN ? film_difference(q, expected, got) : broken_rule(q, got);
+}
+
+uint64_t refusal_of(const question *q, const outcome *o)
+{
+    size_t last = q->op == FILM_RUN ? o->count - FILM_NUMBERS : 0, i = 0;
+
+    while (i < last && o->numbers[i] == 0)
+        i += FILM_NUMBERS;
+    return o->numbers[i];
 }
 
 /* ---- The guards tried out ---- */

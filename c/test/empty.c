@@ -1,5 +1,5 @@
 /*
- * empty.c: null pointers with length 0, for each pointer of each call that has a length.
+ * empty.c: null pointers with length 0, for each pointer of each call that has a length. Those of film have none.
  *
  * The library is given null where the model is given a pointer to nothing. Both must answer alike, with the number that
  * stands here. Then the same question goes to calls that touch their first element before they look at the length: each
@@ -124,7 +124,7 @@ static captions_written eager_payload_write(uint32_t flags, size_t m, const capt
 
 static const calls eager_calls = {eager_area_read,    eager_unit_write,   eager_area_replace, eager_ga94_read,
                                   eager_ga94_write,   eager_ga94_replace, eager_packet_read,  eager_packet_write,
-                                  eager_payload_read, eager_payload_write};
+                                  eager_payload_read, eager_payload_write, captions_film_picture, captions_film_close};
 
 static void ask_eagerly(void *question_asked)
 {

@@ -3,17 +3,19 @@
 
 #include <string.h>
 
+#include "film_runs.h"
 #include "model.h"
 
 const calls library_calls = {captions_area_read,    captions_unit_write,   captions_area_replace, captions_ga94_read,
                              captions_ga94_write,   captions_ga94_replace, captions_packet_read,  captions_packet_write,
-                             captions_payload_read, captions_payload_write};
+                             captions_payload_read, captions_payload_write, captions_film_picture, captions_film_close};
 const calls model_calls = {model_area_read,    model_unit_write,   model_area_replace, model_ga94_read,
                            model_ga94_write,   model_ga94_replace, model_packet_read,  model_packet_write,
-                           model_payload_read, model_payload_write};
+                           model_payload_read, model_payload_write, model_film_picture, model_film_close};
 
-const char *const operation_names[OPERATIONS] = {"area read",    "unit write",  "area replace", "ga94 read",    "ga94 write",
-                                                 "ga94 replace", "packet read", "packet write", "payload read", "payload write"};
+const char *const operation_names[OPERATIONS] = {"area read",    "unit write",    "area replace", "ga94 read",
+                                                 "ga94 write",   "ga94 replace",  "packet read",  "packet write",
+                                                 "payload read", "payload write", "film run"};
 
 /* What one call is lent: an input, a second one (records, units, or slots with rows apart), and one output. */
 static arena first_arena, second_arena, rows_arena, output_arena;
@@ -30,6 +32,7 @@ void harness_open(void)
     arena_open(&second_arena, sizeof(payload_value));
     arena_open(&rows_arena, CAPTIONS_SLOTS * sizeof(captions_row));
     arena_open(&output_arena, OUTPUT_MAX);
+    film_open();
     guard_catch();
 }
 
@@ -40,7 +43,7 @@ bool is_writer(operation op)
 
 bool takes_input(operation op)
 {
-    return !is_writer(op) || op == AREA_REPLACE || op == GA94_REPLACE;
+    return (!is_writer(op) && op != FILM_RUN) || op == AREA_REPLACE || op == GA94_REPLACE;
 }
 
 bool takes_unit(operation op)
@@ -259,6 +262,7 @@ static void call(const calls *who, const question *q, const loan *l, outcome *go
     case PAYLOAD_WRITE:
         set_written(got, who->payload_write(q->payload.flags, q->payload.m, second, output, q->room));
         break;
+    case FILM_RUN: /* see film_ask */
     case OPERATIONS:
         break;
     }
@@ -288,6 +292,9 @@ static bool do_spoil(spoil spoiling, const question *q, const loan *l, const out
         return spoil_byte(l->first_lent, l->first_size, l->first_size / 2);
     case SPOIL_SECOND_INPUT:
         return spoil_byte(l->second_lent, l->second_size, l->second_size / 2);
+    case SPOIL_STATE:
+    case SPOIL_BESIDE_STATE:
+        return false;
     default:
         return true;
     }
@@ -295,7 +302,7 @@ static bool do_spoil(spoil spoiling, const question *q, const loan *l, const out
 
 static size_t number_count(operation op)
 {
-    static const size_t counts[OPERATIONS] = {7, 3, 3, 9, 3, 3, 23, 3, 4, 3};
+    static const size_t counts[OPERATIONS] = {7, 3, 3, 9, 3, 3, 23, 3, 4, 3, 0};
 
     return counts[op];
 }
@@ -305,6 +312,8 @@ bool ask(const calls *who, const question *q, spoil spoiling, outcome *got)
     loan l;
     bool spoilt;
 
+    if (q->op == FILM_RUN)
+        return film_ask(who, q, spoiling, got);
     lend(q, &l);
     got->count = number_count(q->op);
     call(who, q, &l, got);
@@ -318,6 +327,10 @@ bool ask(const calls *who, const question *q, spoil spoiling, outcome *got)
 
 void outcome_begin(const question *q, outcome *o)
 {
+    if (q->op == FILM_RUN) {
+        film_begin(q, o);
+        return;
+    }
     o->count = number_count(q->op);
     memset(o->numbers, 0, sizeof o->numbers);
     o->size = output_size(q);
@@ -328,5 +341,5 @@ void outcome_begin(const question *q, outcome *o)
 bool arenas_are_whole(void)
 {
     return arena_is_whole(&first_arena) && arena_is_whole(&second_arena) && arena_is_whole(&rows_arena) &&
-           arena_is_whole(&output_arena);
+           arena_is_whole(&output_arena) && film_arenas_are_whole();
 }

@@ -1,6 +1,7 @@
 /*
  * harness.h: one call as data. A question is what a call is given, an outcome is its answer and the memory it was lent.
- * The library and the model are asked in the same way, and outcomes are compared whole.
+ * The library and the model are asked in the same way, and outcomes are compared whole. Of film a question is a run: several
+ * calls to one state.
  */
 #ifndef HARNESS_H
 #define HARNESS_H
@@ -20,6 +21,7 @@ typedef enum operation {
     PACKET_WRITE,
     PAYLOAD_READ,
     PAYLOAD_WRITE,
+    FILM_RUN,
     OPERATIONS
 } operation;
 
@@ -27,8 +29,10 @@ enum {
     INPUT_MAX = 70000,  /* bytes of the longest input */
     OUTPUT_MAX = 40000, /* bytes of the longest lent output */
     WORDS_MAX = 1000,   /* words of the longest packet input or output */
-    NUMBERS_MAX = 23,
-    REFUSAL_MAX = CAPTIONS_RUN_IN, /* the highest number of a refusal */
+    FILM_NUMBERS = 3,   /* numbers of one answer of film: number, place, m */
+    FILM_BYTES = CAPTIONS_FILM_UNITS * sizeof(captions_access_unit), /* bytes of the output of one call of film */
+    NUMBERS_MAX = FILM_NUMBERS * FILM_CALLS_MAX,
+    REFUSAL_MAX = CAPTIONS_OTHER_LINE, /* the highest number of a refusal */
     FILL = 11 /* the pattern of vectors/: element i is i * 37 + 11 */
 };
 
@@ -44,6 +48,7 @@ typedef struct question {
     ga94_value ga94;
     packet_value packet;
     payload_value payload;
+    film_run film;
     size_t room; /* elements of a writer's output */
 } question;
 
@@ -52,10 +57,12 @@ typedef struct outcome {
     uint64_t numbers[NUMBERS_MAX]; /* number, place, and all else that the answer holds, in the order of captions.h */
     size_t size;
     uint8_t memory[OUTPUT_MAX]; /* the lent output in bytes: records, rows, units, or what was written */
-    const char *damage;         /* what became of memory that was not to be stored to; null where nothing did */
+    captions_film states[FILM_CALLS_MAX]; /* of film: the state behind each call */
+    bool all_states;                      /* whether all of them are known. A line of the vectors gives the last one alone. */
+    const char *damage;                   /* what became of memory that was not to be stored to; null where nothing did */
 } outcome;
 
-/* The ten calls of the library or of the model. */
+/* The twelve calls of the library or of the model. */
 typedef struct calls {
     captions_unit (*area_read)(const uint8_t *, size_t, captions_record *);
     captions_written (*unit_write)(uint32_t, uint32_t, size_t, size_t, const captions_record *, uint8_t *, size_t);
@@ -70,12 +77,15 @@ typedef struct calls {
     captions_written (*packet_write)(uint32_t, const captions_slot *, const captions_row *, uint16_t *, size_t);
     captions_payload (*payload_read)(const uint8_t *, size_t, captions_access_unit *);
     captions_written (*payload_write)(uint32_t, size_t, const captions_access_unit *, uint8_t *, size_t);
+    captions_film_sent (*film_picture)(captions_film *, uint32_t, uint32_t, uint32_t, uint32_t, uint32_t, size_t, size_t,
+                                       const captions_record *, captions_access_unit *);
+    captions_film_sent (*film_close)(captions_film *, captions_access_unit *);
 } calls;
 
 extern const calls library_calls, model_calls;
 extern const char *const operation_names[OPERATIONS];
 
-/* Damage done on purpose right after a call, so that a test of the tests can see that it is noticed. */
+/* Damage done on purpose right after a call, the last one of a run, so that a test of the tests can see that it is noticed. */
 typedef enum spoil {
     SPOIL_NOTHING,
     SPOIL_BESIDE_OUTPUT, /* a byte before the output, or behind it */
@@ -83,6 +93,8 @@ typedef enum spoil {
     SPOIL_LAST,          /* the last byte of the lent output */
     SPOIL_FIRST_INPUT,
     SPOIL_SECOND_INPUT,
+    SPOIL_STATE,        /* a byte of a film state */
+    SPOIL_BESIDE_STATE, /* a byte before it, or behind it */
     SPOILS
 } spoil;
 
@@ -93,6 +105,9 @@ bool ask(const calls *who, const question *q, spoil spoiling, outcome *got);
 
 /* Numbers zero and memory as it is lent: an outcome to begin from. */
 void outcome_begin(const question *q, outcome *o);
+
+/* The number of the first call that was refused, of a run too; 0 where all were accepted. */
+uint64_t refusal_of(const question *q, const outcome *o);
 
 /* Null where `got` is as expected and keeps the rules that every call has; else what differs. */
 const char *difference(const question *q, const outcome *expected, const outcome *got);

@@ -9,7 +9,7 @@
 
 #include "captions.h"
 
-/* The values of RULES: what a unit of either kind, a packet and a payload are written from. */
+/* The values of RULES: what a unit of either kind, a packet and a payload are written from, and what a run of film is given. */
 typedef struct unit_value {
     uint32_t reserved;
     uint32_t vbi_data_flag;
@@ -39,6 +39,27 @@ typedef struct payload_value {
     size_t m;
     captions_access_unit units[CAPTIONS_ACCESS_UNITS];
 } payload_value;
+
+/*
+ * A run of film: calls to one state, which is all zero at first. A caller may also put bytes of its own into the state before a
+ * call.
+ */
+enum { FILM_CALLS_MAX = 100 };
+
+typedef struct film_call {
+    bool puts_state;
+    captions_film state; /* what is put there */
+    bool closes;         /* a closing, for which nothing below is used; else a picture */
+    uint32_t top_field_first;
+    uint32_t repeat_first_field;
+    uint32_t line_offset;
+    unit_value unit;
+} film_call;
+
+typedef struct film_run {
+    size_t count;
+    film_call calls[FILM_CALLS_MAX];
+} film_run;
 
 enum {
     LAYOUT_START = 4,         /* 00 00 01 B2 */

@@ -1,4 +1,7 @@
-/* model.c: SCTE 20 in a picture area by RULES. GA94 is in model_ga94.c, the packet and the payload in model_words.c. */
+/*
+ * model.c: SCTE 20 in a picture area by RULES. GA94 is in model_ga94.c, the packet and the payload in model_words.c, film in
+ * model_film.c.
+ */
 #include "model.h"
 
 #include <string.h>
@@ -170,7 +173,7 @@ captions_unit model_area_read(const uint8_t *area, size_t len, captions_record *
 /* ---- Writing (RULES, "Order of checks") ---- */
 
 /* The numbers of the whole value first, then each record in order: 15, 7, 8, 9. */
-static uint8_t judge_value(uint32_t reserved, uint32_t vbi_data_flag, size_t n, size_t z, const captions_record *records)
+uint8_t model_judge_value(uint32_t reserved, uint32_t vbi_data_flag, size_t n, size_t z, const captions_record *records)
 {
     if (n > CAPTIONS_RECORDS || reserved > 127 || vbi_data_flag > 1 || z > CAPTIONS_AREA_BYTES)
         return 15;
@@ -205,7 +208,7 @@ captions_written model_unit_write(uint32_t reserved, uint32_t vbi_data_flag, siz
     static const uint8_t nothing[1] = {0};
     unit_span nowhere = {false, 0, 0};
     unit_value value = {.reserved = reserved, .vbi_data_flag = vbi_data_flag, .n = n, .z = z};
-    uint8_t refused = judge_value(reserved, vbi_data_flag, n, z, records);
+    uint8_t refused = model_judge_value(reserved, vbi_data_flag, n, z, records);
 
     if (refused != 0)
         return model_refusal(refused, 0);
@@ -223,7 +226,7 @@ captions_written model_area_replace(const uint8_t *area, size_t len, uint32_t re
 
     if (old.refusal.number != 0)
         return model_refusal(old.refusal.number, old.refusal.place);
-    refused = judge_value(reserved, vbi_data_flag, n, z, records);
+    refused = model_judge_value(reserved, vbi_data_flag, n, z, records);
     if (refused != 0)
         return model_refusal(refused, 0);
     model_find_unit(area, len, is_caption_unit, &span);

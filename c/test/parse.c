@@ -4,6 +4,7 @@
 #include <string.h>
 
 #include "cursor.h"
+#include "film_parse.h"
 
 /* ---- `key=value` in the order in which FORMAT.md lists the fields ---- */
 
@@ -91,6 +92,10 @@ static void question_fields(cursor *c, question *q)
         packet_fields(c, &q->packet);
     if (q->op == PAYLOAD_WRITE)
         payload_fields(c, MORE_ALLOWED, &q->payload);
+    if (q->op == FILM_RUN) {
+        field(c, "calls");
+        take_film_calls(c, &q->film);
+    }
     if (is_writer(q->op))
         q->room = number_field(c, "room", OUTPUT_MAX / 2);
     if (*c->at != '\0')
@@ -222,7 +227,12 @@ static void accepted_answer(cursor *c, const question *q, outcome *to)
 static void answer(cursor *c, const question *q, outcome *to)
 {
     outcome_begin(q, to);
-    if (strncmp(c->at, "refused ", 8) == 0) {
+    if (q->op == FILM_RUN && strncmp(c->at, "run ", 4) == 0) {
+        c->at += 4;
+        take_film_answers(c, q, to);
+    } else if (q->op == FILM_RUN) {
+        c->bad = true;
+    } else if (strncmp(c->at, "refused ", 8) == 0) {
         c->at += 8;
         refused_answer(c, to);
     } else if (strncmp(c->at, "ok ", 3) == 0) {
@@ -270,12 +280,12 @@ static parsed skipped(vector_line *to, const char *why)
 }
 
 /*
- * ` STATE ` behind the operation: `1-3`, the rules with requests 1 to 3. By others the same input may have another answer.
+ * ` STATE ` behind the operation: `1-4`, the rules with requests 1 to 4. By others the same input may have another answer.
  * Gives the TAG, or null.
  */
 static const char *behind_state(const char *at)
 {
-    static const char state[] = " 1-3 ";
+    static const char state[] = " 1-4 ";
 
     return strncmp(at, state, strlen(state)) == 0 ? at + strlen(state) : NULL;
 }

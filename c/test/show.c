@@ -24,14 +24,19 @@ static void show_words(const uint8_t *memory, size_t words)
 }
 
 /* All 31 places: those beyond n have no meaning, and the line may hold them. */
-static void show_unit(const unit_value *u)
+static void show_records(const captions_record *records)
 {
-    printf(" reserved=%u flag=%u n=%zu recs=", u->reserved, u->vbi_data_flag, u->n);
     for (size_t i = 0; i < CAPTIONS_RECORDS; i++) {
-        const captions_record *r = &u->records[i];
+        const captions_record *r = &records[i];
         printf("%s%u.%u.%u.%02X%02X", i > 0 ? "," : "", r->cc_priority, r->field_number, r->line_offset, r->cc_data_1,
                r->cc_data_2);
     }
+}
+
+static void show_unit(const unit_value *u)
+{
+    printf(" reserved=%u flag=%u n=%zu recs=", u->reserved, u->vbi_data_flag, u->n);
+    show_records(u->records);
     printf(" z=%zu", u->z);
 }
 
@@ -69,9 +74,30 @@ static void show_payload(const payload_value *p)
     }
 }
 
+static void show_film(const film_run *run)
+{
+    printf(" calls=");
+    for (size_t i = 0; i < run->count; i++) {
+        const film_call *call = &run->calls[i];
+        const unit_value *u = &call->unit;
+        if (i > 0)
+            putchar(';');
+        if (call->puts_state)
+            printf("state.%u.%u.%02X%02X;", call->state.waiting, call->state.cc_valid, call->state.cc_data_1,
+                   call->state.cc_data_2);
+        if (call->closes) {
+            printf("close");
+            continue;
+        }
+        printf("%u.%u.%u/%u.%u.%zu.%zu/", call->top_field_first, call->repeat_first_field, call->line_offset, u->reserved,
+               u->vbi_data_flag, u->n, u->z);
+        show_records(u->records);
+    }
+}
+
 void show_question(const question *q, const char *tag)
 {
-    printf("%s 1-3 %s", operation_names[q->op], tag);
+    printf("%s 1-4 %s", operation_names[q->op], tag);
     if (takes_input(q->op)) {
         printf(" in=");
         if (q->op == PACKET_READ)
@@ -87,6 +113,8 @@ void show_question(const question *q, const char *tag)
         show_packet(&q->packet);
     if (q->op == PAYLOAD_WRITE)
         show_payload(&q->payload);
+    if (q->op == FILM_RUN)
+        show_film(&q->film);
     if (is_writer(q->op))
         printf(" room=%zu", q->room);
     putchar('\n');
@@ -102,5 +130,9 @@ void show_outcome(const question *q, const char *who, const outcome *o)
         show_words(o->memory, o->size / 2);
     else
         show_bytes(o->memory, o->size);
+    if (q->op == FILM_RUN) {
+        printf("; states ");
+        show_bytes((const uint8_t *)o->states, q->film.count * sizeof *o->states);
+    }
     putchar('\n');
 }

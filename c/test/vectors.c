@@ -4,7 +4,8 @@
  *     vectors FILE..
  *
  * Every line of every file must be asked or be skipped for a reason that is printed. The status is 1 where an answer
- * differs, a line is not understood, a file cannot be read, or an operation had no accepted or no refused line.
+ * differs, a line is not understood, a file cannot be read, or an operation had no accepted or no refused line. A line of film
+ * counts as refused where one of its calls is.
  */
 #define _POSIX_C_SOURCE 200809L /* getline */
 #include <stdio.h>
@@ -12,6 +13,7 @@
 #include <string.h>
 
 #include "alter.h"
+#include "film_runs.h"
 #include "parse.h"
 
 enum { REASONS_MAX = 16 };
@@ -47,6 +49,15 @@ static void count_skipped(int kind, const char *why)
     exit(1);
 }
 
+/* What the accepted calls of a run store, which is all of their output. */
+static void keep_film(const vector_line *v, outcome *expected)
+{
+    memcpy(expected->states, v->expected.states, sizeof expected->states);
+    for (size_t i = 0; i < v->q.film.count; i++)
+        if (film_accepted(expected, i))
+            memcpy(expected->memory + FILM_BYTES * i, film_output(&v->expected, i), FILM_BYTES);
+}
+
 /* The outcome of a line where the lent output held another pattern before. */
 static void with_fill(vector_line *v, uint16_t fill, outcome *expected)
 {
@@ -55,7 +66,9 @@ static void with_fill(vector_line *v, uint16_t fill, outcome *expected)
     v->q.fill = fill;
     outcome_begin(&v->q, expected);
     memcpy(expected->numbers, v->expected.numbers, sizeof expected->numbers);
-    if (expected->numbers[0] == 0)
+    if (v->q.op == FILM_RUN)
+        keep_film(v, expected);
+    else if (expected->numbers[0] == 0)
         memcpy(expected->memory, v->expected.memory, kept);
 }
 
@@ -92,7 +105,7 @@ static void run_case(const char *line)
     bool library_passes = passes(&library_calls, "library", &line_read);
 
     tally->asked++;
-    if (line_read.expected.numbers[0] == 0)
+    if (refusal_of(&line_read.q, &line_read.expected) == 0)
         tally->accepted++;
     else
         tally->refused++;
