@@ -3,6 +3,7 @@
 
 #include <string.h>
 
+#include "film_cases.h"
 #include "mutate.h"
 
 enum { MEANT_LEGAL = 35 };
@@ -253,7 +254,8 @@ static operation some_operation(dice *d)
     static const operation often[] = {AREA_READ,    AREA_READ,    AREA_READ,    AREA_READ,    AREA_REPLACE, AREA_REPLACE,
                                       AREA_REPLACE, UNIT_WRITE,   UNIT_WRITE,   GA94_READ,    GA94_READ,    GA94_READ,
                                       GA94_REPLACE, GA94_REPLACE, GA94_REPLACE, GA94_WRITE,   GA94_WRITE,   PACKET_READ,
-                                      PACKET_READ,  PACKET_READ,  PACKET_WRITE, PACKET_WRITE, PAYLOAD_READ, PAYLOAD_WRITE};
+                                      PACKET_READ,  PACKET_READ,  PACKET_WRITE, PACKET_WRITE, PAYLOAD_READ, PAYLOAD_WRITE,
+                                      FILM_RUN,     FILM_RUN};
 
     return often[below(d, sizeof often / sizeof *often)];
 }
@@ -279,7 +281,9 @@ void make_case(dice *d, question *q)
         packet_write_case(d, q, legal);
     else if (q->op == PAYLOAD_READ)
         payload_read_case(d, q, legal);
-    else
+    else if (q->op == PAYLOAD_WRITE)
         payload_write_case(d, q, legal);
+    else
+        film_case(d, &q->film, legal);
     q->nulls = chance(d, 50);
 }

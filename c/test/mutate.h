@@ -13,6 +13,12 @@ void mutate_area(dice *d, question *q, const area_map *map);
  */
 void mutate_packet(dice *d, question *q);
 
+/*
+ * A number above `most` in most cases. Often it is the right number with one upper bit set, which a type of fewer bits would
+ * not see: no number may be narrowed before it is judged.
+ */
+uint64_t number_above(dice *d, uint64_t right, uint64_t most, unsigned bits);
+
 /* Puts one number out of its range, or out of order. */
 void spoil_unit(dice *d, unit_value *value);
 void spoil_ga94(dice *d, ga94_value *value);

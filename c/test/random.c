@@ -4,22 +4,27 @@
  *     random [COUNT [SEED [FIRST]]]
  *
  * The status is 1 where an answer or a round trip differs, fewer than a third of an operation's cases are accepted, a refusal
- * that an operation has arose at too few places, or data groups were met too seldom. Case i depends on SEED and i alone:
- * `random 1 SEED i` asks it again and shows it, and demands of it only that nothing differs.
+ * that an operation has arose at too few places, or data groups or something of film were met too seldom. Case i depends on
+ * SEED and i alone: `random 1 SEED i` asks it again and shows it, and demands of it only that nothing differs. A case of film
+ * is a run; in the tables its calls are counted.
  */
 #include <stdio.h>
 #include <stdlib.h>
 #include <string.h>
 
 #include "cases.h"
+#include "film_notes.h"
 #include "groups.h"
 #include "show.h"
 #include "trips.h"
 
 enum { REFUSALS = REFUSAL_MAX + 1, SHOWN_MAX = 5, SWEEP = 65536, PLACES = 2048 };
 
-/* What replacing refuses for the area's sake has a row of its own, since 1, 7, 8, 9 and 16 can come from the value too. */
-enum { ROW_REPLACE_AREA = OPERATIONS, ROW_GA94_REPLACE_AREA, ROWS };
+/*
+ * What replacing refuses for the area's sake has a row of its own, since 1, 7, 8, 9 and 16 can come from the value too. Film's
+ * pictures are in the row of runs, its closings in one of their own.
+ */
+enum { ROW_REPLACE_AREA = OPERATIONS, ROW_GA94_REPLACE_AREA, ROW_FILM_CLOSE, ROWS };
 
 typedef struct row {
     unsigned long cases, numbers[REFUSALS], differs, trips, trips_differ;
@@ -86,6 +91,25 @@ static void note_place(row *r, size_t number, size_t place)
     r->placed[number][place < PLACES ? place : PLACES - 1] = true;
 }
 
+static void note_answer(row *r, const uint64_t *numbers)
+{
+    r->cases++;
+    r->numbers[numbers[0]]++;
+    note_place(r, numbers[0], numbers[1]);
+}
+
+static void note_case(row *r)
+{
+    if (q.op != FILM_RUN) {
+        note_answer(r, by_model.numbers);
+        note_groups(&q, &by_model, r == &rows[ROW_REPLACE_AREA]);
+        return;
+    }
+    for (size_t i = 0; i < q.film.count; i++)
+        note_answer(&rows[q.film.calls[i].closes ? (int)ROW_FILM_CLOSE : (int)FILM_RUN], by_model.numbers + FILM_NUMBERS * i);
+    note_film(&q, &by_model);
+}
+
 static void run_case(void)
 {
     const char *differs;
@@ -93,15 +117,12 @@ static void run_case(void)
 
     ask(&library_calls, &q, SPOIL_NOTHING, &by_library);
     ask(&model_calls, &q, SPOIL_NOTHING, &by_model);
-    r->cases++;
-    r->numbers[by_model.numbers[0]]++;
-    note_place(r, by_model.numbers[0], by_model.numbers[1]);
-    note_groups(&q, &by_model, r == &rows[ROW_REPLACE_AREA]);
+    note_case(r);
     differs = difference(&q, &by_model, &by_library);
     if (differs != NULL) {
         r->differs++;
         show_case(differs);
-    } else if (by_library.numbers[0] == 0) {
+    } else if (by_library.numbers[0] == 0 || q.op == FILM_RUN) {
         differs = round_trip(&q, &by_library, &r->trips);
         if (differs != NULL) {
             r->trips_differ++;
@@ -114,6 +135,8 @@ static void run_case(void)
 
 static const char *row_name(int i)
 {
+    if (i == ROW_FILM_CLOSE)
+        return "  closings";
     return i >= OPERATIONS ? "  area refused" : operation_names[i];
 }
 
@@ -135,6 +158,8 @@ static const uint8_t places_wanted[ROWS][REFUSALS] = {
     [PACKET_WRITE] = {[7] = 1, [14] = 1, [15] = 1},
     [PAYLOAD_READ] = {[1] = 4, [2] = 1, [13] = 50},
     [PAYLOAD_WRITE] = {[14] = 1, [15] = 1},
+    [FILM_RUN] = {[7] = 1, [8] = 1, [9] = 1, [15] = 1, [21] = 1, [22] = 1},
+    [ROW_FILM_CLOSE] = {[15] = 1},
 };
 
 static unsigned places_of(int i, unsigned number)
@@ -180,7 +205,7 @@ static bool enough_accepted(int i)
         cases += rows[ROW_REPLACE_AREA].cases;
     if (i == GA94_REPLACE)
         cases += rows[ROW_GA94_REPLACE_AREA].cases;
-    if (i < OPERATIONS && (accepted == 0 || accepted < cases / 3)) {
+    if ((i < OPERATIONS || i == ROW_FILM_CLOSE) && (accepted == 0 || accepted < cases / 3)) {
         printf("%s: %lu of %lu cases accepted are fewer than a third\n", row_name(i), accepted, cases);
         return false;
     }
@@ -191,7 +216,7 @@ static bool enough_accepted(int i)
 
 static const int order[ROWS] = {AREA_READ,    UNIT_WRITE,   AREA_REPLACE,          ROW_REPLACE_AREA, GA94_READ,
                                 GA94_WRITE,   GA94_REPLACE, ROW_GA94_REPLACE_AREA, PACKET_READ,      PACKET_WRITE,
-                                PAYLOAD_READ, PAYLOAD_WRITE};
+                                PAYLOAD_READ, PAYLOAD_WRITE, FILM_RUN,              ROW_FILM_CLOSE};
 
 static void print_heads(void)
 {
@@ -242,7 +267,9 @@ static bool report(bool whole)
     print_numbers();
     print_places();
     print_groups();
+    print_film();
     good = !whole || enough_groups();
+    good = (!whole || enough_film()) && good;
     for (int i = 0; i < ROWS; i++) {
         if (whole) {
             good = all_arose(i) && good;

@@ -3,11 +3,7 @@
 
 #include "mutate.h"
 
-/*
- * A number above `most` in most cases. Often it is the right number with one upper bit set, which a type of fewer bits would
- * not see: no number may be narrowed before it is judged.
- */
-static uint64_t above(dice *d, uint64_t right, uint64_t most, unsigned bits)
+uint64_t number_above(dice *d, uint64_t right, uint64_t most, unsigned bits)
 {
     uint64_t largest = bits == 64 ? UINT64_MAX : (UINT64_C(1) << bits) - 1;
 
@@ -27,7 +23,7 @@ static uint64_t above(dice *d, uint64_t right, uint64_t most, unsigned bits)
 
 static uint8_t small_above(dice *d, uint8_t most)
 {
-    return (uint8_t)above(d, 0, most, 8);
+    return (uint8_t)number_above(d, 0, most, 8);
 }
 
 /* ---- Caption units ---- */
@@ -110,16 +106,16 @@ void spoil_unit(dice *d, unit_value *value)
 {
     switch (below(d, 12)) {
     case 0:
-        value->reserved = (uint32_t)above(d, value->reserved, 127, 32);
+        value->reserved = (uint32_t)number_above(d, value->reserved, 127, 32);
         break;
     case 1:
-        value->vbi_data_flag = (uint32_t)above(d, value->vbi_data_flag, 1, 32);
+        value->vbi_data_flag = (uint32_t)number_above(d, value->vbi_data_flag, 1, 32);
         break;
     case 2:
-        value->n = above(d, value->n, CAPTIONS_RECORDS, 64);
+        value->n = number_above(d, value->n, CAPTIONS_RECORDS, 64);
         break;
     case 3:
-        value->z = above(d, value->z, CAPTIONS_AREA_BYTES, 64);
+        value->z = number_above(d, value->z, CAPTIONS_AREA_BYTES, 64);
         break;
     case 4:
         if (value->n <= CAPTIONS_RECORDS)
@@ -159,16 +155,16 @@ void spoil_ga94(dice *d, ga94_value *value)
 
     switch (below(d, 9)) {
     case 0:
-        *flag = (uint32_t)above(d, *flag, 1, 32);
+        *flag = (uint32_t)number_above(d, *flag, 1, 32);
         break;
     case 1:
-        value->em_data = (uint32_t)above(d, value->em_data, 255, 32);
+        value->em_data = (uint32_t)number_above(d, value->em_data, 255, 32);
         break;
     case 2:
-        value->n = above(d, value->n, CAPTIONS_RECORDS, 64);
+        value->n = number_above(d, value->n, CAPTIONS_RECORDS, 64);
         break;
     case 3:
-        value->z = above(d, value->z, CAPTIONS_AREA_BYTES, 64);
+        value->z = number_above(d, value->z, CAPTIONS_AREA_BYTES, 64);
         break;
     case 4: /* a unit of 16,384 bytes, give or take some */
         if (value->n <= CAPTIONS_RECORDS) {
@@ -203,7 +199,7 @@ void spoil_packet(dice *d, packet_value *value)
 
     switch (below(d, 8)) {
     case 0:
-        value->counter = (uint32_t)above(d, value->counter, 65535, 32);
+        value->counter = (uint32_t)number_above(d, value->counter, 65535, 32);
         break;
     case 1:
         slot->full = chance(d, 50) ? !slot->full : small_above(d, 1);
@@ -249,10 +245,10 @@ void spoil_payload(dice *d, payload_value *value)
 {
     switch (below(d, 4)) {
     case 0:
-        value->flags = (uint32_t)above(d, value->flags, 255, 32);
+        value->flags = (uint32_t)number_above(d, value->flags, 255, 32);
         break;
     case 1:
-        value->m = above(d, value->m, CAPTIONS_ACCESS_UNITS, 64);
+        value->m = number_above(d, value->m, CAPTIONS_ACCESS_UNITS, 64);
         break;
     case 2: /* 1 + 5m, with 64 bits, is small again */
         value->m = SIZE_MAX / 5 + below(d, 3);

@@ -3,6 +3,7 @@
 
 #include <string.h>
 
+#include "film_trips.h"
 #include "model_area.h"
 
 static question back;
@@ -310,8 +311,8 @@ static const char *after_payload_write(const question *q, const outcome *got, un
 const char *round_trip(const question *q, const outcome *got, unsigned long *made)
 {
     static const char *(*const trips[OPERATIONS])(const question *, const outcome *, unsigned long *) = {
-        after_area_read,   after_unit,         after_replace,      after_area_read,    after_unit,
-        after_replace,     after_packet_read,  after_packet_write, after_payload_read, after_payload_write};
+        after_area_read,   after_unit,         after_replace,      after_area_read,     after_unit, after_replace,
+        after_packet_read, after_packet_write, after_payload_read, after_payload_write, film_trip};
 
     return trips[q->op](q, got, made);
 }

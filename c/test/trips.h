@@ -5,8 +5,8 @@
 #include "harness.h"
 
 /*
- * Goes back from an accepted outcome of the library. Null where all is as it was, else what differs. `made` counts the
- * trips.
+ * Goes back from an accepted outcome of the library, or from a run of film. Null where all is as it was, else what differs.
+ * `made` counts the trips.
  */
 const char *round_trip(const question *q, const outcome *got, unsigned long *made);
 
