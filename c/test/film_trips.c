@@ -8,7 +8,7 @@
 static question back;
 static outcome again;
 
-/* ---- Each slot once, in display order and on its own side (02, request 4) ---- */
+/* ---- The slots of the pictures, one after the other (02, request 4) ---- */
 
 typedef struct shown_slot {
     bool odd;

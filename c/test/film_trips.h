@@ -5,9 +5,9 @@
 #include "harness.h"
 
 /*
- * Null where each slot of the accepted pictures left once, in display order and on its own side, or waits; where the refused
- * calls could have been left out; and where a payload carries the units that were sent. Else what differs. `made` counts the
- * trips.
+ * Null where the slots that left, followed by the one that waits, are those that accepted pictures have shown, one after the
+ * other, each on its side; where the refused calls could have been left out; and where a payload carries the units that were
+ * sent. Else what differs. `made` counts the trips.
  */
 const char *film_trip(const question *q, const outcome *got, unsigned long *made);
 
