@@ -148,6 +148,49 @@ bool agree_payload_write(const payload_value *v, size_t room)
     return same_written(a, b) && same_lent(reach(room));
 }
 
+/* The state that each program is lent is the middle one of three, which are compared too. */
+typedef struct states {
+    captions_film of[2][3];
+} states;
+
+static states lend_state(captions_film state)
+{
+    return (states){{{state, state, state}, {state, state, state}}};
+}
+
+/* Two units and two more that none may change. */
+enum { FILM_REACH = (CAPTIONS_FILM_UNITS + 2) * sizeof(captions_access_unit) };
+
+static bool same_sent(captions_film_sent a, captions_film_sent b, const states *s)
+{
+    return same_refusal(a.refusal, b.refusal) && a.m == b.m && memcmp(s->of[0], s->of[1], sizeof s->of[0]) == 0 &&
+           same_lent(FILM_REACH);
+}
+
+static captions_film_sent carry_picture(const calls *c, captions_film *film, const film_value *v, captions_access_unit *units)
+{
+    return c->film_picture(film, v->top_field_first, v->repeat_first_field, v->line, v->unit.reserved, v->unit.flag, v->unit.n,
+                           v->unit.z, v->unit.records, units);
+}
+
+bool agree_film_picture(const film_value *v)
+{
+    states s = lend_state(v->state);
+    fill(FILM_REACH);
+    captions_film_sent a = carry_picture(&plain_calls, &s.of[0][1], v, lent[0].units);
+    captions_film_sent b = carry_picture(&library_calls, &s.of[1][1], v, lent[1].units);
+    return same_sent(a, b, &s);
+}
+
+bool agree_film_close(const film_value *v)
+{
+    states s = lend_state(v->state);
+    fill(FILM_REACH);
+    captions_film_sent a = plain_calls.film_close(&s.of[0][1], lent[0].units);
+    captions_film_sent b = library_calls.film_close(&s.of[1][1], lent[1].units);
+    return same_sent(a, b, &s);
+}
+
 /* ---- Random inputs ---- */
 
 /* Bytes that matter to some rule come often. */
@@ -331,11 +374,45 @@ static bool random_payload(void)
     return same && agree_payload_write(&v, below(2) == 0 ? CAPTIONS_PAYLOAD_BYTES : below(80));
 }
 
+/* Mostly a state that a call can leave. */
+static captions_film random_state(void)
+{
+    captions_film s = {.waiting = below(2) == 0};
+    if (s.waiting == 1 && below(3) != 0) {
+        s = (captions_film){1, 1, odd_byte(), odd_byte()};
+    }
+    if (below(8) == 0) {
+        mutate(&s, sizeof s);
+    }
+    return s;
+}
+
+/* Records of any fields on one line, or those of a caption unit, which are on many. */
+static bool random_film(void)
+{
+    film_value v;
+    uint32_t repeat = below(2);
+    make_picture(&v, below(2), repeat, below(2) == 0 ? 2 + repeat : below(4));
+    v.state = random_state();
+    if (below(8) == 0) {
+        random_value(&v.unit);
+    }
+    if (below(4) == 0) {
+        mutate(v.unit.records, v.unit.n <= CAPTIONS_RECORDS ? v.unit.n * sizeof v.unit.records[0] : 0);
+    }
+    if (below(16) == 0) {
+        v.top_field_first = below(3) * 255;
+        v.repeat_first_field = below(3);
+        v.line = below(40);
+    }
+    return agree_film_picture(&v) && agree_film_close(&v);
+}
+
 bool agree_on_random(size_t inputs)
 {
     static area_input area;
     static packet_input packet;
-    for (size_t i = 0; i < inputs; i += 10) {
+    for (size_t i = 0; i < inputs; i += 12) {
         unit_value v;
         ga94_value g;
         random_area(&area);
@@ -349,7 +426,7 @@ bool agree_on_random(size_t inputs)
         size_t room = below(8) == 0 || v.z > 1000 || g.z > 1000 ? CAPTIONS_AREA_BYTES : below(600);
         if (!agree_area_read(&area) || !agree_unit_write(&v, room) || !agree_area_replace(&area, &v, room) ||
             !agree_ga94_read(&area) || !agree_ga94_write(&g, room) || !agree_ga94_replace(&area, &g, room) ||
-            !agree_packet_read(&packet) || !random_packet_write() || !random_payload()) {
+            !agree_packet_read(&packet) || !random_packet_write() || !random_payload() || !random_film()) {
             return false;
         }
     }

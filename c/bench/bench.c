@@ -39,6 +39,7 @@ typedef struct sample {
     packet_value numbers;
     payload_input payload;
     payload_value access;
+    film_value film;
 } sample;
 
 /* What the calls store to. */
@@ -52,7 +53,7 @@ static captions_access_unit out_units[CAPTIONS_ACCESS_UNITS];
 /* Every answer goes in here, so that no call is without effect. */
 static volatile uint64_t sink;
 
-/* ---- The ten calls, `times` over the samples in turn ---- */
+/* ---- The twelve calls, `times` over the samples in turn ---- */
 
 static void run_area_read(const calls *c, const sample *samples, size_t times)
 {
@@ -141,6 +142,25 @@ static void run_payload_write(const calls *c, const sample *samples, size_t time
     }
 }
 
+/* One run, from picture to picture. */
+static void run_film_picture(const calls *c, const sample *samples, size_t times)
+{
+    captions_film film = {0};
+    for (size_t i = 0; i < times; i++) {
+        const film_value *v = &samples[i % SAMPLES].film;
+        sink += c->film_picture(&film, v->top_field_first, v->repeat_first_field, v->line, v->unit.reserved, v->unit.flag,
+                                v->unit.n, v->unit.z, v->unit.records, out_units).m + out_units[0].field1_data1;
+    }
+}
+
+static void run_film_close(const calls *c, const sample *samples, size_t times)
+{
+    for (size_t i = 0; i < times; i++) {
+        captions_film film = samples[i % SAMPLES].film.state;
+        sink += c->film_close(&film, out_units).m + out_units[0].field1_data1;
+    }
+}
+
 /* ---- Inputs of the rows ---- */
 
 static void foreign_random(sample *s, size_t n)
@@ -224,6 +244,30 @@ static void payload(sample *s, size_t n)
     carry_payload(&s->access, &s->payload);
 }
 
+/* Four pictures in turn, which make five frames: film by 3:2 pulldown. Their first n display fields have a record. */
+static void picture(sample *s, size_t n)
+{
+    static const struct {
+        uint32_t top, repeat;
+    } shown[SAMPLES] = {{1, 1}, {0, 0}, {0, 1}, {1, 0}};
+    static size_t turn;
+    make_picture(&s->film, shown[turn % SAMPLES].top, shown[turn % SAMPLES].repeat, n);
+    turn++;
+}
+
+/* Three display fields each, so that every other picture begins with the bottom field. */
+static void long_picture(sample *s, size_t n)
+{
+    static uint32_t turn;
+    make_picture(&s->film, ++turn % 2, 1, n);
+}
+
+static void waiting_slot(sample *s, size_t n)
+{
+    (void)n;
+    s->film.state = (captions_film){1, 1, (uint8_t)below(256), (uint8_t)below(256)};
+}
+
 typedef struct row {
     const char *name;
     const calls *plain; /* what the library is measured against */
@@ -265,6 +309,9 @@ static const row rows[] = {
     {"payload of 1 unit: write", &plain_calls, payload, 1, run_payload_write},
     {"payload of 291 units: read", &plain_calls, payload, 291, run_payload_read},
     {"payload of 291 units: write", &plain_calls, payload, 291, run_payload_write},
+    {"film: a picture of 1 record", &plain_calls, picture, 1, run_film_picture},
+    {"film: a picture of 3 records", &plain_calls, long_picture, 3, run_film_picture},
+    {"film: a closing", &plain_calls, waiting_slot, 0, run_film_close},
 };
 
 enum { ROWS = sizeof rows / sizeof rows[0] };
@@ -300,7 +347,13 @@ static bool agree_on_sample(const row *r, const sample *s)
     if (r->run == run_payload_read) {
         return agree_payload_read(&s->payload);
     }
-    return agree_payload_write(&s->access, CAPTIONS_AREA_BYTES);
+    if (r->run == run_payload_write) {
+        return agree_payload_write(&s->access, CAPTIONS_AREA_BYTES);
+    }
+    if (r->run == run_film_picture) {
+        return agree_film_picture(&s->film);
+    }
+    return agree_film_close(&s->film);
 }
 
 /* Makes a row's inputs. Each must be accepted, and by both alike. */

@@ -50,7 +50,16 @@ typedef struct payload_input {
     uint8_t bytes[CAPTIONS_PAYLOAD_BYTES + 16];
 } payload_input;
 
-/* The ten calls of one program. */
+/* A picture of film: the state before it, how it is shown, and its caption unit's value. */
+typedef struct film_value {
+    captions_film state;
+    uint32_t top_field_first;
+    uint32_t repeat_first_field;
+    uint32_t line;
+    unit_value unit;
+} film_value;
+
+/* The twelve calls of one program. */
 typedef struct calls {
     captions_unit (*area_read)(const uint8_t *, size_t, captions_record *);
     captions_written (*unit_write)(uint32_t, uint32_t, size_t, size_t, const captions_record *, uint8_t *, size_t);
@@ -65,6 +74,9 @@ typedef struct calls {
     captions_written (*packet_write)(uint32_t, const captions_slot *, const captions_row *, uint16_t *, size_t);
     captions_payload (*payload_read)(const uint8_t *, size_t, captions_access_unit *);
     captions_written (*payload_write)(uint32_t, size_t, const captions_access_unit *, uint8_t *, size_t);
+    captions_film_sent (*film_picture)(captions_film *, uint32_t, uint32_t, uint32_t, uint32_t, uint32_t, size_t, size_t,
+                                       const captions_record *, captions_access_unit *);
+    captions_film_sent (*film_close)(captions_film *, captions_access_unit *);
 } calls;
 
 extern const calls plain_calls;
@@ -79,6 +91,9 @@ void make_unit(unit_value *v, size_t n, size_t z);
 void make_ga94(ga94_value *v, size_t n, size_t z);
 void make_packet(packet_value *v, size_t k);
 void make_payload(payload_value *v, size_t m);
+
+/* A picture with these flags and records of its first n display fields, before which nothing waits. */
+void make_picture(film_value *v, uint32_t top_field_first, uint32_t repeat_first_field, size_t n);
 
 /* What carries them, from the plain writers. */
 void carry_unit(const unit_value *v, area_input *area);

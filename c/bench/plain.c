@@ -1,4 +1,5 @@
 /* plain.c: SCTE 20 in a picture area; see plain.h. Sections named in comments are those of docs/RULES.md. */
+#include "plain_records.h"
 #include "plain_search.h"
 
 enum {
@@ -41,35 +42,6 @@ static uint64_t bits_before(const uint8_t *s, size_t end)
 }
 
 /* ---- Picture area: records ---- */
-
-/* What the rules need of the records before one. */
-typedef struct last {
-    uint8_t field;
-    uint8_t line;
-    uint8_t urgent; /* how many records of this field have priority 0 */
-} last;
-
-/* 7, 8, 9 ("Picture area"). No record has field 0, so that any first one opens a field. */
-static uint8_t judge_record(last *before, captions_record r)
-{
-    uint8_t urgent = before->urgent;
-    if (r.field_number == 0) {
-        return CAPTIONS_FIELD_OR_LINE;
-    }
-    if (r.field_number < before->field) {
-        return CAPTIONS_ORDER;
-    }
-    if (r.field_number > before->field) {
-        urgent = 0;
-    } else if (r.line_offset <= before->line) {
-        return CAPTIONS_ORDER;
-    }
-    if (r.cc_priority == 0 && ++urgent > 4) {
-        return CAPTIONS_FIFTH_PRIORITY;
-    }
-    *before = (last){r.field_number, r.line_offset, urgent};
-    return CAPTIONS_ACCEPTED;
-}
 
 /* The bit of a construct at which the item begins that judge_record refused behind the same record. */
 static size_t item_of(uint8_t number, last before, captions_record r)
