@@ -31,7 +31,8 @@ static void print_fields(const picture *shown, size_t n)
 {
     printf("picture %c shows", shown->name);
     for (size_t i = 0; i < n; i++)
-        printf(" %c%zu %s%s", shown->name, i + 1, (i + shown->top_field_first) % 2 == 1 ? "odd" : "even", i + 1 < n ? "," : "\n");
+        printf(" %c%zu %s%s", shown->name, i + 1, (i + shown->top_field_first) % 2 == 1 ? "odd" : "even",
+               i + 1 < n ? "," : "\n");
 }
 
 static void print_side(const char *side, uint8_t valid, uint8_t data_1, uint8_t data_2)

@@ -19,7 +19,17 @@ typedef enum fault { STATE, FLAG, LINE, UNIT, NOT_SHOWN, OTHER_LINE, FAULTS } fa
 static const char *const fault_names[FAULTS] = {"state", "flag", "line", "unit", "field 3", "other line"};
 
 /* Which way a state is bad; and which number is above its range. */
-typedef enum wrong { MANY_WAIT, NO_FLAG, NOT_WAITING_VALID, NOT_WAITING_DATA, INVALID_DATA, TOP, REPEAT, SET_LINE, WRONGS } wrong;
+typedef enum wrong {
+    MANY_WAIT,
+    NO_FLAG,
+    NOT_WAITING_VALID,
+    NOT_WAITING_DATA,
+    INVALID_DATA,
+    TOP,
+    REPEAT,
+    SET_LINE,
+    WRONGS
+} wrong;
 
 static const char *const wrong_names[WRONGS] = {
     "state: waiting above 1",

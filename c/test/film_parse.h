@@ -5,8 +5,8 @@
 #include "cursor.h"
 
 /*
- * Calls joined by `;`: `close`, or `tff.rff.line/reserved.flag.n.z/RECS`. `state.waiting.valid.HHHH`, which no file has, is no call:
- * it says which bytes are put into the state before the next one.
+ * Calls joined by `;`: `close`, or `tff.rff.line/reserved.flag.n.z/RECS`. `state.waiting.valid.HHHH`, which no file has, is no
+ * call: it says which bytes are put into the state before the next one.
  */
 void take_film_calls(cursor *c, film_run *to);
 

@@ -1,6 +1,6 @@
 /*
- * film_runs.h: runs of film, asked and compared. harness.h has a question and an outcome for them too: of an outcome's numbers each
- * call has three, of its memory each call has its own output, and there is a state behind each call.
+ * film_runs.h: runs of film, asked and compared. harness.h has the question and the outcome: of an outcome's numbers each call has
+ * three, of its memory each has its own output, and there is a state behind each.
  */
 #ifndef FILM_RUNS_H
 #define FILM_RUNS_H
@@ -27,7 +27,7 @@ const uint8_t *film_output(const outcome *o, size_t i);
 /* The access unit at a place of that output. */
 captions_access_unit film_unit(const outcome *o, size_t i, size_t place);
 
-/* What no call leaves: more than one slot waiting, a flag that is none, bytes where none can be. */
+/* Whether no call leaves it: a number of slots or a flag above 1, a slot that does not wait, or bytes in an invalid one. */
 bool film_is_bad(captions_film state);
 
 #endif

@@ -140,7 +140,8 @@ static const char *refused_change_nothing(const question *q, const outcome *got,
     ++*made;
     ask(&library_calls, &back, SPOIL_NOTHING, &again);
     for (size_t i = 0; i < count; i++) {
-        if (memcmp(again.numbers + FILM_NUMBERS * i, got->numbers + FILM_NUMBERS * kept[i], FILM_NUMBERS * sizeof(uint64_t)) != 0 ||
+        const uint64_t *now = again.numbers + FILM_NUMBERS * i, *then = got->numbers + FILM_NUMBERS * kept[i];
+        if (memcmp(now, then, FILM_NUMBERS * sizeof *now) != 0 ||
             memcmp(film_output(&again, i), film_output(got, kept[i]), FILM_BYTES) != 0 ||
             memcmp(&again.states[i], &got->states[kept[i]], sizeof *again.states) != 0)
             return "without the refused calls the others answer in another way";

@@ -1,6 +1,6 @@
 /*
- * model_film.c: film pictures into access units, from documents alone: 02, request 4; 01 for the value of a caption unit, the two
- * countings of fields and the numbers of refusals.
+ * model_film.c: film pictures into access units, from documents alone: 02, request 4; 01 for the value of a caption unit, the
+ * two countings of fields and the numbers of refusals.
  *
  * Slots are put in one row: the one that waits, then those of the picture. What goes out is a matter of neighbours in that row.
  */
