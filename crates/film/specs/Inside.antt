@@ -40,10 +40,10 @@ passed p (suc n) slot = oddPassed (p .sent) (p .state) slot
 abbrev pub shownField : Passage → ℕ → Shown → List Record → Passage
 shownField p field how rs = passed p (side (how .«top_field_first») field) (slotOf (how .«line_offset») field rs)
 
--- two, or three where the first is repeated
+-- two, and a third where the first is repeated
+abbrev pub shownThird : Bool → Passage → Shown → List Record → Passage
+shownThird false p how rs = p
+shownThird true p how rs = shownField p 3 how rs
+
 abbrev pub shownAll : Passage → Shown → List Record → Passage
-shownAll p how rs = repeated (how .«repeat_first_field») (shownField (shownField p 1 how rs) 2 how rs)
-  where
-    repeated : Bool → Passage → Passage
-    repeated false q = q
-    repeated true q = shownField q 3 how rs
+shownAll p how rs = shownThird (how .«repeat_first_field») (shownField (shownField p 1 how rs) 2 how rs) how rs

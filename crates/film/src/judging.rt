@@ -37,10 +37,13 @@ fn judge_repeat(repeat_first_field: bool, v: Numbers, records: &[u8; LENT_RECORD
     requires { ⌜ v .n ≤ 31 ⌝ }
     ensures { λ r. ⌜ r ≡ repeatVerdict «repeat_first_field» 21 (held (unitIn v (now (records .entry))) .records) ⌝ }
 {
+    if repeat_first_field {
+        return Verdict::Accepted;
+    }
     let mut i = 0;
     while i < v.n {
         let record = scte20::record_in(records, i);
-        if record.field_number.0 == 3 && !repeat_first_field {
+        if record.field_number.0 == 3 {
             let at = CONSTRUCTS + CONSTRUCT_BITS * i;
             return Verdict::Refused(Reason::NotShown, Item::Bit(at + 2));
         }

@@ -1,0 +1,99 @@
+-- What a call answers, as the code has it: slot after slot sends what the rule says of the whole row.
+-- Assumes nothing.
+use Prim.Native.Nat.{ℕ, _≤_}
+use native.Mathlib.Omega.{arith}
+use mathlib.Core.Path.{_≡_, _∙_, ap, ap₂, sym, refl}
+use mathlib.Core.Bool.{Bool, true, false}
+use mathlib.Core.List.{List, [], _∷_, _++_}
+use lib.ListN.{length}
+use Rattle.refusal.specs.declared.Verdict.{Verdict}
+use Rattle.refusal.specs.declared.Verdict.the-variants.{Accepted, Refused}
+use Rattle.refusal.specs.declared.Refusal.{Refusal}
+use Rattle.refusal.specs.Numbers.{refusalOf}
+use Rattle.refusal.proofs.Checks.{accepted-andThen, accepted-within}
+use Rattle.refusal.proofs.Acceptance.{told-accepted}
+use Rattle.scte20.specs.declared.Record.{Record}
+use Rattle.scte20.specs.declared.CaptionUnit.{CaptionUnit}
+use Rattle.scte20.specs.Value.{held}
+use Rattle.scte20.specs.Writing.{valueVerdict}
+use Rattle.line21.specs.declared.AccessUnit.{AccessUnit}
+use Rattle.film.specs.declared.State.{State}
+use Rattle.film.specs.declared.State.the-variants.{Nothing, Waiting}
+use Rattle.film.specs.declared.Shown.{Shown}
+use Rattle.film.specs.declared.Sent.{Sent}
+use Rattle.film.specs.declared.Sent.the-variants as sent
+use Rattle.film.specs.declared.Passage.{Passage}
+use Rattle.film.specs.declared.Answer.{Answer}
+use Rattle.film.specs.Display.{Event, closing, pictureEvents}
+use Rattle.film.specs.Frames.{unitsOf, waitingOf, pending, accessUnit}
+use Rattle.film.specs.Calls.{repeatVerdict, lineVerdict, pictureVerdict, unitsSent, Told, told, toldOf}
+use Rattle.film.specs.Inside.{shownAll}
+
+-- what the checks let through
+pub record Checked (how : Shown) (u : CaptionUnit) : Type 0 where
+  pub line : how .«line_offset» ≤ 31
+  pub value : valueVerdict u ≡ Accepted
+  pub repeat : repeatVerdict (how .«repeat_first_field») 21 (held u .records) ≡ Accepted
+  pub lines : lineVerdict (how .«line_offset») 21 (held u .records) ≡ Accepted
+
+pub accepted-checked : (how : Shown) (u : CaptionUnit) → pictureVerdict how u ≡ Accepted → Checked how u
+unfolding pictureVerdict
+accepted-checked how u e =
+    let line = accepted-andThen _ _ e in
+    let value = accepted-andThen _ _ (line .1) in
+    let repeat = accepted-andThen _ _ (value .1) in
+    let lines = accepted-andThen _ _ (repeat .1) in
+    record {
+      line = accepted-within 31 (how .«line_offset») _ _ (line .0);
+      value = value .0;
+      repeat = repeat .0;
+      lines = lines .0;
+    }
+
+-- a picture's fields, with and without a slot that waits, are few enough to be gone through one by one
+module _ (line : ℕ) (rs : List Record) where
+  abbrev shown : Bool → Bool → Shown
+  shown top repeat = record { «top_field_first» = top; «repeat_first_field» = repeat; «line_offset» = line }
+
+  abbrev start : State → Passage
+  start s = record { sent = sent.None; state = s }
+
+  Right : State → Bool → Bool → Type 0
+  Right s top repeat =
+      let row = pending s ++ pictureEvents (shown top repeat) rs in
+      let end = shownAll (start s) (shown top repeat) rs in
+      (unitsSent (end .sent) ≡ unitsOf row) × (end .state ≡ waitingOf row)
+
+  each-right : (s : State) (top repeat : Bool) → Right s top repeat
+  unfolding Right
+  each-right Nothing true true = (refl, refl)
+  each-right Nothing true false = (refl, refl)
+  each-right Nothing false true = (refl, refl)
+  each-right Nothing false false = (refl, refl)
+  each-right (Waiting a) true true = (refl, refl)
+  each-right (Waiting a) true false = (refl, refl)
+  each-right (Waiting a) false true = (refl, refl)
+  each-right (Waiting a) false false = (refl, refl)
+
+pub all-shown : (s : State) (how : Shown) (rs : List Record)
+    → let row = pending s ++ pictureEvents how rs in
+    let end = shownAll (record { sent = sent.None; state = s }) how rs in
+    (unitsSent (end .sent) ≡ unitsOf row) × (end .state ≡ waitingOf row)
+unfolding Right
+all-shown s how rs = each-right (how .«line_offset») rs s (how .«top_field_first») (how .«repeat_first_field»)
+
+-- the answer of a refused call
+pub refuses : (verdict : Verdict) (refusal : Refusal) (s : State) (es : List Event) → refusal ≡ refusalOf verdict → (refusal .number ≡ 0 → ⊥)
+    → told (record { refusal = refusal; sent = sent.None; state = s }) ≡ toldOf verdict s es
+refuses Accepted refusal s es e n = absurd (n (ap (λ (r : Refusal). r .number) e))
+refuses (Refused reason item) refusal s es e n = ap (λ (r : Refusal). record { refusal = r; units = []; state = s }) e
+
+-- and of an accepted one
+pub accepts : (verdict : Verdict) (refusal : Refusal) (s : State) (es : List Event) (out : Sent) (end : State)
+    → refusal ≡ refusalOf verdict → verdict ≡ Accepted
+    → unitsSent out ≡ unitsOf (pending s ++ es) → end ≡ waitingOf (pending s ++ es)
+    → told (record { refusal = refusal; sent = out; state = end }) ≡ toldOf verdict s es
+accepts verdict refusal s es out end e ok units state =
+    ap (λ (r : Refusal). record { refusal = r; units = unitsSent out; state = end }) (e ∙ ap refusalOf ok)
+    ∙ ap₂ (λ (us : List AccessUnit) (w : State). record { refusal = refusalOf Accepted; units = us; state = w }) units state
+    ∙ ap (λ (v : Verdict). toldOf v s es) (sym ok)
