@@ -2,16 +2,14 @@
 // access units of an odd and an even field.
 //
 // Normative references: docs/RULES.md, "Film"; ISO/IEC 13818-2, 6.3.10; document 004, Table 2.
-mod judging;
-mod passing;
-
-ghost use Rattle.scte20.specs.Lent.{unitIn};
-ghost use Rattle.film.specs.Calls.{Shows, Closes};
+ghost use mathlib.Core.Path.{_≡_};
+ghost use Rattle.film.specs.Calls.{Closes};
+ghost use Rattle.film.specs.Frames.{halfOf, accessUnit};
+ghost use Rattle.film.specs.Inside.{added, passed};
+use fields::OddEven;
 use line21::AccessUnit;
 use refusal::Refusal;
 use refusal::Verdict;
-use scte20::LENT_RECORDS;
-use scte20::Numbers;
 
 // What one display field brings to its side of a frame: two data bytes, or nothing, which goes out invalid and zero.
 pub enum Slot {
@@ -59,31 +57,6 @@ pub struct Half {
     pub data_2: u8,
 }
 
-// Carries a picture: the value of its caption unit, by numbers and a lent array, and how it is shown.
-pub fn picture(state: State, how: Shown, v: Numbers, records: &[u8; LENT_RECORDS]) -> Answer
-    ensures { λ r. ⌜ Shows state how (unitIn v (now (records .entry))) r ⌝ }
-{
-    lists::known(records);
-    let refusal = refusal::told(judging::judge(how, v, records));
-    let sent = Sent::None;
-    if refusal.number != 0 {
-        return Answer {
-            refusal,
-            sent,
-            state,
-        };
-    }
-    let start = Passage { sent, state };
-    let end = passing::show_all(start, how, v, records);
-    let sent = end.sent;
-    let state = end.state;
-    Answer {
-        refusal,
-        sent,
-        state,
-    }
-}
-
 // Ends a run: a slot that waits goes out with nothing beside it.
 pub fn close(state: State) -> Answer
     ensures { λ r. ⌜ Closes state r ⌝ }
@@ -100,12 +73,98 @@ pub fn close(state: State) -> Answer
             }
         }
         State::Waiting(odd) => {
-            let sent = Sent::One(passing::frame(odd, Slot::Invalid));
+            let sent = Sent::One(frame(odd, Slot::Invalid));
             Answer {
                 refusal,
                 sent,
                 state: nothing,
             }
         }
+    }
+}
+
+// One slot more. An odd one waits, and sends one that waited; an even one goes out beside the one that waits.
+pub fn pass(p: Passage, side: OddEven, slot: Slot) -> Passage
+    ensures { λ r. ⌜ r ≡ passed p (side .0) slot ⌝ }
+{
+    let sent = p.sent;
+    let state = p.state;
+    let nothing = State::Nothing;
+    if side.0 == 0 {
+        return match state {
+            State::Nothing => {
+                let sent = add(sent, frame(Slot::Invalid, slot));
+                Passage {
+                    sent,
+                    state: nothing,
+                }
+            }
+            State::Waiting(odd) => {
+                let sent = add(sent, frame(odd, slot));
+                Passage {
+                    sent,
+                    state: nothing,
+                }
+            }
+        };
+    }
+    let waiting = State::Waiting(slot);
+    match state {
+        State::Nothing => Passage {
+            sent,
+            state: waiting,
+        },
+        State::Waiting(odd) => {
+            let sent = add(sent, frame(odd, Slot::Invalid));
+            Passage {
+                sent,
+                state: waiting,
+            }
+        }
+    }
+}
+
+// One access unit more. No call sends a third.
+fn add(sent: Sent, unit: AccessUnit) -> Sent
+    ensures { λ r. ⌜ r ≡ added sent unit ⌝ }
+{
+    match sent {
+        Sent::None => Sent::One(unit),
+        Sent::One(first) => Sent::Two(first, unit),
+        Sent::Two(first, second) => Sent::Two(first, second),
+    }
+}
+
+fn half_of(slot: Slot) -> Half
+    ensures { λ r. ⌜ r ≡ halfOf slot ⌝ }
+{
+    match slot {
+        Slot::Invalid => Half {
+            cc_valid: 0,
+            data_1: 0,
+            data_2: 0,
+        },
+        Slot::Pair(data_1, data_2) => Half {
+            cc_valid: 1,
+            data_1,
+            data_2,
+        },
+    }
+}
+
+// A frame: field 1 is the odd one.
+pub fn frame(odd: Slot, even: Slot) -> AccessUnit
+    ensures { λ r. ⌜ r ≡ accessUnit odd even ⌝ }
+{
+    let one = half_of(odd);
+    let two = half_of(even);
+    AccessUnit {
+        cc_valid_1: one.cc_valid,
+        cc_valid_2: two.cc_valid,
+        padding: 0,
+        field1_data1: one.data_1,
+        field1_data2: one.data_2,
+        field2_data1: two.data_1,
+        field2_data2: two.data_2,
     }
 }

@@ -1,4 +1,4 @@
--- `film::picture` meets its contract: where the checks refuse the state stays, and else the fields are shown one after the other.
+-- `film_picture::picture` meets its contract: where the checks refuse the state stays, and else the fields are shown one after the other.
 -- Assumes nothing.
 use Prim.Native.Nat.{ℕ, _≤_}
 use mathlib.Core.Path.{_≡_, _∙_, ap, sym}
@@ -14,13 +14,13 @@ use Rattle.scte20.specs.Value.{held, Typed}
 use Rattle.scte20.specs.Lent.{unitIn}
 use Rattle.scte20.proofs.Holding.{value-whole}
 use Rattle.scte20.proofs.Lending.{lent-typed}
 use Rattle.film.specs.declared.Passage.{Passage}
 use Rattle.film.specs.declared.Shown.{Shown}
 use Rattle.film.specs.Display.{pictureEvents}
 use Rattle.film.specs.Calls.{pictureVerdict, unitsSent}
 use Rattle.film.proofs.Passages.{accepted-checked, all-shown, refuses, accepts}
-use Rattle.film.proofs.picture.Statement.{statement}
-use Rattle.film.proofs.picture.Tie as tie
+use Rattle.film_picture.proofs.picture.Statement.{statement}
+use Rattle.film_picture.proofs.picture.Tie as tie
 
 -- the verdict, and what the struct is by its type
 module _ (c : tie.After-told) where

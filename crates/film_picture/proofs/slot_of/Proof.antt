@@ -1,4 +1,4 @@
--- `film::slot_of` meets its contract. The loop's invariant: the records from i on have the slot that all of them have.
+-- `film_picture::slot_of` meets its contract. The loop's invariant: the records from i on have the slot that all of them have.
 -- Assumes nothing.
 use Prim.Native.Nat.{ℕ, _+_, _-_}
 use native.Mathlib.Omega.{arith}
@@ -12,9 +12,9 @@ use denote.Ref.{now}
 use lib.ListN.{drop}
 use Rattle.scte20.specs.declared.Record.{Record}
 use Rattle.scte20.specs.Value.{fieldOf}
 use Rattle.film.proofs.Records.{recordsOf, record-here, records-over, SlotLeft, slot-first, slot-here, slot-next, slot-none}
-use Rattle.film.proofs.passing.slot_of.Statement.{statement}
-use Rattle.film.proofs.passing.slot_of.Tie as tie
+use Rattle.film_picture.proofs.slot_of.Statement.{statement}
+use Rattle.film_picture.proofs.slot_of.Tie as tie
 
 abbrev Inv-loop : tie.InvT-loop
 Inv-loop line-offset field v records i₀ i = SlotLeft line-offset (field .0) (recordsOf v records) i

@@ -1,13 +1,13 @@
--- `film::show` meets its contract: the side is what `odd_even` says, and the slot what `slot_of` finds.
+-- `film_picture::show` meets its contract: the side is what `odd_even` says, and the slot what `slot_of` finds.
 -- Assumes nothing.
 use Prim.Native.Nat.{ℕ}
 use mathlib.Core.Path.{_≡_, _∙_, ap, ap₂}
 use borrow.Author.Needs.{needs}
 use Rattle.fields.specs.declared.OddEven.{OddEven}
 use Rattle.film.specs.declared.Slot.{Slot}
 use Rattle.film.specs.Inside.{passed}
-use Rattle.film.proofs.passing.show.Statement.{statement}
-use Rattle.film.proofs.passing.show.Tie as tie
+use Rattle.film_picture.proofs.show.Statement.{statement}
+use Rattle.film_picture.proofs.show.Tie as tie
 
 shown : tie.Need-returns
 shown c =

@@ -1,10 +1,12 @@
-// What a picture is refused for.
+// Whether a picture can be carried.
+//
+// Normative references: docs/RULES.md, "Film" and "Order of checks".
 ghost use mathlib.Core.Path.{_≡_};
 ghost use Prim.Native.Nat.{_≤_};
 ghost use Rattle.scte20.specs.Value.{held};
 ghost use Rattle.scte20.specs.Lent.{unitIn};
 ghost use Rattle.film.specs.Calls.{pictureVerdict, repeatVerdict, lineVerdict};
-use crate::Shown;
+use film::Shown;
 use refusal::Excess;
 use refusal::Item;
 use refusal::Reason;
@@ -15,7 +17,7 @@ use scte20::LENT_RECORDS;
 use scte20::Numbers;
 
 // RULES, "Order of checks": 15 of the set line, the value's own 15, 7, 8, 9, then 21 of any record, then 22.
-pub(crate) fn judge(how: Shown, v: Numbers, records: &[u8; LENT_RECORDS]) -> Verdict
+pub fn judge(how: Shown, v: Numbers, records: &[u8; LENT_RECORDS]) -> Verdict
     ensures { λ r. ⌜ r ≡ pictureVerdict how (unitIn v (now (records .entry))) ⌝ }
 {
     if 31 < how.line_offset {

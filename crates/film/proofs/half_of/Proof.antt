@@ -3,8 +3,8 @@
 use mathlib.Core.Path.{ap, sym}
 use borrow.Author.Needs.{needs}
 use Rattle.film.specs.Frames.{halfOf}
-use Rattle.film.proofs.passing.half_of.Statement.{statement}
-use Rattle.film.proofs.passing.half_of.Tie as tie
+use Rattle.film.proofs.half_of.Statement.{statement}
+use Rattle.film.proofs.half_of.Tie as tie
 
 invalid : tie.Need-returns
 invalid c = ap halfOf (sym (c .enum-told .given .1))

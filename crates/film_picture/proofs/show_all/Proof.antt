@@ -1,4 +1,4 @@
--- `film::show_all` meets its contract: the calls are those of `shownAll`, and the flag decides on the third.
+-- `film_picture::show_all` meets its contract: the calls are those of `shownAll`, and the flag decides on the third.
 -- Assumes nothing.
 use mathlib.Core.Path.{_≡_, _∙_, ap, sym}
 use mathlib.Core.Bool.{Bool}
@@ -6,12 +6,12 @@ use mathlib.Core.List.{List}
 use borrow.Author.Needs.{needs}
 use denote.Ref.{now}
 use Rattle.scte20.specs.declared.Record.{Record}
 use Rattle.film.specs.declared.Shown.{Shown}
 use Rattle.film.specs.declared.Passage.{Passage}
 use Rattle.film.specs.Inside.{shownField, shownThird}
 use Rattle.film.proofs.Records.{recordsOf}
-use Rattle.film.proofs.passing.show_all.Statement.{statement}
-use Rattle.film.proofs.passing.show_all.Tie as tie
+use Rattle.film_picture.proofs.show_all.Statement.{statement}
+use Rattle.film_picture.proofs.show_all.Tie as tie
 
 -- the first two fields
 module _ (p one two : Passage) (how : Shown) (rs : List Record) (first : one ≡ shownField p 1 how rs) (second : two ≡ shownField one 2 how rs) (t : Bool) where

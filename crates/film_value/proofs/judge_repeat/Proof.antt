@@ -1,4 +1,4 @@
--- `film::judge_repeat` meets its contract. Where the first field is repeated no record is refused; else the loop's
+-- `film_value::judge_repeat` meets its contract. Where the first field is repeated no record is refused; else the loop's
 -- invariant: the records from i on decide as all of them do.
 -- Assumes nothing.
 use Prim.Native.Nat.{ℕ, _+_, _-_}
@@ -10,10 +10,10 @@ use borrow.Author.Needs.{needs}
 use denote.Ref.{now}
 use lib.ListN.{drop}
 use Rattle.scte20.specs.declared.Record.{Record}
 use Rattle.film.specs.Calls.{repeatVerdict}
 use Rattle.film.proofs.Records.{recordsOf, record-here, records-over, repeated, RepeatLeft, repeat-first, repeat-refused, repeat-next, repeat-accepted}
-use Rattle.film.proofs.judging.judge_repeat.Statement.{statement}
-use Rattle.film.proofs.judging.judge_repeat.Tie as tie
+use Rattle.film_value.proofs.judge_repeat.Statement.{statement}
+use Rattle.film_value.proofs.judge_repeat.Tie as tie
 
 abbrev Inv-loop : tie.InvT-loop
 Inv-loop repeat-first-field v records i₀ i = RepeatLeft (recordsOf v records) i

@@ -1,4 +1,4 @@
--- `film::judge` meets its contract: at each return the verdicts that led there pick that check of `pictureVerdict`.
+-- `film_value::judge` meets its contract: at each return the verdicts that led there pick that check of `pictureVerdict`.
 -- Assumes nothing.
 use Prim.Native.Nat.{ℕ, _≤_}
 use mathlib.Core.Path.{_≡_, _∙_, ap, sym}
@@ -15,10 +15,10 @@ use Rattle.scte20.specs.Value.{held}
 use Rattle.scte20.specs.Lent.{unitIn}
 use Rattle.scte20.specs.Writing.{valueVerdict}
 use Rattle.scte20.proofs.Holding.{value-whole}
 use Rattle.film.specs.declared.Shown.{Shown}
 use Rattle.film.specs.Calls.{repeatVerdict, lineVerdict, pictureVerdict}
-use Rattle.film.proofs.judging.judge.Statement.{statement}
-use Rattle.film.proofs.judging.judge.Tie as tie
+use Rattle.film_value.proofs.judge.Statement.{statement}
+use Rattle.film_value.proofs.judge.Tie as tie
 
 -- the checks of the records
 records-checked : Shown → CaptionUnit → Verdict

@@ -4,8 +4,8 @@ use mathlib.Core.Path.{ap, sym}
 use borrow.Author.Needs.{needs}
 use Rattle.film.specs.declared.Sent.{Sent}
 use Rattle.film.specs.Inside.{added}
-use Rattle.film.proofs.passing.add.Statement.{statement}
-use Rattle.film.proofs.passing.add.Tie as tie
+use Rattle.film.proofs.add.Statement.{statement}
+use Rattle.film.proofs.add.Tie as tie
 
 none : tie.Need-returns
 none c = ap (λ (s : Sent). added s (c .before .before .args .unit)) (sym (c .enum-told .given .1))

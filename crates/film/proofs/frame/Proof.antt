@@ -4,8 +4,8 @@ use mathlib.Core.Path.{ap₂}
 use borrow.Author.Needs.{needs}
 use Rattle.line21.specs.declared.AccessUnit.{AccessUnit}
 use Rattle.film.specs.declared.Half.{Half}
-use Rattle.film.proofs.passing.frame.Statement.{statement}
-use Rattle.film.proofs.passing.frame.Tie as tie
+use Rattle.film.proofs.frame.Statement.{statement}
+use Rattle.film.proofs.frame.Tie as tie
 
 -- an access unit of two halves
 beside : Half → Half → AccessUnit

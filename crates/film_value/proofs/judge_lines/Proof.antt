@@ -1,4 +1,4 @@
--- `film::judge_lines` meets its contract. The loop's invariant: the records from i on decide as all of them do.
+-- `film_value::judge_lines` meets its contract. The loop's invariant: the records from i on decide as all of them do.
 -- Assumes nothing.
 use Prim.Native.Nat.{ℕ, _+_, _-_}
 use native.Mathlib.Omega.{arith}
@@ -8,9 +8,9 @@ use borrow.Author.Needs.{needs}
 use denote.Ref.{now}
 use lib.ListN.{drop}
 use Rattle.scte20.specs.declared.Record.{Record}
 use Rattle.film.proofs.Records.{recordsOf, record-here, records-over, LinesLeft, lines-first, line-refused, line-next, lines-accepted}
-use Rattle.film.proofs.judging.judge_lines.Statement.{statement}
-use Rattle.film.proofs.judging.judge_lines.Tie as tie
+use Rattle.film_value.proofs.judge_lines.Statement.{statement}
+use Rattle.film_value.proofs.judge_lines.Tie as tie
 
 abbrev Inv-loop : tie.InvT-loop
 Inv-loop line-offset v records i₀ i = LinesLeft line-offset (recordsOf v records) i

@@ -9,8 +9,8 @@ use Rattle.film.specs.declared.State.{State}
 use Rattle.film.specs.declared.Sent.{Sent}
 use Rattle.film.specs.declared.Passage.{Passage}
 use Rattle.film.specs.Inside.{added, evenPassed, oddPassed, passed}
-use Rattle.film.proofs.passing.pass.Statement.{statement}
-use Rattle.film.proofs.passing.pass.Tie as tie
+use Rattle.film.proofs.pass.Statement.{statement}
+use Rattle.film.proofs.pass.Tie as tie
 
 -- what is sent: the unit that `frame` made
 module _ (sent before : Sent) (unit meant : AccessUnit) (state : State) where
