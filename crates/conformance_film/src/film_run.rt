@@ -119,13 +119,15 @@ fn put_answer(before: State, answer: Answer, out: &mut [u8]) {
     let sent = answer.sent;
     let state = answer.state;
     vectors::put_refusal(out, refusal);
-    if refusal.number != 0 {
-        vectors::put(out, 5, is_kept(before, state) as u8);
-    }
+    vectors::put(out, 5, is_kept(refusal.number, before, state) as u8);
     put_sent(sent, out);
 }
 
-fn is_kept(before: State, after: State) -> bool {
+// Whether a call is refused and leaves the state as it was.
+fn is_kept(number: u8, before: State, after: State) -> bool {
+    if number == 0 {
+        return false;
+    }
     let expected = state_bytes(before);
     is_state(after, &expected)
 }
