@@ -66,12 +66,7 @@ fn run_line(kind: Kind, line: &[u8], tallies: Tallies) -> Tallies {
         }
         Kind::TooLong => {
             vectors::print_outcome(line, Outcome::Unreadable);
-            counted(
-                tallies,
-                false,
-                vectors::is_wrong(line),
-                Outcome::Unreadable,
-            )
+            counted(tallies, false, vectors::is_wrong(line), Outcome::Unreadable)
         }
         Kind::Rest => tallies,
         Kind::Over => tallies,
