@@ -59,7 +59,7 @@ fn answer_of(state: State, call: &[u8]) -> Answer {
         return film::close(state);
     }
     let records = records_of(call);
-    film::picture(state, shown_of(call), numbers_of(call), &records)
+    film_picture::picture(state, shown_of(call), numbers_of(call), &records)
 }
 
 fn shown_of(call: &[u8]) -> Shown {
