@@ -135,7 +135,7 @@ fn add(sent: Sent, unit: AccessUnit) -> Sent
     }
 }
 
-fn half_of(slot: Slot) -> Half
+pub fn half_of(slot: Slot) -> Half
     ensures { λ r. ⌜ r ≡ halfOf slot ⌝ }
 {
     match slot {

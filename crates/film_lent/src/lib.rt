@@ -3,9 +3,19 @@
 //
 // Normative references: docs/RULES.md, "Film".
 ghost use mathlib.Core.Path.{_≡_};
+ghost use mathlib.Core.List.{_∷_, [], _++_};
+ghost use lib.ListN.{length};
+ghost use Rattle.refusal.specs.declared.Verdict.the-variants.{Refused};
+ghost use Rattle.refusal.specs.declared.Reason.the-variants.{Unholdable};
+ghost use Rattle.refusal.specs.declared.Item.the-variants.{Whole};
 ghost use Rattle.scte20.specs.Lent.{unitIn};
-ghost use Rattle.film_lent.specs.Lent.{stateBytes, sentBytes, stateIn, sentOf, PictureInto, CloseInto};
+ghost use Rattle.line21.specs.Value.{blank as Value·blank};
+ghost use Rattle.line21.specs.Lent.{accessUnitBytes};
+ghost use Rattle.film.specs.Calls.{unitsSent};
+ghost use Rattle.film_lent.specs.Lent.{halfBytes, stateBytes, sentBytes, stateIn, PictureInto, CloseInto};
+ghost use Rattle.film_lent.specs.Inside.{refusedHead, Stores};
 use film::Answer;
+use film::Half;
 use film::Sent;
 use film::Shown;
 use film::Slot;
@@ -35,14 +45,14 @@ pub struct Head {
     pub m: usize,
 }
 
-// The state that bytes tell, where a call leaves such bytes.
+// The state that four bytes tell, where some state has them.
 pub enum Kept {
     State(State),
     None,
 }
 
-// Carries a picture. A number that a flag or a line cannot hold is refused, not cut, and so is what no call leaves as a
-// state.
+// Carries a picture. A number that a flag or a line cannot hold is refused, not cut, and so are bytes that no call
+// leaves as a state.
 pub fn picture_into(
     film: &mut [u8; LENT_FILM],
     top_field_first: u32,
@@ -54,6 +64,7 @@ pub fn picture_into(
 ) -> Head
     ensures { λ r. ⌜ PictureInto (now (film .entry)) «top_field_first» «repeat_first_field» «line_offset» (unitIn v (now (records .entry))) (now (units .entry)) r (now (film .exit)) (now (units .exit)) ⌝ }
 {
+    lists::known(records);
     let kept = state_in(film);
     let Kept::State(state) = kept else {
         return refused(Excess::FilmState);
@@ -69,8 +80,7 @@ pub fn picture_into(
         repeat_first_field: repeat_first_field == 1,
         line_offset: scte20::narrow(line_offset as usize),
     };
-    let answer = film::picture(state, how, v, records);
-    store(answer, film, units)
+    store(film_picture::picture(state, how, v, records), film, units)
 }
 
 // Ends a run.
@@ -81,12 +91,13 @@ pub fn close_into(film: &mut [u8; LENT_FILM], units: &mut [u8; LENT_SENT]) -> He
     let Kept::State(state) = kept else {
         return refused(Excess::FilmState);
     };
-    let answer = film::close(state);
-    store(answer, film, units)
+    store(film::close(state), film, units)
 }
 
 // A refusal stores nothing.
-fn store(answer: Answer, film: &mut [u8; LENT_FILM], units: &mut [u8; LENT_SENT]) -> Head {
+fn store(answer: Answer, film: &mut [u8; LENT_FILM], units: &mut [u8; LENT_SENT]) -> Head
+    ensures { λ r. ⌜ Stores answer (now (film .entry)) (now (units .entry)) r (now (film .exit)) (now (units .exit)) ⌝ }
+{
     let refusal = answer.refusal;
     if refusal.number != 0 {
         return Head { refusal, m: 0 };
@@ -98,7 +109,9 @@ fn store(answer: Answer, film: &mut [u8; LENT_FILM], units: &mut [u8; LENT_SENT]
     Head { refusal, m }
 }
 
-fn refused(which: Excess) -> Head {
+fn refused(which: Excess) -> Head
+    ensures { λ r. ⌜ r ≡ refusedHead (Refused (Unholdable which) Whole) ⌝ }
+{
     let verdict = Verdict::Refused(Reason::Unholdable(which), Item::Whole);
     Head {
         refusal: refusal::told(verdict),
@@ -106,67 +119,103 @@ fn refused(which: Excess) -> Head {
     }
 }
 
-fn state_in(film: &[u8; LENT_FILM]) -> Kept {
+// The state that the bytes tell.
+fn state_in(film: &[u8; LENT_FILM]) -> Kept
+    ensures { λ r. ⌜ r ≡ stateIn (now (film .entry)) ⌝ }
+{
+    if film[0] == 1 && film[1] == 1 {
+        return Kept::State(State::Waiting(Slot::Pair(film[2], film[3])));
+    }
+    if film[1] != 0 {
+        return Kept::None;
+    }
+    if film[2] != 0 {
+        return Kept::None;
+    }
+    if film[3] != 0 {
+        return Kept::None;
+    }
     if film[0] == 0 {
-        if film[1] != 0 {
-            return Kept::None;
-        }
-        if film[2] != 0 {
-            return Kept::None;
-        }
-        if film[3] != 0 {
-            return Kept::None;
-        }
         return Kept::State(State::Nothing);
     }
-    if film[0] != 1 {
-        return Kept::None;
-    }
-    if film[1] == 0 {
-        if film[2] != 0 {
-            return Kept::None;
-        }
-        if film[3] != 0 {
-            return Kept::None;
-        }
+    if film[0] == 1 {
         return Kept::State(State::Waiting(Slot::Invalid));
     }
-    if film[1] != 1 {
-        return Kept::None;
-    }
-    Kept::State(State::Waiting(Slot::Pair(film[2], film[3])))
+    Kept::None
 }
 
-fn put_state(state: State, film: &mut [u8; LENT_FILM]) {
+fn put_state(state: State, film: &mut [u8])
+    requires { ⌜ length (now film) ≡ 4 ⌝ }
+    ensures { λ _. ⌜ now (film .exit) ≡ stateBytes state ⌝ }
+{
     match state {
-        State::Nothing => {
-            film[0] = 0;
-            film[1] = 0;
-            film[2] = 0;
-            film[3] = 0;
+        State::Nothing => put_four(0, film::half_of(Slot::Invalid), film),
+        State::Waiting(slot) => put_four(1, film::half_of(slot), film),
+    }
+}
+
+fn put_four(waiting: u8, half: Half, film: &mut [u8])
+    requires { ⌜ length (now film) ≡ 4 ⌝ }
+    ensures { λ _. ⌜ now (film .exit) ≡ waiting ∷ halfBytes half ⌝ }
+{
+    film[0] = waiting;
+    film[1] = half.cc_valid;
+    film[2] = half.data_1;
+    film[3] = half.data_2;
+}
+
+// All places are stored to: the units that are sent, and zeros behind them.
+fn put_sent(sent: Sent, units: &mut [u8]) -> usize
+    requires { ⌜ length (now units) ≡ 14 ⌝ }
+    ensures { λ r. ⌜ r ≡ length (unitsSent sent) ⌝ }
+    ensures { λ _. ⌜ now (units .exit) ≡ sentBytes (unitsSent sent) ⌝ }
+{
+    match sent {
+        Sent::None => {
+            put_two(blank(), blank(), units);
+            0
         }
-        State::Waiting(slot) => {
-            film[0] = 1;
-            match slot {
-                Slot::Invalid => {
-                    film[1] = 0;
-                    film[2] = 0;
-                    film[3] = 0;
-                }
-                Slot::Pair(data_1, data_2) => {
-                    film[1] = 1;
-                    film[2] = data_1;
-                    film[3] = data_2;
-                }
-            }
+        Sent::One(first) => {
+            put_two(first, blank(), units);
+            1
+        }
+        Sent::Two(first, second) => {
+            put_two(first, second, units);
+            2
         }
     }
 }
 
-fn put_sent(sent: Sent, units: &mut [u8; LENT_SENT]) -> usize {
-    match sent {
-        Sent::None => 0,
-        Sent::One(first) => 1,
-        Sent::Two(first, second) => 2,
+fn put_two(a: AccessUnit, b: AccessUnit, units: &mut [u8])
+    requires { ⌜ length (now units) ≡ 14 ⌝ }
+    ensures { λ _. ⌜ now (units .exit) ≡ accessUnitBytes a ++ accessUnitBytes b ⌝ }
+{
+    units[0] = a.cc_valid_1;
+    units[1] = a.cc_valid_2;
+    units[2] = a.padding;
+    units[3] = a.field1_data1;
+    units[4] = a.field1_data2;
+    units[5] = a.field2_data1;
+    units[6] = a.field2_data2;
+    units[7] = b.cc_valid_1;
+    units[8] = b.cc_valid_2;
+    units[9] = b.padding;
+    units[10] = b.field1_data1;
+    units[11] = b.field1_data2;
+    units[12] = b.field2_data1;
+    units[13] = b.field2_data2;
+}
+
+fn blank() -> AccessUnit
+    ensures { λ r. ⌜ r ≡ Value·blank ⌝ }
+{
+    AccessUnit {
+        cc_valid_1: 0,
+        cc_valid_2: 0,
+        padding: 0,
+        field1_data1: 0,
+        field1_data2: 0,
+        field2_data1: 0,
+        field2_data2: 0,
     }
 }
