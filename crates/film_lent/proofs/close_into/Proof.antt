@@ -1,54 +1,41 @@
+-- `film_lent::close_into` meets its contract: bytes that are no state's are refused, and else film's answer is stored.
+-- Assumes nothing.
+use mathlib.Core.Path.{_≡_, _∙_, ap, sym, refl}
+use mathlib.Core.List.{List, [], _∷_}
 use borrow.Author.Needs.{needs}
+use denote.Ref.{now}
+use Rattle.refusal.specs.declared.Verdict.{Verdict}
+use Rattle.refusal.specs.declared.Verdict.the-variants.{Accepted}
+use Rattle.film.specs.declared.State.{State}
+use Rattle.film.specs.Display.{closing}
+use Rattle.film.specs.Calls.{toldOf}
+use Rattle.film_lent.specs.declared.Kept.{Kept}
+use Rattle.film_lent.specs.Lent.{stateIn, keptVerdict, keptState, leftOf}
+use Rattle.film_lent.proofs.Left.{refused-left, stores-left, kept-left}
 use Rattle.film_lent.proofs.close_into.Statement.{statement}
 use Rattle.film_lent.proofs.close_into.Tie as tie
-use Rattle.film_lent.proofs.close_into.Reads as reads
-use Rattle.film_lent.proofs.close_into.Lts as lts
-use Rattle.film.proofs.close.Reads as close-reads
-use Rattle.film_lent.proofs.refused.Reads as refused-reads
-use Rattle.film_lent.proofs.state_in.Reads as state-in-reads
-use Rattle.film_lent.proofs.store.Reads as store-reads
 
--- src/lib.rt:90:9
-state-in-requires : tie.Need-state-in-requires
-state-in-requires c κs = search needs
+none : tie.Need-returns
+none c =
+    let told = c .before in
+    let asked = told .before .before in
+    let film = now (asked .before .before .args .film) in
+    refused-left (keptVerdict (stateIn film)) _ _ _ (toldOf Accepted (keptState (stateIn film)) (closing ∷ [])) film (now (asked .before .before .args .units)) (c .refused .result)
+    (ap keptVerdict (sym (asked .state-in .ensures) ∙ told .enum-told .given .1)) refl (c .refused .ensures)
 
--- src/lib.rt:91:21
-enum-known-kept : tie.Need-enum-known-kept
-enum-known-kept c = search needs
-
--- src/lib.rt:92:24
-enum-told : tie.Need-enum-told
-enum-told c = search needs
-
--- src/lib.rt:92:9
-refused-requires : tie.Need-refused-requires
-refused-requires c κs = search needs
-
--- src/lib.rt:92:9
-returns : tie.Need-returns
-returns c = ?
-
--- src/lib.rt:94:11
-close-requires : tie.Need-close-requires
-close-requires c κs = search needs
-
--- src/lib.rt:94:5
-store-requires : tie.Need-store-requires
-store-requires c κs = search needs
-
--- src/lib.rt:87:1
-returns-2 : tie.Need-returns-2
-returns-2 c = ?
+closed : tie.Need-returns-2
+closed c =
+    let close = c .before .before .before in
+    let kept = close .before .before in
+    let asked = kept .before .before in
+    let args = asked .before .before .args in
+    let film = now (args .film) in
+    let state = kept .kept .given .0 .0 in
+    stores-left Accepted state (closing ∷ []) (close .close .result) film (now (args .units)) _ _ _ (close .close .ensures) (c .store .ensures)
+    ∙ kept-left (stateIn film) state (sym (asked .state-in .ensures) ∙ kept .kept .given .1)
+    (λ (v : Verdict) (s : State). leftOf v (toldOf Accepted s (closing ∷ [])) film (now (args .units)))
 
 pub close-into-spec : {M : Type 1} → statement M
 close-into-spec =
     tie.close
-    (tie.spec
-    state-in-requires
-    enum-known-kept
-    enum-told
-    refused-requires
-    returns
-    close-requires
-    store-requires
-    returns-2)
+    (tie.spec (λ c κs. search needs) (λ c. search needs) (λ c. search needs) (λ c κs. search needs) none (λ c κs. search needs) (λ c κs. search needs) closed)

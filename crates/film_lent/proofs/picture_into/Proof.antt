@@ -1,86 +1,139 @@
+-- `film_lent::picture_into` meets its contract: what no flag and no state can be is refused, and else film's answer is stored.
+-- Assumes nothing.
+use Prim.Native.Nat.{ℕ}
+use mathlib.Core.Path.{_≡_, _∙_, ap, ap₂, sym, refl}
+use mathlib.Core.List.{List}
 use borrow.Author.Needs.{needs}
+use denote.Ref.{now}
+use lib.Dec.{eqb}
+use Rattle.refusal.specs.declared.Verdict.{Verdict}
+use Rattle.refusal.specs.declared.Verdict.the-variants.{Accepted, Refused}
+use Rattle.scte20.specs.declared.CaptionUnit.{CaptionUnit}
+use Rattle.scte20.specs.Value.{held, Typed}
+use Rattle.scte20.specs.Lent.{unitIn}
+use Rattle.scte20.proofs.Lending.{lent-typed}
+use Rattle.film.specs.declared.State.{State}
+use Rattle.film.specs.declared.Shown.{Shown}
+use Rattle.film.specs.Display.{Event, pictureEvents}
+use Rattle.film.specs.Calls.{pictureVerdict, Told, toldOf}
+use Rattle.film_lent.specs.declared.Kept.{Kept}
+use Rattle.film_lent.specs.declared.Kept.the-variants as kept
+use Rattle.film_lent.specs.Lent.{stateIn, shownIn, keptState, intoVerdict, leftOf}
+use Rattle.film_lent.proofs.Left.{refused-left, stores-left, into-none, into-top, into-repeat, into-picture}
 use Rattle.film_lent.proofs.picture_into.Statement.{statement}
 use Rattle.film_lent.proofs.picture_into.Tie as tie
-use Rattle.film_lent.proofs.picture_into.Reads as reads
-use Rattle.film_lent.proofs.picture_into.Lts as lts
-use Rattle.film_lent.proofs.refused.Reads as refused-reads
-use Rattle.film_lent.proofs.state_in.Reads as state-in-reads
-use Rattle.film_lent.proofs.store.Reads as store-reads
-use Rattle.film_picture.proofs.picture.Reads as picture-reads
-use Rattle.lists.proofs.known.Reads as known-reads
-use Rattle.scte20.proofs.narrow.Reads as narrow-reads
 
--- src/lib.rt:67:5
-known-requires : tie.Need-known-requires
-known-requires c κs = search needs
+-- what is asked
+module _ (c : tie.After-state-in) where
+  abbrev start : tie.Start
+  start = c .before .before .before .before
 
--- src/lib.rt:68:9
-state-in-requires : tie.Need-state-in-requires
-state-in-requires c κs = search needs
+  abbrev unit : CaptionUnit
+  unit = unitIn (start .args .v) (now (start .args .records))
 
--- src/lib.rt:69:21
-enum-known-kept : tie.Need-enum-known-kept
-enum-known-kept c = search needs
+  abbrev verdict : Verdict
+  verdict = intoVerdict (stateIn (now (start .args .film))) (start .args .top-field-first) (start .args .repeat-first-field) (start .args .line-offset) unit
 
--- src/lib.rt:70:24
-enum-told : tie.Need-enum-told
-enum-told c = search needs
+  abbrev how : Shown
+  how = shownIn (start .args .top-field-first) (start .args .repeat-first-field) (start .args .line-offset)
 
--- src/lib.rt:70:9
-refused-requires : tie.Need-refused-requires
-refused-requires c κs = search needs
+  abbrev asked : Told
+  asked = toldOf Accepted (keptState (stateIn (now (start .args .film)))) (pictureEvents how (held unit .records))
 
--- src/lib.rt:70:9
-returns : tie.Need-returns
-returns c = ?
+  typed : Typed unit
+  typed =
+      let known = c .before .before in
+      lent-typed (start .args .v) (now (start .args .records)) (known .known .ensures) (known .before .known-arg .given .0)
 
--- src/lib.rt:73:9
-refused-requires-2 : tie.Need-refused-requires-2
-refused-requires-2 c κs = search needs
+-- the state that is kept
+module _ (c : tie.After-kept) where
+  abbrev in-bytes : tie.After-state-in
+  in-bytes = c .before .before
 
--- src/lib.rt:73:9
-returns-2 : tie.Need-returns-2
-returns-2 c = ?
+  abbrev state : State
+  state = c .kept .given .0 .0
 
--- src/lib.rt:76:9
-refused-requires-3 : tie.Need-refused-requires-3
-refused-requires-3 c κs = search needs
+  is-state : stateIn (now (start in-bytes .args .film)) ≡ kept.State state
+  is-state = sym (in-bytes .state-in .ensures) ∙ c .kept .given .1
 
--- src/lib.rt:76:9
-returns-3 : tie.Need-returns-3
-returns-3 c = ?
+-- the flags beside a line
+shown : ℕ → ℕ → ℕ → Shown
+shown top repeat line = record { «top_field_first» = eqb top 1; «repeat_first_field» = eqb repeat 1; «line_offset» = line }
 
--- src/lib.rt:81:22
-narrow-requires : tie.Need-narrow-requires
-narrow-requires c κs = search needs
+none : tie.Need-returns
+none c =
+    let told = c .before in
+    let from = told .before .before in
+    let args = start from .args in
+    record {
+      typed = typed from;
+      left =
+          refused-left (verdict from) _ _ _ (asked from) (now (args .film)) (now (args .units)) (c .refused .result)
+          (into-none _ _ _ _ _ (sym (from .state-in .ensures) ∙ told .enum-told .given .1)) refl (c .refused .ensures);
+    }
 
--- src/lib.rt:83:11
-picture-requires : tie.Need-picture-requires
-picture-requires c κs = search needs
+top : tie.Need-returns-2
+top c =
+    let kept = c .before .before .before in
+    let from = in-bytes kept in
+    let args = start from .args in
+    record {
+      typed = typed from;
+      left =
+          refused-left (verdict from) _ _ _ (asked from) (now (args .film)) (now (args .units)) (c .refused2 .result)
+          (into-top _ _ _ _ _ (state kept) (is-state kept) (c .before .if1 .taken)) refl (c .refused2 .ensures);
+    }
 
--- src/lib.rt:83:5
-store-requires : tie.Need-store-requires
-store-requires c κs = search needs
+repeat : tie.Need-returns-3
+repeat c =
+    let one = c .before .before in
+    let kept = one .before .before in
+    let from = in-bytes kept in
+    let args = start from .args in
+    record {
+      typed = typed from;
+      left =
+          refused-left (verdict from) _ _ _ (asked from) (now (args .film)) (now (args .units)) (c .refused3 .result)
+          (into-repeat _ _ _ _ _ (state kept) (is-state kept) (one .if1 .left) (c .before .if2 .taken)) refl (c .refused3 .ensures);
+    }
 
--- src/lib.rt:56:1
-returns-4 : tie.Need-returns-4
-returns-4 c = ?
+carried : tie.Need-returns-4
+unfolding shown
+carried c =
+    let picture = c .before .before .before in
+    let two = picture .before .before in
+    let one = two .before in
+    let kept = one .before .before in
+    let from = in-bytes kept in
+    let args = start from .args in
+    let rs = held (unit from) .records in
+    let same = ap (shown (args .top-field-first) (args .repeat-first-field)) (picture .before .narrow .ensures) in
+    record {
+      typed = typed from;
+      left =
+          stores-left (pictureVerdict (how from) (unit from)) (state kept) (pictureEvents (how from) rs) (picture .picture .result) (now (args .film)) (now (args .units)) _ _ _
+          (picture .picture .ensures .answer ∙ ap (λ (h : Shown). toldOf (pictureVerdict h (unit from)) (state kept) (pictureEvents h rs)) same)
+          (c .store .ensures)
+          ∙ ap₂ (λ (v : Verdict) (s : State). leftOf v (toldOf Accepted s (pictureEvents (how from) rs)) (now (args .film)) (now (args .units)))
+          (sym (into-picture _ _ _ _ _ (state kept) (is-state kept) (one .if1 .left) (two .if2 .left)))
+          (ap keptState (sym (is-state kept)));
+    }
 
 pub picture-into-spec : {M : Type 1} → statement M
 picture-into-spec =
     tie.close
     (tie.spec
-    known-requires
-    state-in-requires
-    enum-known-kept
-    enum-told
-    refused-requires
-    returns
-    refused-requires-2
-    returns-2
-    refused-requires-3
-    returns-3
-    narrow-requires
-    picture-requires
-    store-requires
-    returns-4)
+    (λ c κs. search needs)
+    (λ c κs. search needs)
+    (λ c. search needs)
+    (λ c. search needs)
+    (λ c κs. search needs)
+    none
+    (λ c κs. search needs)
+    top
+    (λ c κs. search needs)
+    repeat
+    (λ c κs. search needs)
+    (λ c κs. search needs)
+    (λ c κs. search needs)
+    carried)

@@ -1,40 +1,25 @@
-use borrow.Author.Needs.{needs}
+-- `film_lent::put_four` meets its contract: four stores fill the four places.
+-- Assumes nothing.
+use Prim.Native.Nat.{ℕ, _≤_}
+use native.Mathlib.Omega.{arith}
+use mathlib.Core.List.{List, [], _∷_}
+use denote.Ref.{now}
+use lib.ListN.{length-set}
+use Rattle.film_lent.specs.Lent.{halfBytes}
+use Rattle.film_lent.proofs.Places.{sets-all}
 use Rattle.film_lent.proofs.put_four.Statement.{statement}
 use Rattle.film_lent.proofs.put_four.Tie as tie
-use Rattle.film_lent.proofs.put_four.Reads as reads
-use Rattle.film_lent.proofs.put_four.Lts as lts
 
--- src/lib.rt:161:5
-slice-write-film : tie.Need-slice-write-film
-slice-write-film c = search needs
-
--- src/lib.rt:162:5
-slice-write-film-2 : tie.Need-slice-write-film-2
-slice-write-film-2 c = search needs
-
--- src/lib.rt:163:5
-slice-write-film-3 : tie.Need-slice-write-film-3
-slice-write-film-3 c = search needs
-
--- src/lib.rt:164:5
-slice-write-film-4 : tie.Need-slice-write-film-4
-slice-write-film-4 c = search needs
-
--- src/lib.rt:157:1
-same-length : tie.Need-same-length
-same-length c = search needs
-
--- src/lib.rt:157:1
 returns : tie.Need-returns
-returns c = ?
+returns c = sets-all (c .args .waiting ∷ halfBytes (c .args .half)) (now (c .args .film)) (c .pre)
 
 pub put-four-spec : {M : Type 1} → statement M
 put-four-spec =
     tie.close
     (tie.spec
-    slice-write-film
-    slice-write-film-2
-    slice-write-film-3
-    slice-write-film-4
-    same-length
+    (λ c. omega arith)
+    (λ c. simp length-set (omega arith))
+    (λ c. simp length-set (omega arith))
+    (λ c. simp length-set (omega arith))
+    (λ c. simp length-set)
     returns)

@@ -1,87 +1,59 @@
+-- `film_lent::put_sent` meets its contract: each arm is a case of `unitsSent`.
+-- Assumes nothing.
+use mathlib.Core.Path.{_∙_, ap, ap₂, sym}
+use mathlib.Core.List.{List, [], _∷_, _++_}
 use borrow.Author.Needs.{needs}
+use lib.ListN.{length}
+use Rattle.line21.specs.declared.AccessUnit.{AccessUnit}
+use Rattle.line21.specs.Lent.{accessUnitBytes}
+use Rattle.film.specs.declared.Sent.{Sent}
+use Rattle.film.specs.Calls.{unitsSent}
+use Rattle.film_lent.specs.Lent.{sentBytes}
 use Rattle.film_lent.proofs.put_sent.Statement.{statement}
 use Rattle.film_lent.proofs.put_sent.Tie as tie
-use Rattle.film_lent.proofs.put_sent.Reads as reads
-use Rattle.film_lent.proofs.put_sent.Lts as lts
-use Rattle.film_lent.proofs.blank.Reads as blank-reads
-use Rattle.film_lent.proofs.put_two.Reads as put-two-reads
 
--- src/lib.rt:175:21
-enum-told : tie.Need-enum-told
-enum-told c = search needs
+none : tie.Need-returns
+none c =
+    let put = c .before .before in
+    let blanks = put .before .before in
+    let is = sym (blanks .before .before .enum-told .given .1) in
+    (ap (λ (s : Sent). length (unitsSent s)) is
+    , put .put-two .ensures
+    ∙ ap₂ (λ (a b : AccessUnit). accessUnitBytes a ++ accessUnitBytes b) (blanks .before .blank .ensures) (blanks .blank2 .ensures)
+    ∙ ap (λ (s : Sent). sentBytes (unitsSent s)) is)
 
--- src/lib.rt:175:21
-blank-requires : tie.Need-blank-requires
-blank-requires c κs = search needs
+one : tie.Need-returns-2
+one c =
+    let put = c .before .before in
+    let blank = put .before .before in
+    let is = sym (blank .before .before .sent .given .1) in
+    (ap (λ (s : Sent). length (unitsSent s)) is
+    , put .put-two2 .ensures
+    ∙ ap (λ (b : AccessUnit). accessUnitBytes (blank .before .before .sent .given .0 .0) ++ accessUnitBytes b) (blank .blank3 .ensures)
+    ∙ ap (λ (s : Sent). sentBytes (unitsSent s)) is)
 
--- src/lib.rt:175:30
-blank-requires-2 : tie.Need-blank-requires-2
-blank-requires-2 c κs = search needs
-
--- src/lib.rt:175:13
-put-two-requires : tie.Need-put-two-requires
-put-two-requires c κs = search needs
-
--- src/lib.rt:178:19
-enum-known-sent : tie.Need-enum-known-sent
-enum-known-sent c = search needs
-
--- src/lib.rt:179:28
-blank-requires-3 : tie.Need-blank-requires-3
-blank-requires-3 c κs = search needs
-
--- src/lib.rt:179:13
-put-two-requires-2 : tie.Need-put-two-requires-2
-put-two-requires-2 c κs = search needs
-
--- src/lib.rt:182:19
-enum-known-sent-2 : tie.Need-enum-known-sent-2
-enum-known-sent-2 c = search needs
-
--- src/lib.rt:183:13
-put-two-requires-3 : tie.Need-put-two-requires-3
-put-two-requires-3 c κs = search needs
-
--- src/lib.rt:168:1
-same-length : tie.Need-same-length
-same-length c = search needs
-
--- src/lib.rt:168:1
-returns : tie.Need-returns
-returns c = ?
-
--- src/lib.rt:168:1
-same-length-2 : tie.Need-same-length-2
-same-length-2 c = search needs
-
--- src/lib.rt:168:1
-returns-2 : tie.Need-returns-2
-returns-2 c = ?
-
--- src/lib.rt:168:1
-same-length-3 : tie.Need-same-length-3
-same-length-3 c = search needs
-
--- src/lib.rt:168:1
-returns-3 : tie.Need-returns-3
-returns-3 c = ?
+two : tie.Need-returns-3
+two c =
+    let put = c .before .before in
+    let is = sym (put .before .before .before .sent2 .given .1) in
+    (ap (λ (s : Sent). length (unitsSent s)) is, put .put-two3 .ensures ∙ ap (λ (s : Sent). sentBytes (unitsSent s)) is)
 
 pub put-sent-spec : {M : Type 1} → statement M
 put-sent-spec =
     tie.close
     (tie.spec
-    enum-told
-    blank-requires
-    blank-requires-2
-    put-two-requires
-    enum-known-sent
-    blank-requires-3
-    put-two-requires-2
-    enum-known-sent-2
-    put-two-requires-3
-    same-length
-    returns
-    same-length-2
-    returns-2
-    same-length-3
-    returns-3)
+    (λ c. search needs)
+    (λ c κs. search needs)
+    (λ c κs. search needs)
+    (λ c κs. search needs)
+    (λ c. search needs)
+    (λ c κs. search needs)
+    (λ c κs. search needs)
+    (λ c. search needs)
+    (λ c κs. search needs)
+    (λ c. search needs)
+    none
+    (λ c. search needs)
+    one
+    (λ c. search needs)
+    two)

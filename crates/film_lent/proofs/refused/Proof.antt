@@ -1,17 +1,13 @@
+-- `film_lent::refused` meets its contract: the refusal is what the verdict tells.
+-- Assumes nothing.
+use mathlib.Core.Path.{ap}
 use borrow.Author.Needs.{needs}
+use Rattle.refusal.specs.declared.Refusal.{Refusal}
 use Rattle.film_lent.proofs.refused.Statement.{statement}
 use Rattle.film_lent.proofs.refused.Tie as tie
-use Rattle.film_lent.proofs.refused.Reads as reads
-use Rattle.film_lent.proofs.refused.Lts as lts
-use Rattle.refusal.proofs.told.Reads as told-reads
 
--- src/lib.rt:117:18
-told-requires : tie.Need-told-requires
-told-requires c κs = search needs
-
--- src/lib.rt:112:1
 returns : tie.Need-returns
-returns c = ?
+returns c = ap (λ (r : Refusal). record { refusal = r; m = 0 }) (c .told .ensures)
 
 pub refused-spec : {M : Type 1} → statement M
-refused-spec = tie.close (tie.spec told-requires returns)
+refused-spec = tie.close (tie.spec (λ c κs. search needs) returns)

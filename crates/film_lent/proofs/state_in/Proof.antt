@@ -1,90 +1,122 @@
+-- `film_lent::state_in` meets its contract: at each return the tests that led there pick that state of `stateFrom`.
+-- Assumes nothing.
+use Prim.Native.Nat.{ℕ}
+use native.Mathlib.Omega.{arith}
+use mathlib.Core.Path.{_≡_, ap, ap₂}
+use mathlib.Core.Logic.{⊎-elim}
+use mathlib.Core.Bool.{Bool, false, _&&_}
+use mathlib.Core.List.{List}
 use borrow.Author.Needs.{needs}
+use borrow.Author.Tests.{eq-eqb, ne-eqb}
+use denote.Ref.{now}
+use lib.Dec.{eqb}
+use lib.ListN.{getD}
+use Rattle.film_lent.specs.Lent.{stateFrom}
 use Rattle.film_lent.proofs.state_in.Statement.{statement}
 use Rattle.film_lent.proofs.state_in.Tie as tie
-use Rattle.film_lent.proofs.state_in.Reads as reads
-use Rattle.film_lent.proofs.state_in.Lts as lts
 
--- src/lib.rt:126:8
-element-copy-out-if1 : tie.Need-element-copy-out-if1
-element-copy-out-if1 c = search needs
+pair : tie.Need-returns
+unfolding stateFrom
+pair c =
+    let two = c .before .before in
+    simp (eq-eqb _ _ (two .before .before .if1 .taken), two .if2 .taken)
 
--- src/lib.rt:126:24
-element-copy-out-if2 : tie.Need-element-copy-out-if2
-element-copy-out-if2 c = search needs
+-- no pair waits
+module _ (c : tie.Joined1) where
+  abbrev s : List ℕ
+  s = now (c .before .before .args .film)
 
--- src/lib.rt:127:54
-element-copy-out-t12 : tie.Need-element-copy-out-t12
-element-copy-out-t12 c = search needs
+  no-pair : (eqb (getD s 0 0) 1 && eqb (getD s 1 0) 1) ≡ false
+  no-pair =
+      ⊎-elim {C = (eqb (getD s 0 0) 1 && eqb (getD s 1 0) 1) ≡ false}
+      (λ one. ap₂ _&&_ (eq-eqb _ _ (one .0 .taken)) (one .2 .left))
+      (λ other. ap (λ (t : Bool). t && eqb (getD s 1 0) 1) (ne-eqb _ _ (other .left)))
+      (c .if1 .came)
 
--- src/lib.rt:127:63
-element-copy-out-t15 : tie.Need-element-copy-out-t15
-element-copy-out-t15 c = search needs
+valid : tie.Need-returns-2
+unfolding stateFrom
+valid c = simp (no-pair (c .before .before), ne-eqb _ _ (c .if3 .taken))
 
--- src/lib.rt:127:9
-returns : tie.Need-returns
-returns c = ?
+first : tie.Need-returns-3
+unfolding stateFrom
+first c =
+    let three = c .before .before in
+    simp (no-pair (three .before .before), eq-eqb _ _ (three .if3 .left), ne-eqb _ _ (c .if4 .taken))
 
--- src/lib.rt:129:8
-element-copy-out-if3 : tie.Need-element-copy-out-if3
-element-copy-out-if3 c = search needs
+second : tie.Need-returns-4
+unfolding stateFrom
+second c =
+    let four = c .before .before in
+    let three = four .before .before in
+    simp (no-pair (three .before .before), eq-eqb _ _ (three .if3 .left), eq-eqb _ _ (four .if4 .left), ne-eqb _ _ (c .if5 .taken))
 
--- src/lib.rt:130:9
-returns-2 : tie.Need-returns-2
-returns-2 c = ?
+nothing : tie.Need-returns-5
+unfolding stateFrom
+nothing c =
+    let five = c .before .before in
+    let four = five .before .before in
+    let three = four .before .before in
+    simp (
+      no-pair (three .before .before),
+      eq-eqb _ _ (three .if3 .left),
+      eq-eqb _ _ (four .if4 .left),
+      eq-eqb _ _ (five .if5 .left),
+      eq-eqb _ _ (c .if6 .taken),
+    )
 
--- src/lib.rt:132:8
-element-copy-out-if4 : tie.Need-element-copy-out-if4
-element-copy-out-if4 c = search needs
+-- 0 is not 1
+other : {n : ℕ} → n ≡ 0 → n ≡ 1 → ⊥
+other zero one = omega (arith, zero, one)
 
--- src/lib.rt:133:9
-returns-3 : tie.Need-returns-3
-returns-3 c = ?
+invalid : tie.Need-returns-6
+unfolding stateFrom
+invalid c =
+    let six = c .before .before in
+    let five = six .before .before in
+    let four = five .before .before in
+    let three = four .before .before in
+    simp (
+      ne-eqb _ 1 (other (three .if3 .left)),
+      eq-eqb _ _ (three .if3 .left),
+      eq-eqb _ _ (four .if4 .left),
+      eq-eqb _ _ (five .if5 .left),
+      ne-eqb _ _ (six .if6 .left),
+      eq-eqb _ _ (c .if7 .taken),
+    )
 
--- src/lib.rt:135:8
-element-copy-out-if5 : tie.Need-element-copy-out-if5
-element-copy-out-if5 c = search needs
-
--- src/lib.rt:136:9
-returns-4 : tie.Need-returns-4
-returns-4 c = ?
-
--- src/lib.rt:138:8
-element-copy-out-if6 : tie.Need-element-copy-out-if6
-element-copy-out-if6 c = search needs
-
--- src/lib.rt:139:9
-returns-5 : tie.Need-returns-5
-returns-5 c = ?
-
--- src/lib.rt:141:8
-element-copy-out-if7 : tie.Need-element-copy-out-if7
-element-copy-out-if7 c = search needs
-
--- src/lib.rt:142:9
-returns-6 : tie.Need-returns-6
-returns-6 c = ?
-
--- src/lib.rt:123:1
-returns-7 : tie.Need-returns-7
-returns-7 c = ?
+none : tie.Need-returns-7
+unfolding stateFrom
+none c =
+    let six = c .before .before in
+    let five = six .before .before in
+    let four = five .before .before in
+    let three = four .before .before in
+    simp (
+      no-pair (three .before .before),
+      eq-eqb _ _ (three .if3 .left),
+      eq-eqb _ _ (four .if4 .left),
+      eq-eqb _ _ (five .if5 .left),
+      ne-eqb _ _ (six .if6 .left),
+      ne-eqb _ _ (c .if7 .left),
+    )
 
 pub state-in-spec : {M : Type 1} → statement M
 state-in-spec =
     tie.close
     (tie.spec
-    element-copy-out-if1
-    element-copy-out-if2
-    element-copy-out-t12
-    element-copy-out-t15
-    returns
-    element-copy-out-if3
-    returns-2
-    element-copy-out-if4
-    returns-3
-    element-copy-out-if5
-    returns-4
-    element-copy-out-if6
-    returns-5
-    element-copy-out-if7
-    returns-6
-    returns-7)
+    (λ c. search needs)
+    (λ c. search needs)
+    (λ c. search needs)
+    (λ c. search needs)
+    pair
+    (λ c. search needs)
+    valid
+    (λ c. search needs)
+    first
+    (λ c. search needs)
+    second
+    (λ c. search needs)
+    nothing
+    (λ c. search needs)
+    invalid
+    none)

@@ -1,26 +1,30 @@
+-- `film_lent::store` meets its contract: a refusal stores nothing, and else all of the answer is stored.
+-- Assumes nothing.
+use Prim.Native.Nat.{ℕ}
+use mathlib.Core.Path.{_≡_, _∙_, ap, ap₂, refl}
+use mathlib.Core.List.{List}
 use borrow.Author.Needs.{needs}
+use Rattle.refusal.specs.declared.Refusal.{Refusal}
+use Rattle.film_lent.specs.Lent.{Left}
 use Rattle.film_lent.proofs.store.Statement.{statement}
 use Rattle.film_lent.proofs.store.Tie as tie
-use Rattle.film_lent.proofs.store.Reads as reads
-use Rattle.film_lent.proofs.store.Lts as lts
-use Rattle.film_lent.proofs.put_sent.Reads as put-sent-reads
-use Rattle.film_lent.proofs.put_state.Reads as put-state-reads
 
--- src/lib.rt:103:9
-returns : tie.Need-returns
-returns c = ?
+alike : (refusal : Refusal) (m n : ℕ) (film exit units end : List ℕ) → m ≡ n → film ≡ exit → units ≡ end
+    → _≡_ {A = Left} (record { head = record { refusal = refusal; m = m }; film = film; units = units }) (record { head = record { refusal = refusal; m = n }; film = exit; units = end })
+alike refusal m n film exit units end e f g =
+    ap (λ (k : ℕ). record { head = record { refusal = refusal; m = k }; film = film; units = units }) e
+    ∙ ap₂ (λ (a b : List ℕ). record { head = record { refusal = refusal; m = n }; film = a; units = b }) f g
 
--- src/lib.rt:106:5
-put-state-requires : tie.Need-put-state-requires
-put-state-requires c κs = search needs
+refused : tie.Need-returns
+refused c = record { refused = λ n. refl; accepted = λ zero. absurd (c .if1 .taken zero) }
 
--- src/lib.rt:108:9
-put-sent-requires : tie.Need-put-sent-requires
-put-sent-requires c κs = search needs
-
--- src/lib.rt:98:1
-returns-2 : tie.Need-returns-2
-returns-2 c = ?
+accepted : tie.Need-returns-2
+accepted c =
+    let put = c .before .before in
+    record {
+      refused = λ n. absurd (n (put .before .before .if1 .left));
+      accepted = λ zero. alike _ _ _ _ _ _ _ (c .put-sent .ensures .0) (put .put-state .ensures) (c .put-sent .ensures .1);
+    }
 
 pub store-spec : {M : Type 1} → statement M
-store-spec = tie.close (tie.spec returns put-state-requires put-sent-requires returns-2)
+store-spec = tie.close (tie.spec refused (λ c κs. search needs) (λ c κs. search needs) accepted)
