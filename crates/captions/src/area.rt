@@ -63,7 +63,7 @@ pub extern "C" fn captions_area_replace(
     )
 }
 
-fn numbers_of(reserved: u32, vbi_data_flag: u32, n: usize, z: usize) -> Numbers
+pub(crate) fn numbers_of(reserved: u32, vbi_data_flag: u32, n: usize, z: usize) -> Numbers
     ensures { λ r. ⌜ r ≡ numbersIn reserved «vbi_data_flag» n z ⌝ }
 {
     Numbers {

@@ -3,6 +3,7 @@
 // Normative references: docs/RULES.md.
 mod area;
 mod atsc;
+mod frames;
 mod packet;
 mod payload;
 
@@ -12,6 +13,8 @@ pub use area::captions_unit_write;
 pub use atsc::captions_ga94_read;
 pub use atsc::captions_ga94_replace;
 pub use atsc::captions_ga94_write;
+pub use frames::captions_film_close;
+pub use frames::captions_film_picture;
 pub use packet::captions_packet_read;
 pub use packet::captions_packet_write;
 pub use payload::captions_payload_read;

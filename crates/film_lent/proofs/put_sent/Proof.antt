@@ -16,21 +16,23 @@ none : tie.Need-returns
 none c =
     let put = c .before .before in
     let blanks = put .before .before in
-    let is = sym (blanks .before .before .enum-told .given .1) in
-    (ap (λ (s : Sent). length (unitsSent s)) is
-    , put .put-two .ensures
-    ∙ ap₂ (λ (a b : AccessUnit). accessUnitBytes a ++ accessUnitBytes b) (blanks .before .blank .ensures) (blanks .blank2 .ensures)
-    ∙ ap (λ (s : Sent). sentBytes (unitsSent s)) is)
+    let is = sym (blanks .before .before .enum-told .given .1) in (
+      ap (λ (s : Sent). length (unitsSent s)) is,
+      put .put-two .ensures
+          ∙ ap₂ (λ (a b : AccessUnit). accessUnitBytes a ++ accessUnitBytes b) (blanks .before .blank .ensures) (blanks .blank2 .ensures)
+          ∙ ap (λ (s : Sent). sentBytes (unitsSent s)) is,
+    )
 
 one : tie.Need-returns-2
 one c =
     let put = c .before .before in
     let blank = put .before .before in
-    let is = sym (blank .before .before .sent .given .1) in
-    (ap (λ (s : Sent). length (unitsSent s)) is
-    , put .put-two2 .ensures
-    ∙ ap (λ (b : AccessUnit). accessUnitBytes (blank .before .before .sent .given .0 .0) ++ accessUnitBytes b) (blank .blank3 .ensures)
-    ∙ ap (λ (s : Sent). sentBytes (unitsSent s)) is)
+    let is = sym (blank .before .before .sent .given .1) in (
+      ap (λ (s : Sent). length (unitsSent s)) is,
+      put .put-two2 .ensures
+          ∙ ap (λ (b : AccessUnit). accessUnitBytes (blank .before .before .sent .given .0 .0) ++ accessUnitBytes b) (blank .blank3 .ensures)
+          ∙ ap (λ (s : Sent). sentBytes (unitsSent s)) is,
+    )
 
 two : tie.Need-returns-3
 two c =
