@@ -1,2 +1,3 @@
 pub mod Records
 pub mod Passages
+pub mod Rows

@@ -1,9 +1,13 @@
 -- The definitions of reading and writing check in the order of RULES.
 -- Assumes nothing.
 use Prim.Native.Nat.{ℕ, zero, suc, _+_}
-use mathlib.Core.Path.{_≡_, refl}
+use mathlib.Core.Path.{_≡_, _∙_, ap, sym, refl}
 use mathlib.Core.List.{List, [], _∷_}
-use Rattle.refusal.specs.Checks.{first}
+use lib.Dec.{ltb}
+use Rattle.refusal.specs.declared.Verdict.{Verdict}
+use Rattle.refusal.specs.declared.Reason.the-variants.{TooLong, NoRoom}
+use Rattle.refusal.specs.declared.Item.the-variants.{Whole}
+use Rattle.refusal.specs.Checks.{refuseIf, andThen, first}
 use Rattle.refusal.proofs.Checks.{andThen-assoc, andThen-last}
 use Rattle.refusal.proofs.Sequence.{first-append}
 use Rattle.stuffing.proofs.Zeros.{zero-order}
@@ -12,7 +16,7 @@ use Rattle.scte20.specs.declared.CaptionUnit.{CaptionUnit}
 use Rattle.scte20.specs.Rules.{recordVerdict}
 use Rattle.scte20.specs.Reading.{missing, constructAt, markerVerdict, constructsVerdict, sampledVerdict, restVerdict, headVerdict, flagVerdict, contentVerdict}
 use Rattle.scte20.specs.Writing.{wholeVerdict, rangeVerdict, recordsVerdict, valueVerdict, writeVerdict}
-use Rattle.scte20.specs.Order.{constructsChecks, restChecks, flagChecks, readingChecks, recordsChecks, writingChecks}
+use Rattle.scte20.specs.Order.{constructsChecks, restChecks, flagChecks, readingChecks, recordsChecks, ownChecks, writingChecks}
 
 -- READING
 
@@ -41,6 +45,11 @@ unfolding rangeVerdict recordVerdict
 records-order before at [] = refl
 records-order before at (r ∷ rs) = simp (records-order (r ∷ before) (at + 26) rs, andThen-assoc, andThen-last)
 
-pub writing-order : (u : CaptionUnit) (size room : ℕ) → writeVerdict u size room ≡ first (writingChecks u size room)
+pub value-order : (u : CaptionUnit) → valueVerdict u ≡ first (ownChecks u)
 unfolding valueVerdict wholeVerdict
-writing-order u size room = simp (records-order, first-append, andThen-assoc, andThen-last)
+value-order u = simp (records-order, andThen-assoc, andThen-last)
+
+pub writing-order : (u : CaptionUnit) (size room : ℕ) → writeVerdict u size room ≡ first (writingChecks u size room)
+writing-order u size room =
+    let fit = refuseIf (ltb 16384 size) TooLong Whole ∷ refuseIf (ltb room size) NoRoom Whole ∷ [] in
+    ap (λ (v : Verdict). andThen v (first fit)) (value-order u) ∙ sym (first-append (ownChecks u) fit)

@@ -105,9 +105,9 @@ recordsChecks before at (r ∷ rs) =
     -- 7, 8, 8, 9
     ∷ (recordChecks at before r ++ recordsChecks (r ∷ before) (at + 26) rs)
 
--- a unit that is written, where the result has `size` bytes and the output `room`
-abbrev pub writingChecks : CaptionUnit → ℕ → ℕ → List Verdict
-writingChecks u size room =
+-- a value that is to be written, whatever the result has to fit
+abbrev pub ownChecks : CaptionUnit → List Verdict
+ownChecks u =
     -- 15: n above 31
     refuseIf (ltb 31 (u .n)) (Unholdable excess.Count) Whole
     -- 15: reserved above 127
@@ -121,9 +121,14 @@ writingChecks u size room =
     -- 15: reserved and flag make 09 or 0A
     ∷ refuseIf (groupType (flagByte (u .reserved) (u .«vbi_data_flag»))) (Unholdable excess.GroupType) Whole
     -- 15, 7, 8, 8, 9: each record, in order. Entries beyond n are not looked at
-    ∷ (recordsChecks [] 21 (held u .records)
+    ∷ recordsChecks [] 21 (held u .records)
+
+-- a unit that is written, where the result has `size` bytes and the output `room`
+abbrev pub writingChecks : CaptionUnit → ℕ → ℕ → List Verdict
+writingChecks u size room =
+    ownChecks u
     -- 1: the result is longer than 16,384 bytes
     ++ (refuseIf (ltb 16384 size) TooLong Whole
     -- 14: the output is shorter than the result
     ∷ refuseIf (ltb room size) NoRoom Whole
-    ∷ []))
+    ∷ [])
