@@ -44,7 +44,7 @@ records-over v s i few end =
 
 -- 21
 
-and-false : (t : Bool) → (t && false) ≡ false
+pub and-false : (t : Bool) → (t && false) ≡ false
 and-false true = refl
 and-false false = refl
 

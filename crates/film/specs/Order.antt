@@ -2,6 +2,7 @@
 -- and when a picture is accepted.
 use Prim.Native.Nat.{ℕ, _+_, _≤_}
 use mathlib.Core.Path.{_≡_}
+use mathlib.Core.Logic.{_⊎_}
 use mathlib.Core.Bool.{Bool, not, _&&_}
 use mathlib.Core.List.{List, [], _∷_, _++_}
 use lib.Dec.{eqb, ltb}
@@ -11,10 +12,13 @@ use Rattle.refusal.specs.declared.Verdict.{Verdict}
 use Rattle.refusal.specs.declared.Reason.the-variants.{Unholdable, NotShown, OtherLine}
 use Rattle.refusal.specs.declared.Excess.the-variants.{SetLine}
 use Rattle.refusal.specs.declared.Item.the-variants.{Whole, Bit}
+use Rattle.refusal.specs.declared.Refusal.{Refusal}
 use Rattle.refusal.specs.Checks.{refuseIf}
+use Rattle.refusal.specs.Answers.{refused}
 use Rattle.scte20.specs.declared.Record.{Record}
 use Rattle.scte20.specs.declared.CaptionUnit.{CaptionUnit}
 use Rattle.scte20.specs.Value.{fieldOf, held, LegalCaptionUnit}
+use Rattle.scte20.specs.Writing.{ForValue}
 use Rattle.scte20.specs.Order.{ownChecks}
 use Rattle.film.specs.declared.Shown.{Shown}
 use Rattle.film.specs.Display.{fieldsShown}
@@ -41,6 +45,10 @@ pictureChecks how u =
     ++ (repeatChecks (how .«repeat_first_field») 21 (held u .records)
     -- 22: a record on another line
     ++ lineChecks (how .«line_offset») 21 (held u .records)))
+
+-- what a picture that is not carried is refused with: 15, 7, 8, 9, 21 or 22
+abbrev pub ForPicture : Refusal → Type 0
+ForPicture r = ForValue r ⊎ ((r ≡ refused 21 0) ⊎ (r ≡ refused 22 0))
 
 -- a picture that is carried: a line that can be, a value that can be written, and each record of a field that is shown
 -- and on that line

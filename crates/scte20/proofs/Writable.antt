@@ -171,7 +171,7 @@ records-give before at (r ∷ rs) =
     (andThen-gives ForValue _ _ (record-gives at before r)
     (andThen-gives ForValue _ _ (records-give (r ∷ before) (at + 26) rs) (inl refl)))
 
-value-gives : (u : CaptionUnit) → Gives ForValue (valueVerdict u)
+pub value-gives : (u : CaptionUnit) → Gives ForValue (valueVerdict u)
 unfolding valueVerdict
 value-gives u = andThen-gives ForValue _ _ (whole-gives ForValue (inl refl) u) (records-give [] 21 (held u .records))
 
