@@ -5,7 +5,7 @@ use native.Mathlib.Omega.{arith}
 use mathlib.Core.Path.{_≡_, _∙_, ap, sym, refl}
 use mathlib.Core.Logic.{_↔_, _⊎_, inl, inr, ⊎-elim}
 use mathlib.Core.Bool.{Bool, true, false, not, _&&_, true≢false}
-use mathlib.Core.List.{List, [], _∷_}
+use mathlib.Core.List.{List, [], _∷_, _++_}
 use borrow.Author.Tests.{eqb-true, eq-eqb, ne-eqb, le-ltb}
 use lib.Dec.{eqb, ltb}
 use lib.ListN.{length}
@@ -13,7 +13,7 @@ use Rattle.lists.specs.Each.{Each}
 use Rattle.lists.proofs.Each.{each-map, each-both}
 use Rattle.refusal.specs.declared.Verdict.{Verdict}
 use Rattle.refusal.specs.declared.Verdict.the-variants.{Accepted}
-use Rattle.refusal.proofs.Checks.{accepted-andThen, andThen-accepted, accepted-refuseIf, refuseIf-accepted, accepted-equal}
+use Rattle.refusal.proofs.Checks.{accepted-andThen, andThen-accepted, accepted-refuseIf, refuseIf-accepted, accepted-equal, both-hold}
 use Rattle.scte20.specs.declared.Record.{Record}
 use Rattle.scte20.specs.declared.CaptionUnit.{CaptionUnit}
 use Rattle.scte20.specs.Value.{fieldOf, held, Typed, Ranged, LegalRecord, LegalCaptionUnit, Follows, InOrder}
@@ -26,6 +26,7 @@ use Rattle.film.specs.declared.State.{State}
 use Rattle.film.specs.declared.Shown.{Shown}
 use Rattle.film.specs.declared.Answer.{Answer}
 use Rattle.film.specs.Display.{fieldsShown, isAt, pick, slotOf, pictureEvents}
+use Rattle.film.specs.Frames.{halfOf}
 use Rattle.film.specs.Calls.{repeatVerdict, lineVerdict, pictureVerdict, Shows}
 use Rattle.film.specs.Order.{Carried}
 use Rattle.film.proofs.Records.{and-false}
@@ -154,3 +155,27 @@ pub fields-carried : (how : Shown) (u : CaptionUnit) → Carried how u
 fields-carried how u c =
     each-both LegalRecord (λ (r : Record). fieldOf r ≤ length (fieldsShown (how .«repeat_first_field»))) _ (λ r legal shown. (legal .allowed, shown)) (held u .records)
     (c .value .value .each) (c .shown)
+
+-- and a slot holds nothing that no record has
+module _ (line field : ℕ) (a b : ℕ) where
+  abbrev Found : List Record → Type 0
+  Found rs =
+      (before : List Record) × (r : Record) × (after : List Record)
+      × (rs ≡ before ++ (r ∷ after)) × (fieldOf r ≡ field) × (r .«line_offset» ≡ line) × (Pair (r .«cc_data_1») (r .«cc_data_2») ≡ Pair a b)
+
+  found-if : (r : Record) (rs : List Record) → (t : Bool) → isAt line field r ≡ t
+      → pick t (Pair (r .«cc_data_1») (r .«cc_data_2»)) (slotOf line field rs) ≡ Pair a b
+      → (slotOf line field rs ≡ Pair a b → Found rs) → Found (r ∷ rs)
+  found-if r rs true is e next =
+      let both = both-hold (eqb (fieldOf r) field) (eqb (r .«line_offset») line) is in
+      ([], r, rs, refl, eqb-true _ _ (both .0), eqb-true _ _ (both .1), e)
+  found-if r rs false is e next =
+      let (before, x, after, cut, same-field, same-line, same-bytes) = next e in
+      (r ∷ before, x, after, ap (λ (xs : List Record). r ∷ xs) cut, same-field, same-line, same-bytes)
+
+  none-found : Invalid ≡ Pair a b → ⊥
+  none-found e = let no : ⊥ = omega (arith, ap (λ (s : Slot). halfOf s .«cc_valid») e) in no
+
+  pub slot-found : (rs : List Record) → slotOf line field rs ≡ Pair a b → Found rs
+  slot-found [] e = absurd (none-found e)
+  slot-found (r ∷ rs) e = found-if r rs (isAt line field r) refl e (slot-found rs)

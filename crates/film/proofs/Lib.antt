@@ -4,3 +4,8 @@ pub mod Rows
 pub mod Sequence
 pub mod Answering
 pub mod Carrying
+pub mod Running
+pub mod Legal
+pub mod Sides
+pub mod Determined
+pub mod Theorems

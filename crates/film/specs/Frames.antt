@@ -64,6 +64,16 @@ unitOf (both a b) = accessUnit a b
 unitOf (odd-alone a) = accessUnit a Invalid
 unitOf (even-alone b) = accessUnit Invalid b
 
+-- the two fields of an access unit, and one that is invalid and zero
+abbrev pub fieldOne : AccessUnit → Half
+fieldOne u = record { «cc_valid» = u .«cc_valid_1»; «data_1» = u .«field1_data1»; «data_2» = u .«field1_data2» }
+
+abbrev pub fieldTwo : AccessUnit → Half
+fieldTwo u = record { «cc_valid» = u .«cc_valid_2»; «data_1» = u .«field2_data1»; «data_2» = u .«field2_data2» }
+
+abbrev pub blank : Half
+blank = record { «cc_valid» = 0; «data_1» = 0; «data_2» = 0 }
+
 abbrev pub unitsOf : List Event → List AccessUnit
 unitsOf es = map unitOf (framesOf es)
 
