@@ -90,7 +90,7 @@ accepted-carried how u typed e =
       on-line = accepted-lines (how .«line_offset») 21 (held u .records) (checked .lines);
     }
 
-carried-accepted : (how : Shown) (u : CaptionUnit) → Typed u → Carried how u → pictureVerdict how u ≡ Accepted
+pub carried-accepted : (how : Shown) (u : CaptionUnit) → Typed u → Carried how u → pictureVerdict how u ≡ Accepted
 unfolding pictureVerdict
 carried-accepted how u typed c =
     andThen-accepted _ _ (refuseIf-accepted _ _ _ (le-ltb 31 (how .«line_offset») (c .line)))

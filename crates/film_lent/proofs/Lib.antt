@@ -1,3 +1,5 @@
 pub mod Places
 pub mod Left
 pub mod States
+pub mod Calling
+pub mod Theorems

@@ -2,7 +2,7 @@
 -- Assumes nothing.
 use Prim.Native.Nat.{ℕ}
 use native.Mathlib.Omega.{arith}
-use mathlib.Core.Path.{_≡_, _∙_, ap, sym, refl}
+use mathlib.Core.Path.{_≡_, _∙_, ap, subst, sym, refl}
 use mathlib.Core.Bool.{Bool, true, false, _&&_}
 use mathlib.Core.List.{List, [], _∷_}
 use borrow.Author.Tests.{eqb-true}
@@ -52,4 +52,35 @@ module _ (w v a b : ℕ) where
   chosen-is false this other p q = q
 
   from-is : is (stateFrom w v a b) (four w v a b)
-  from-is = ?
+  unfolding is stateFrom
+  from-is =
+      chosen-is _ _ _ pair-is
+      (chosen-is _ _ _ (λ z. chosen-is _ _ _ (λ e. zeros 0 z e) (chosen-is _ _ _ (λ e. zeros 1 z e) tt)) tt)
+
+-- an array of four places
+four-places : (s : List ℕ) → length s ≡ 4 → four (getD s 0 0) (getD s 1 0) (getD s 2 0) (getD s 3 0) ≡ s
+unfolding four
+four-places [] e = let no : ⊥ = omega (arith, e) in absurd no
+four-places (a ∷ []) e = let no : ⊥ = omega (arith, e) in absurd no
+four-places (a ∷ b ∷ []) e = let no : ⊥ = omega (arith, e) in absurd no
+four-places (a ∷ b ∷ c ∷ []) e = let no : ⊥ = omega (arith, e) in absurd no
+four-places (a ∷ b ∷ c ∷ d ∷ []) e = refl
+four-places (a ∷ b ∷ c ∷ d ∷ x ∷ s) e = let no : ⊥ = omega (arith, e) in absurd no
+
+pub state-only : (s : State) (bytes : List ℕ) → length bytes ≡ 4 → stateIn bytes ≡ kept.State s → stateBytes s ≡ bytes
+unfolding is
+state-only s bytes places told =
+    subst (λ (k : Kept). is k (four (getD bytes 0 0) (getD bytes 1 0) (getD bytes 2 0) (getD bytes 3 0))) told
+    (from-is (getD bytes 0 0) (getD bytes 1 0) (getD bytes 2 0) (getD bytes 3 0))
+    ∙ four-places bytes places
+
+isState : Kept → ℕ
+isState (kept.State s) = 1
+isState kept.None = 0
+
+pub kept-apart : (s : State) → kept.State s ≡ kept.None → ⊥
+unfolding isState
+kept-apart s e = let no : _≡_ {A = ℕ} 1 0 = ap isState e in omega (arith, no)
+
+pub state-none : (bytes : List ℕ) → stateIn bytes ≡ kept.None → (s : State) → stateBytes s ≡ bytes → ⊥
+state-none bytes none s e = kept-apart s (sym (state-back s) ∙ ap stateIn e ∙ none)

@@ -92,7 +92,6 @@ none c =
     let four = five .before .before in
     let three = four .before .before in
     simp (
-      no-pair (three .before .before),
       eq-eqb _ _ (three .if3 .left),
       eq-eqb _ _ (four .if4 .left),
       eq-eqb _ _ (five .if5 .left),
