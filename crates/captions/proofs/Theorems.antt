@@ -4,7 +4,8 @@
 -- `captions_unit_write` (`Writes`), `captions_area_replace` (`Replaces`) and, for GA94, `captions_ga94_read`
 -- (`Ga94Reads`), `captions_ga94_write` and `captions_ga94_replace`; those of `subtitling` for `captions_packet_read`
 -- and `captions_packet_write`; those of `line21` for `captions_payload_read` and, by `as-written`, for
--- `captions_payload_write`. Here stands what the boundary adds and, for the ten calls, of plain numbers and lent bytes:
+-- `captions_payload_write`; those of `film_lent` for `captions_film_picture` (`PictureInto`) and `captions_film_close`
+-- (`CloseInto`). Here stands what the boundary adds and, for the calls of the carriages, of plain numbers and lent bytes:
 -- when each succeeds, both round trips, and that two answers are equal. When a value fits is said in specs/Arguments.
 -- How to read it: docs/NOTATION.md.
 -- Assumes nothing.
@@ -44,6 +45,8 @@ use Rattle.line21.specs.Lent.{payloadIn}
 use Rattle.line21.specs.Lent as payload-reading
 use Rattle.line21.specs.Writing as payload-writing
 use Rattle.line21.proofs.Theorems as payloads
+use Rattle.film_lent.specs.declared.Head as film
+use Rattle.film_lent.specs.Lent.{PictureInto, CloseInto}
 use Rattle.captions.specs.declared.UnitHead.{UnitHead}
 use Rattle.captions.specs.declared.Ga94Head.{Ga94Head}
 use Rattle.captions.specs.Calls.{AreaReads, numbersIn, ga94HeadIn, Ga94Reads, packetIn, PayloadWrites}
@@ -305,3 +308,13 @@ pub payload-write-determined : (flags m : ℕ) (lent out : List ℕ) (a : Writte
     → (b : Written) (end : List ℕ) → PayloadWrites flags m lent out a exit → PayloadWrites flags m lent out b end
     → (a ≡ b) × (exit ≡ end)
 payload-write-determined = determined.payload-write-determined
+
+pub film-picture-determined : (film : List ℕ) (top repeat line : ℕ) (v : Numbers) (records lent : List ℕ)
+    → (a : film.Head) (exit end : List ℕ) (b : film.Head) (out fin : List ℕ)
+    → PictureInto film top repeat line (unitIn v records) lent a exit end
+    → PictureInto film top repeat line (unitIn v records) lent b out fin → (a ≡ b) × (exit ≡ out) × (end ≡ fin)
+film-picture-determined = determined.film-picture-determined
+
+pub film-close-determined : (film lent : List ℕ) (a : film.Head) (exit end : List ℕ) (b : film.Head) (out fin : List ℕ)
+    → CloseInto film lent a exit end → CloseInto film lent b out fin → (a ≡ b) × (exit ≡ out) × (end ≡ fin)
+film-close-determined = determined.film-close-determined

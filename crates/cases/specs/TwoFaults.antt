@@ -1,12 +1,13 @@
 -- Inputs with two faults, and which of them decides: RULES, "Order of checks". A row names the call, its input, the
 -- reason of the fault that decides, its number and its place. The reason tells apart what shares a number. Writing has
--- place 0.
+-- place 0, and so has film.
 use Prim.Native.Nat.{ℕ}
 use mathlib.Core.Path.{_≡_}
+use mathlib.Core.Bool.{Bool, true, false}
 use mathlib.Core.List.{List, [], _∷_, _++_}
 use lib.ListN.{length, replicate, take}
 use Rattle.refusal.specs.declared.Reason.{Reason}
-use Rattle.refusal.specs.declared.Reason.the-variants.{TooLong, NoStart, StartCode, SecondUnit, Ends, Unfixed, FieldNumberZero, DescriptorLine, FieldFalls, LineDoesNotRise, FifthPriority, SampledVideo, WordRange, WordParity, SdpChecksum, Unfit, Unholdable, AdditionalData}
+use Rattle.refusal.specs.declared.Reason.the-variants.{TooLong, NoStart, StartCode, SecondUnit, Ends, Unfixed, FieldNumberZero, DescriptorLine, FieldFalls, LineDoesNotRise, FifthPriority, SampledVideo, WordRange, WordParity, SdpChecksum, Unfit, Unholdable, AdditionalData, NotShown, OtherLine}
 use Rattle.refusal.specs.declared.Fixed.the-variants as fixed
 use Rattle.refusal.specs.declared.Misfit.the-variants as misfit
 use Rattle.refusal.specs.declared.Excess.the-variants as excess
@@ -32,6 +33,8 @@ use Rattle.line21.specs.Writing as payloads
 use Rattle.sdp.specs.Value as sdp
 use Rattle.subtitling.specs.Reading.{packetVerdict}
 use Rattle.subtitling.specs.Writing as packets
+use Rattle.film.specs.declared.Shown.{Shown}
+use Rattle.film.specs.Calls.{pictureVerdict}
 use Rattle.cases.specs.Table.{marked, q, unit}
 
 -- a call with its input, which for writing and replacing has the room of the output last; the reason; the number; the
@@ -43,6 +46,7 @@ pub data FaultCase : Type 0 where
   writeUnit : (kind : Kind) → kinds.CaptionUnit kind → ℕ → Reason → ℕ → FaultCase
   writePacket : sdp.Sdp → ℕ → Reason → ℕ → FaultCase
   writePayload : Payload → ℕ → Reason → ℕ → FaultCase
+  film : Shown → CaptionUnit → Reason → ℕ → FaultCase
   replace : (kind : Kind) → List ℕ → kinds.CaptionUnit kind → ℕ → Reason → ℕ → ℕ → FaultCase
 
 abbrev why : Verdict → List Reason
@@ -61,6 +65,7 @@ Decided (writeUnit kind u room reason number) =
     Decides (kinds.writeVerdict kind u (length (unitBytes kind (kinds.held kind u))) room) reason number 0
 Decided (writePacket v room reason number) = Decides (packets.valueVerdict v room) reason number 0
 Decided (writePayload p room reason number) = Decides (payloads.valueVerdict p room) reason number 0
+Decided (film how u reason number) = Decides (pictureVerdict how u) reason number 0
 Decided (replace kind s u room reason number place) = Decides (replaceVerdict kind s u room) reason number place
 
 -- A: one legal record
@@ -156,6 +161,10 @@ two counter x y = record { counter = counter; slots = x ∷ y ∷ replicate 3 sd
 -- a payload of m units
 abbrev payloadOf : ℕ → List AccessUnit → Payload
 payloadOf m us = record { flags = 0; m = m; units = us }
+
+-- a picture that shows its top field first, and whether the first is repeated; the set line
+abbrev shown : Bool → ℕ → Shown
+shown repeat line = record { «top_field_first» = true; «repeat_first_field» = repeat; «line_offset» = line }
 
 abbrev pub two-faults : List FaultCase
 two-faults =
@@ -312,6 +321,25 @@ two-faults =
     ∷ writePayload (payloadOf 292 (unit 0 0 64 0 0 0 0 ∷ [])) 0 (Unholdable excess.Count) 15
     -- 15 and 14: a padding of 64, and no room
     ∷ writePayload (payloadOf 1 (unit 0 0 64 0 0 0 0 ∷ [])) 0 (Unholdable excess.Padding) 15
+    -- CARRYING A FILM PICTURE
+    -- 15 and 15: a set line of 32, and a record of priority 4
+    ∷ film (shown true 32) (value (caption 4 1 10 ∷ []) 0) (Unholdable excess.SetLine) 15
+    -- 15 and 7: a set line of 32, and a record of field 0
+    ∷ film (shown true 32) (value (caption 0 0 10 ∷ []) 0) (Unholdable excess.SetLine) 15
+    -- 15 and 21: z 16,385, and a record of field 3 where two fields are shown
+    ∷ film (shown false 11) (value (caption 0 3 11 ∷ []) 16385) (Unholdable excess.Stuffing) 15
+    -- 7 and 22: a record on another line, and field 0 in the next
+    ∷ film (shown true 11) (value (caption 0 1 10 ∷ caption 0 0 11 ∷ []) 0) FieldNumberZero 7
+    -- 8 and 21: field 3 where two fields are shown, and a field that falls in the next record
+    ∷ film (shown false 11) (value (caption 0 3 11 ∷ caption 0 2 11 ∷ []) 0) FieldFalls 8
+    -- 9 and 22: a fifth priority 0, and four records on other lines
+    ∷ film (shown true 11) (value (five []) 0) FifthPriority 9
+    -- 21 and 22: a record on another line, and behind it one of field 3 where two fields are shown
+    ∷ film (shown false 11) (value (caption 0 1 10 ∷ caption 0 3 11 ∷ []) 0) NotShown 21
+    -- 21 and 22: one record of field 3, where two fields are shown, on another line
+    ∷ film (shown false 11) (value (caption 0 3 10 ∷ []) 0) NotShown 21
+    -- 22 and no 21: the same where the first field is repeated
+    ∷ film (shown true 11) (value (caption 0 3 10 ∷ []) 0) OtherLine 22
     -- REPLACING
     -- 18 and 15: an area whose caption unit, behind a foreign one, has its marker 0, and a value of z 16,385
     ∷ replace Scte20 (foreign ++ j) (value [] 16385) 0 (Unfixed fixed.Marker) 18 118
