@@ -5,8 +5,9 @@
 -- (`Ga94Reads`), `captions_ga94_write` and `captions_ga94_replace`; those of `subtitling` for `captions_packet_read`
 -- and `captions_packet_write`; those of `line21` for `captions_payload_read` and, by `as-written`, for
 -- `captions_payload_write`; those of `film_lent` for `captions_film_picture` (`PictureInto`) and `captions_film_close`
--- (`CloseInto`). Here stands what the boundary adds and, for the calls of the carriages, of plain numbers and lent bytes:
--- when each succeeds, both round trips, and that two answers are equal. When a value fits is said in specs/Arguments.
+-- (`CloseInto`). Here stands what the boundary adds and, for the calls of the carriages, of plain numbers and lent
+-- bytes: when each succeeds, both round trips, and that two answers are equal. When a value fits is said in
+-- specs/Arguments.
 -- How to read it: docs/NOTATION.md.
 -- Assumes nothing.
 use Prim.Native.Nat.{ℕ, _*_, _≤_, _<_}

@@ -1,12 +1,12 @@
 -- The theorems of film (docs/RULES.md, "Demands" and "Film"). What they speak of is defined in specs/: what a picture
--- shows, from its value alone, in Display; which access units go out for a row of slots, and which slot waits, in Frames;
--- what one call answers in Calls; its checks, as one list, and when a picture is carried, in Order; a run of calls in
--- Runs. Which side a display field has is said in crate `fields`. How to read it: docs/NOTATION.md.
+-- shows, from its value alone, in Display; which access units go out for a row of slots, and which slot waits, in
+-- Frames; what one call answers in Calls; its checks, as one list, and when a picture is carried, in Order; a run of
+-- calls in Runs. Which side a display field has is said in crate `fields`. How to read it: docs/NOTATION.md.
 --
 -- The contract of `picture` (crate film_picture) is the promise `Shows`, and that of `close` is `Closes`.
 -- `Shows s how u r`: in state s, to a picture with the caption unit u that is shown as `how` says, the answer is r.
--- `Closes s r`: closing in state s answers r. So each theorem speaks of every call, and those over runs of every list of
--- calls with answers that keep these promises. Assumes nothing.
+-- `Closes s r`: closing in state s answers r. So each theorem speaks of every call, and those over runs of every list
+-- of calls with answers that keep these promises. Assumes nothing.
 use Prim.Native.Nat.{ℕ, _≤_}
 use mathlib.Core.Path.{_≡_}
 use mathlib.Core.Logic.{_↔_}
@@ -48,8 +48,8 @@ use Rattle.film.proofs.Determined as determined
 
 -- ONE CALL
 
--- A picture is accepted exactly when it can be carried: the set line is one, the caption unit's value is legal, and each
--- record is of a field that is shown and on that line.
+-- A picture is accepted exactly when it can be carried: the set line is one, the caption unit's value is legal, and
+-- each record is of a field that is shown and on that line.
 pub picture-exactly : (s : State) (how : Shown) (u : CaptionUnit) (r : Answer) → Shows s how u r
     → r .refusal .number ≡ 0 ↔ Carried how u
 picture-exactly = carrying.picture-exactly
@@ -137,8 +137,9 @@ pub run-sends : (steps : List Step) → Run Nothing steps
     → (sentIn steps ≡ unitsOf (rowOf steps)) × (after Nothing steps ≡ waitingOf (rowOf steps))
 run-sends = running.run-sends
 
--- So each slot leaves once, in display order and on its own side, or waits: in some frames, which are what was sent, the
--- slots side by side in the order sent, followed by the one that waits, are exactly those of the accepted pictures.
+-- So no slot is lost, doubled, turned or moved to the other side: there are frames, which are what was sent, whose
+-- slots in the order sent, and behind them the one that waits, are exactly those of the accepted pictures in display
+-- order.
 pub run-slots : (steps : List Step) → Run Nothing steps
     → (frames : List Frame) × (sentIn steps ≡ map unitOf frames)
     × (slotsSent frames ++ pending (after Nothing steps) ≡ displayed steps)

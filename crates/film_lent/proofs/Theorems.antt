@@ -1,6 +1,6 @@
--- The theorems of film over lent memory, as the C interface has it (docs/RULES.md, "Film"). What they speak of is defined
--- in specs/Lent: a state as four bytes, the access units of a call in an array of two places, and what a call leaves of
--- both. How to read it: docs/NOTATION.md.
+-- The theorems of film over lent memory, as the C interface has it (docs/RULES.md, "Film"). What they speak of is
+-- defined in specs/Lent: a state as four bytes, the access units of a call in an array of two places, and what a call
+-- leaves of both. How to read it: docs/NOTATION.md.
 --
 -- The contracts of `picture_into` and `close_into` are the promises `PictureInto` and `CloseInto`: the bytes `film` and
 -- the array `lent` at entry, what is asked, the answer r, and the bytes `exit` and the array `end` at exit.
