@@ -15,7 +15,7 @@ use Rattle.subtitling.specs.Writing as packets
 use Rattle.subtitling.proofs.Theorems as subtitling
 use Rattle.line21.specs.Lent.{payloadIn}
 use Rattle.line21.proofs.Theorems as payloads
-use Rattle.film_lent.specs.declared.Head as film
+use Rattle.film_lent.specs.declared.Head as film-lent
 use Rattle.film_lent.specs.Lent.{PictureInto, CloseInto}
 use Rattle.film_lent.proofs.Theorems as films
 use Rattle.captions.specs.declared.UnitHead.{UnitHead}
@@ -51,11 +51,11 @@ payload-write-determined flags m lent out a exit b end p q = ⊎-elim small larg
     large : 255 < flags → (a ≡ b) × (exit ≡ end)
     large h = wrote-determined _ _ _ _ _ (p .beyond h) b end (q .beyond h)
 
-pub film-picture-determined : (film : List ℕ) (top repeat line : ℕ) (v : Numbers) (records lent : List ℕ) (a : film.Head) (exit end : List ℕ) (b : film.Head) (out fin : List ℕ)
+pub film-picture-determined : (film : List ℕ) (top repeat line : ℕ) (v : Numbers) (records lent : List ℕ) (a : film-lent.Head) (exit end : List ℕ) (b : film-lent.Head) (out fin : List ℕ)
     → PictureInto film top repeat line (unitIn v records) lent a exit end → PictureInto film top repeat line (unitIn v records) lent b out fin
     → (a ≡ b) × (exit ≡ out) × (end ≡ fin)
 film-picture-determined film top repeat line v records = films.picture-into-determined film top repeat line (unitIn v records)
 
-pub film-close-determined : (film lent : List ℕ) (a : film.Head) (exit end : List ℕ) (b : film.Head) (out fin : List ℕ)
+pub film-close-determined : (film lent : List ℕ) (a : film-lent.Head) (exit end : List ℕ) (b : film-lent.Head) (out fin : List ℕ)
     → CloseInto film lent a exit end → CloseInto film lent b out fin → (a ≡ b) × (exit ≡ out) × (end ≡ fin)
 film-close-determined = films.close-into-determined

@@ -46,7 +46,7 @@ use Rattle.line21.specs.Lent.{payloadIn}
 use Rattle.line21.specs.Lent as payload-reading
 use Rattle.line21.specs.Writing as payload-writing
 use Rattle.line21.proofs.Theorems as payloads
-use Rattle.film_lent.specs.declared.Head as film
+use Rattle.film_lent.specs.declared.Head as film-lent
 use Rattle.film_lent.specs.Lent.{PictureInto, CloseInto}
 use Rattle.captions.specs.declared.UnitHead.{UnitHead}
 use Rattle.captions.specs.declared.Ga94Head.{Ga94Head}
@@ -311,11 +311,11 @@ pub payload-write-determined : (flags m : ℕ) (lent out : List ℕ) (a : Writte
 payload-write-determined = determined.payload-write-determined
 
 pub film-picture-determined : (film : List ℕ) (top repeat line : ℕ) (v : Numbers) (records lent : List ℕ)
-    → (a : film.Head) (exit end : List ℕ) (b : film.Head) (out fin : List ℕ)
+    → (a : film-lent.Head) (exit end : List ℕ) (b : film-lent.Head) (out fin : List ℕ)
     → PictureInto film top repeat line (unitIn v records) lent a exit end
     → PictureInto film top repeat line (unitIn v records) lent b out fin → (a ≡ b) × (exit ≡ out) × (end ≡ fin)
 film-picture-determined = determined.film-picture-determined
 
-pub film-close-determined : (film lent : List ℕ) (a : film.Head) (exit end : List ℕ) (b : film.Head) (out fin : List ℕ)
+pub film-close-determined : (film lent : List ℕ) (a : film-lent.Head) (exit end : List ℕ) (b : film-lent.Head) (out fin : List ℕ)
     → CloseInto film lent a exit end → CloseInto film lent b out fin → (a ≡ b) × (exit ≡ out) × (end ≡ fin)
 film-close-determined = determined.film-close-determined
