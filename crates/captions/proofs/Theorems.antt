@@ -316,6 +316,7 @@ pub film-picture-determined : (film : List ℕ) (top repeat line : ℕ) (v : Num
     → PictureInto film top repeat line (unitIn v records) lent b out fin → (a ≡ b) × (exit ≡ out) × (end ≡ fin)
 film-picture-determined = determined.film-picture-determined
 
-pub film-close-determined : (film lent : List ℕ) (a : film-lent.Head) (exit end : List ℕ) (b : film-lent.Head) (out fin : List ℕ)
+pub film-close-determined : (film lent : List ℕ) (a : film-lent.Head) (exit end : List ℕ)
+    → (b : film-lent.Head) (out fin : List ℕ)
     → CloseInto film lent a exit end → CloseInto film lent b out fin → (a ≡ b) × (exit ≡ out) × (end ≡ fin)
 film-close-determined = determined.film-close-determined
