@@ -4,6 +4,7 @@ use Prim.Native.Nat.{ℕ, _≤_}
 use native.Mathlib.Omega.{arith}
 use mathlib.Core.Path.{_≡_, _∙_, ap, subst, sym, refl}
 use mathlib.Core.Logic.{⊎-elim}
+use mathlib.Core.Bool.{Bool, true, false}
 use mathlib.Core.List.{List, [], _∷_, _++_}
 use lib.ListN.{length}
 use Rattle.refusal.specs.declared.Verdict.{Verdict}
@@ -28,8 +29,7 @@ use Rattle.film.specs.Display.{Event, closing, pictureEvents}
 use Rattle.film.specs.Frames.{unitsOf, waitingOf, pending}
 use Rattle.film.specs.Calls.{pictureVerdict, unitsSent, Told, told, toldOf, Shows, Closes}
 use Rattle.film.specs.Order.{pictureChecks, ForPicture}
-use Rattle.film.specs.Inside.{shownAll}
-use Rattle.film.proofs.Passages.{all-shown}
+use Rattle.film.proofs.Passages.{twoSent, threeSent, two-shown, three-shown}
 use Rattle.film.proofs.Sequence.{picture-order, picture-gives}
 
 refusal-of : (verdict : Verdict) (s : State) (es : List Event) → toldOf verdict s es .refusal ≡ refusalOf verdict
@@ -96,8 +96,12 @@ module _ (s : State) (how : Shown) (u : CaptionUnit) (r : Answer) (shows : Shows
       subst ForPicture (sym (told-refusal asked s row r (shows .answer)))
       (⊎-elim (λ e. absurd (n (verdict-told asked s row r (shows .answer) e))) (λ p. p) (picture-gives how u))
 
+few-sent : (repeat : Bool) (s : State) (how : Shown) (rs : List Record) → how .«repeat_first_field» ≡ repeat → length (unitsOf (pending s ++ pictureEvents how rs)) ≤ 2
+few-sent false s how rs e = subst (λ (us : List AccessUnit). length us ≤ 2) (two-shown s how rs e .0) (sent-few (twoSent s how rs))
+few-sent true s how rs e = subst (λ (us : List AccessUnit). length us ≤ 2) (three-shown s how rs e .0) (sent-few (threeSent s how rs))
+
 pub at-most-two : (s : State) (how : Shown) (rs : List Record) → length (unitsOf (pending s ++ pictureEvents how rs)) ≤ 2
-at-most-two s how rs = subst (λ (us : List AccessUnit). length us ≤ 2) (all-shown s how rs .0) (sent-few (shownAll (record { sent = sent.None; state = s }) how rs .sent))
+at-most-two s how rs = few-sent (how .«repeat_first_field») s how rs refl
 
 -- a closing
 closed-state : (s : State) → waitingOf (pending s ++ (closing ∷ [])) ≡ Nothing

@@ -13,7 +13,7 @@ use Rattle.film.specs.declared.Shown.{Shown}
 use Rattle.film.specs.declared.Sent.{Sent}
 use Rattle.film.specs.declared.Sent.the-variants as sent
 use Rattle.film.specs.declared.Half.{Half}
-use Rattle.film.specs.declared.Passage.{Passage}
+use Rattle.film.specs.declared.Passing.{Passing}
 use Rattle.film.specs.declared.Answer.{Answer}
 use Rattle.film.specs.Frames.{halfOf, accessUnit}
 use Rattle.film.specs.Calls.{pictureVerdict, unitsSent, Told, told, Shows, Closes}
@@ -51,8 +51,8 @@ close-determined s a b ra rb = told-same a b (ra ∙ sym rb)
 pub judge-determined : (how : Shown) (u : CaptionUnit) (a b : Verdict) → a ≡ pictureVerdict how u → b ≡ pictureVerdict how u → a ≡ b
 judge-determined how u a b ra rb = ra ∙ sym rb
 
-pub pass-determined : (p : Passage) (side : ℕ) (slot : Slot) (a b : Passage) → a ≡ passed p side slot → b ≡ passed p side slot → a ≡ b
-pass-determined p side slot a b ra rb = ra ∙ sym rb
+pub pass-determined : (s : State) (side : ℕ) (slot : Slot) (a b : Passing) → a ≡ passed s side slot → b ≡ passed s side slot → a ≡ b
+pass-determined s side slot a b ra rb = ra ∙ sym rb
 
 pub frame-determined : (odd even : Slot) (a b : AccessUnit) → a ≡ accessUnit odd even → b ≡ accessUnit odd even → a ≡ b
 frame-determined odd even a b ra rb = ra ∙ sym rb

@@ -2,9 +2,9 @@
 -- Assumes nothing.
 use Prim.Native.Nat.{ℕ, _≤_}
 use native.Mathlib.Omega.{arith}
-use mathlib.Core.Path.{_≡_, _∙_, ap, ap₂, sym, refl}
+use mathlib.Core.Path.{_≡_, _∙_, ap, ap₂, subst, sym, refl}
 use mathlib.Core.Bool.{Bool, true, false}
-use mathlib.Core.List.{List, [], _∷_, _++_}
+use mathlib.Core.List.{List, [], _∷_, _++_, map}
 use lib.ListN.{length}
 use Rattle.refusal.specs.declared.Verdict.{Verdict}
 use Rattle.refusal.specs.declared.Verdict.the-variants.{Accepted, Refused}
@@ -22,12 +22,12 @@ use Rattle.film.specs.declared.State.the-variants.{Nothing, Waiting}
 use Rattle.film.specs.declared.Shown.{Shown}
 use Rattle.film.specs.declared.Sent.{Sent}
 use Rattle.film.specs.declared.Sent.the-variants as sent
-use Rattle.film.specs.declared.Passage.{Passage}
+use Rattle.film.specs.declared.Passing.{Passing}
 use Rattle.film.specs.declared.Answer.{Answer}
-use Rattle.film.specs.Display.{Event, closing, pictureEvents}
+use Rattle.film.specs.Display.{Event, closing, fieldsShown, fieldEvent, pictureEvents}
 use Rattle.film.specs.Frames.{unitsOf, waitingOf, pending, accessUnit}
 use Rattle.film.specs.Calls.{repeatVerdict, lineVerdict, pictureVerdict, unitsSent, Told, told, toldOf}
-use Rattle.film.specs.Inside.{shownAll}
+use Rattle.film.specs.Inside.{shownField, added}
 
 -- what the checks let through
 pub record Checked (how : Shown) (u : CaptionUnit) : Type 0 where
@@ -51,36 +51,52 @@ accepted-checked how u e =
     }
 
 -- a picture's fields, with and without a slot that waits, are few enough to be gone through one by one
-module _ (line : ℕ) (rs : List Record) where
-  abbrev shown : Bool → Bool → Shown
-  shown top repeat = record { «top_field_first» = top; «repeat_first_field» = repeat; «line_offset» = line }
+module _ (s : State) (how : Shown) (rs : List Record) where
+  abbrev pub firstShown : Passing
+  firstShown = shownField s 1 how rs
 
-  abbrev start : State → Passage
-  start s = record { sent = sent.None; state = s }
+  abbrev pub secondShown : Passing
+  secondShown = shownField (firstShown .state) 2 how rs
 
-  Right : State → Bool → Bool → Type 0
-  Right s top repeat =
-      let row = pending s ++ pictureEvents (shown top repeat) rs in
-      let end = shownAll (start s) (shown top repeat) rs in
-      (unitsSent (end .sent) ≡ unitsOf row) × (end .state ≡ waitingOf row)
+  abbrev pub thirdShown : Passing
+  thirdShown = shownField (secondShown .state) 3 how rs
 
-  each-right : (s : State) (top repeat : Bool) → Right s top repeat
-  unfolding Right
-  each-right Nothing true true = (refl, refl)
-  each-right Nothing true false = (refl, refl)
-  each-right Nothing false true = (refl, refl)
-  each-right Nothing false false = (refl, refl)
-  each-right (Waiting a) true true = (refl, refl)
-  each-right (Waiting a) true false = (refl, refl)
-  each-right (Waiting a) false true = (refl, refl)
-  each-right (Waiting a) false false = (refl, refl)
+  abbrev pub twoSent : Sent
+  twoSent = added (added sent.None (firstShown .gone)) (secondShown .gone)
 
-pub all-shown : (s : State) (how : Shown) (rs : List Record)
-    → let row = pending s ++ pictureEvents how rs in
-    let end = shownAll (record { sent = sent.None; state = s }) how rs in
-    (unitsSent (end .sent) ≡ unitsOf row) × (end .state ≡ waitingOf row)
-unfolding Right
-all-shown s how rs = each-right (how .«line_offset») rs s (how .«top_field_first») (how .«repeat_first_field»)
+  abbrev pub threeSent : Sent
+  threeSent = added twoSent (thirdShown .gone)
+
+  -- what is sent, and what waits, is what the rule says of the row
+  abbrev Right : List Event → Sent → State → Type 0
+  Right row out end = (unitsSent out ≡ unitsOf (pending s ++ row)) × (end ≡ waitingOf (pending s ++ row))
+
+each-two : (s : State) (top repeat : Bool) (line : ℕ) (rs : List Record)
+    → let how : Shown = record { «top_field_first» = top; «repeat_first_field» = repeat; «line_offset» = line } in
+    Right s how rs (map (fieldEvent how rs) (fieldsShown false)) (twoSent s how rs) (secondShown s how rs .state)
+each-two Nothing true repeat line rs = (refl, refl)
+each-two Nothing false repeat line rs = (refl, refl)
+each-two (Waiting a) true repeat line rs = (refl, refl)
+each-two (Waiting a) false repeat line rs = (refl, refl)
+
+each-three : (s : State) (top repeat : Bool) (line : ℕ) (rs : List Record)
+    → let how : Shown = record { «top_field_first» = top; «repeat_first_field» = repeat; «line_offset» = line } in
+    Right s how rs (map (fieldEvent how rs) (fieldsShown true)) (threeSent s how rs) (thirdShown s how rs .state)
+each-three Nothing true repeat line rs = (refl, refl)
+each-three Nothing false repeat line rs = (refl, refl)
+each-three (Waiting a) true repeat line rs = (refl, refl)
+each-three (Waiting a) false repeat line rs = (refl, refl)
+
+module _ (s : State) (how : Shown) (rs : List Record) where
+  shown-as : (repeat : Bool) (out : Sent) (end : State) → how .«repeat_first_field» ≡ repeat
+      → Right s how rs (map (fieldEvent how rs) (fieldsShown repeat)) out end → Right s how rs (pictureEvents how rs) out end
+  shown-as repeat out end e right = subst (λ (t : Bool). Right s how rs (map (fieldEvent how rs) (fieldsShown t)) out end) (sym e) right
+
+  pub two-shown : how .«repeat_first_field» ≡ false → Right s how rs (pictureEvents how rs) (twoSent s how rs) (secondShown s how rs .state)
+  two-shown e = shown-as false (twoSent s how rs) (secondShown s how rs .state) e (each-two s (how .«top_field_first») (how .«repeat_first_field») (how .«line_offset») rs)
+
+  pub three-shown : how .«repeat_first_field» ≡ true → Right s how rs (pictureEvents how rs) (threeSent s how rs) (thirdShown s how rs .state)
+  three-shown e = shown-as true (threeSent s how rs) (thirdShown s how rs .state) e (each-three s (how .«top_field_first») (how .«repeat_first_field») (how .«line_offset») rs)
 
 -- the answer of a refused call
 pub refuses : (verdict : Verdict) (refusal : Refusal) (s : State) (es : List Event) → refusal ≡ refusalOf verdict → (refusal .number ≡ 0 → ⊥)

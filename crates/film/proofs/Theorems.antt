@@ -29,7 +29,7 @@ use Rattle.film.specs.declared.State.the-variants.{Nothing}
 use Rattle.film.specs.declared.Shown.{Shown}
 use Rattle.film.specs.declared.Sent.the-variants.{None}
 use Rattle.film.specs.declared.Half.{Half}
-use Rattle.film.specs.declared.Passage.{Passage}
+use Rattle.film.specs.declared.Passing.{Passing}
 use Rattle.film.specs.declared.Answer.{Answer}
 use Rattle.film.specs.Display.{closing, fieldsShown, slotOf, pictureEvents}
 use Rattle.film.specs.Frames.{Frame, both, odd-alone, even-alone, waitingOf, pending, halfOf, accessUnit, unitOf}
@@ -170,8 +170,8 @@ judge-determined = determined.judge-determined
 pub close-determined : (s : State) (a b : Answer) → Closes s a → Closes s b → a ≡ b
 close-determined = determined.close-determined
 
-pub pass-determined : (p : Passage) (side : ℕ) (slot : Slot) (a b : Passage)
-    → a ≡ passed p side slot → b ≡ passed p side slot → a ≡ b
+pub pass-determined : (s : State) (side : ℕ) (slot : Slot) (a b : Passing)
+    → a ≡ passed s side slot → b ≡ passed s side slot → a ≡ b
 pass-determined = determined.pass-determined
 
 pub frame-determined : (odd even : Slot) (a b : AccessUnit) → a ≡ accessUnit odd even → b ≡ accessUnit odd even → a ≡ b

@@ -13,37 +13,36 @@ use Rattle.film.specs.declared.State.the-variants.{Nothing, Waiting}
 use Rattle.film.specs.declared.Shown.{Shown}
 use Rattle.film.specs.declared.Sent.{Sent}
 use Rattle.film.specs.declared.Sent.the-variants as sent
-use Rattle.film.specs.declared.Passage.{Passage}
+use Rattle.film.specs.declared.Gone.{Gone}
+use Rattle.film.specs.declared.Gone.the-variants as gone
+use Rattle.film.specs.declared.Passing.{Passing}
 use Rattle.film.specs.Display.{slotOf}
 use Rattle.film.specs.Frames.{accessUnit}
 
--- one unit more, of two at the most
-abbrev pub added : Sent → AccessUnit → Sent
-added sent.None unit = sent.One unit
-added (sent.One a) unit = sent.Two a unit
-added (sent.Two a b) unit = sent.Two a b
+-- an even slot goes out
+abbrev pub evenPassed : State → Slot → Passing
+evenPassed Nothing slot = record { gone = gone.Unit (accessUnit Invalid slot); state = Nothing }
+evenPassed (Waiting odd) slot = record { gone = gone.Unit (accessUnit odd slot); state = Nothing }
 
--- an even slot goes out, an odd one waits
-abbrev pub evenPassed : Sent → State → Slot → Passage
-evenPassed s Nothing slot = record { sent = added s (accessUnit Invalid slot); state = Nothing }
-evenPassed s (Waiting odd) slot = record { sent = added s (accessUnit odd slot); state = Nothing }
+-- an odd one waits
+abbrev pub oddPassed : State → Slot → Passing
+oddPassed Nothing slot = record { gone = gone.Nothing; state = Waiting slot }
+oddPassed (Waiting odd) slot = record { gone = gone.Unit (accessUnit odd Invalid); state = Waiting slot }
 
-abbrev pub oddPassed : Sent → State → Slot → Passage
-oddPassed s Nothing slot = record { sent = s; state = Waiting slot }
-oddPassed s (Waiting odd) slot = record { sent = added s (accessUnit odd Invalid); state = Waiting slot }
-
-abbrev pub passed : Passage → ℕ → Slot → Passage
-passed p zero slot = evenPassed (p .sent) (p .state) slot
-passed p (suc n) slot = oddPassed (p .sent) (p .state) slot
+abbrev pub passed : State → ℕ → Slot → Passing
+passed s zero slot = evenPassed s slot
+passed s (suc n) slot = oddPassed s slot
 
 -- one display field more
-abbrev pub shownField : Passage → ℕ → Shown → List Record → Passage
-shownField p field how rs = passed p (side (how .«top_field_first») field) (slotOf (how .«line_offset») field rs)
+abbrev pub shownField : State → ℕ → Shown → List Record → Passing
+shownField s field how rs = passed s (side (how .«top_field_first») field) (slotOf (how .«line_offset») field rs)
 
--- two, and a third where the first is repeated
-abbrev pub shownThird : Bool → Passage → Shown → List Record → Passage
-shownThird false p how rs = p
-shownThird true p how rs = shownField p 3 how rs
+-- what was sent so far in a call, and one unit more, of two at the most
+abbrev pub oneMore : Sent → AccessUnit → Sent
+oneMore sent.None unit = sent.One unit
+oneMore (sent.One a) unit = sent.Two a unit
+oneMore (sent.Two a b) unit = sent.Two a b
 
-abbrev pub shownAll : Passage → Shown → List Record → Passage
-shownAll p how rs = shownThird (how .«repeat_first_field») (shownField (shownField p 1 how rs) 2 how rs) how rs
+abbrev pub added : Sent → Gone → Sent
+added s gone.Nothing = s
+added s (gone.Unit unit) = oneMore s unit

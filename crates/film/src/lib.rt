@@ -5,7 +5,7 @@
 ghost use mathlib.Core.Path.{_≡_};
 ghost use Rattle.film.specs.Calls.{Closes};
 ghost use Rattle.film.specs.Frames.{halfOf, accessUnit};
-ghost use Rattle.film.specs.Inside.{added, passed};
+ghost use Rattle.film.specs.Inside.{passed};
 use fields::OddEven;
 use line21::AccessUnit;
 use refusal::Refusal;
@@ -44,9 +44,15 @@ pub struct Answer {
     pub state: State,
 }
 
-// What was sent so far in a call, and what waits.
-pub struct Passage {
-    pub sent: Sent,
+// What one slot sends.
+pub enum Gone {
+    Nothing,
+    Unit(AccessUnit),
+}
+
+// What one slot sends, and what then waits.
+pub struct Passing {
+    pub gone: Gone,
     pub state: State,
 }
 
@@ -84,25 +90,23 @@ pub fn close(state: State) -> Answer
 }
 
 // One slot more. An odd one waits, and sends one that waited; an even one goes out beside the one that waits.
-pub fn pass(p: Passage, side: OddEven, slot: Slot) -> Passage
-    ensures { λ r. ⌜ r ≡ passed p (side .0) slot ⌝ }
+pub fn pass(state: State, side: OddEven, slot: Slot) -> Passing
+    ensures { λ r. ⌜ r ≡ passed state (side .0) slot ⌝ }
 {
-    let sent = p.sent;
-    let state = p.state;
     let nothing = State::Nothing;
     if side.0 == 0 {
         return match state {
             State::Nothing => {
-                let sent = add(sent, frame(Slot::Invalid, slot));
-                Passage {
-                    sent,
+                let gone = Gone::Unit(frame(Slot::Invalid, slot));
+                Passing {
+                    gone,
                     state: nothing,
                 }
             }
             State::Waiting(odd) => {
-                let sent = add(sent, frame(odd, slot));
-                Passage {
-                    sent,
+                let gone = Gone::Unit(frame(odd, slot));
+                Passing {
+                    gone,
                     state: nothing,
                 }
             }
@@ -110,28 +114,20 @@ pub fn pass(p: Passage, side: OddEven, slot: Slot) -> Passage
     }
     let waiting = State::Waiting(slot);
     match state {
-        State::Nothing => Passage {
-            sent,
-            state: waiting,
-        },
-        State::Waiting(odd) => {
-            let sent = add(sent, frame(odd, Slot::Invalid));
-            Passage {
-                sent,
+        State::Nothing => {
+            let gone = Gone::Nothing;
+            Passing {
+                gone,
                 state: waiting,
             }
         }
-    }
-}
-
-// One access unit more. No call sends a third.
-fn add(sent: Sent, unit: AccessUnit) -> Sent
-    ensures { λ r. ⌜ r ≡ added sent unit ⌝ }
-{
-    match sent {
-        Sent::None => Sent::One(unit),
-        Sent::One(first) => Sent::Two(first, unit),
-        Sent::Two(first, second) => Sent::Two(first, second),
+        State::Waiting(odd) => {
+            let gone = Gone::Unit(frame(odd, Slot::Invalid));
+            Passing {
+                gone,
+                state: waiting,
+            }
+        }
     }
 }
 

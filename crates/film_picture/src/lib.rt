@@ -7,14 +7,16 @@ ghost use Rattle.scte20.specs.Value.{held};
 ghost use Rattle.scte20.specs.Lent.{unitIn};
 ghost use Rattle.film.specs.Display.{slotOf};
 ghost use Rattle.film.specs.Calls.{Shows};
-ghost use Rattle.film.specs.Inside.{shownField, shownAll};
+ghost use Rattle.film.specs.Inside.{shownField, oneMore, added};
 use fields::DisplayField;
 use film::Answer;
-use film::Passage;
+use film::Gone;
+use film::Passing;
 use film::Sent;
 use film::Shown;
 use film::Slot;
 use film::State;
+use line21::AccessUnit;
 use scte20::LENT_RECORDS;
 use scte20::Numbers;
 
@@ -32,10 +34,24 @@ pub fn picture(state: State, how: Shown, v: Numbers, records: &[u8; LENT_RECORDS
             state,
         };
     }
-    let start = Passage { sent, state };
-    let end = show_all(start, how, v, records);
-    let sent = end.sent;
-    let state = end.state;
+    let one = show(state, DisplayField(1), how, v, records);
+    let first = one.gone;
+    let state = one.state;
+    let two = show(state, DisplayField(2), how, v, records);
+    let second = two.gone;
+    let state = two.state;
+    let sent = add(add(sent, first), second);
+    if how.repeat_first_field {
+        let three = show(state, DisplayField(3), how, v, records);
+        let third = three.gone;
+        let last = three.state;
+        let all = add(sent, third);
+        return Answer {
+            refusal,
+            sent: all,
+            state: last,
+        };
+    }
     Answer {
         refusal,
         sent,
@@ -43,33 +59,20 @@ pub fn picture(state: State, how: Shown, v: Numbers, records: &[u8; LENT_RECORDS
     }
 }
 
-// All display fields of a picture, in the order in which they are shown.
-fn show_all(p: Passage, how: Shown, v: Numbers, records: &[u8; LENT_RECORDS]) -> Passage
-    requires { ⌜ v .n ≤ 31 ⌝ }
-    ensures { λ r. ⌜ r ≡ shownAll p how (held (unitIn v (now (records .entry))) .records) ⌝ }
-{
-    let first = show(p, DisplayField(1), how, v, records);
-    let second = show(first, DisplayField(2), how, v, records);
-    if how.repeat_first_field {
-        return show(second, DisplayField(3), how, v, records);
-    }
-    second
-}
-
 // One display field: its slot, on its side.
 fn show(
-    p: Passage,
+    state: State,
     field: DisplayField,
     how: Shown,
     v: Numbers,
     records: &[u8; LENT_RECORDS],
-) -> Passage
+) -> Passing
     requires { ⌜ v .n ≤ 31 ⌝ }
-    ensures { λ r. ⌜ r ≡ shownField p (field .0) how (held (unitIn v (now (records .entry))) .records) ⌝ }
+    ensures { λ r. ⌜ r ≡ shownField state (field .0) how (held (unitIn v (now (records .entry))) .records) ⌝ }
 {
     let side = fields::odd_even(field, how.top_field_first);
     let slot = slot_of(how.line_offset, field, v, records);
-    film::pass(p, side, slot)
+    film::pass(state, side, slot)
 }
 
 // The slot of a display field: its record on that line, or nothing.
@@ -86,4 +89,25 @@ fn slot_of(line_offset: u8, field: DisplayField, v: Numbers, records: &[u8; LENT
         i += 1;
     }
     Slot::Invalid
+}
+
+// What is sent in a call, slot after slot.
+fn add(sent: Sent, gone: Gone) -> Sent
+    ensures { λ r. ⌜ r ≡ added sent gone ⌝ }
+{
+    match gone {
+        Gone::Nothing => sent,
+        Gone::Unit(unit) => one_more(sent, unit),
+    }
+}
+
+// One access unit more. No call sends a third.
+fn one_more(sent: Sent, unit: AccessUnit) -> Sent
+    ensures { λ r. ⌜ r ≡ oneMore sent unit ⌝ }
+{
+    match sent {
+        Sent::None => Sent::One(unit),
+        Sent::One(first) => Sent::Two(first, unit),
+        Sent::Two(first, second) => Sent::Two(first, second),
+    }
 }

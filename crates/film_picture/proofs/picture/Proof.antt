@@ -1,7 +1,8 @@
 -- `film_picture::picture` meets its contract: where the checks refuse the state stays, and else the fields are shown one after the other.
 -- Assumes nothing.
 use Prim.Native.Nat.{ℕ, _≤_}
-use mathlib.Core.Path.{_≡_, _∙_, ap, sym}
+use mathlib.Core.Path.{_≡_, _∙_, ap, ap₂, sym}
+use mathlib.Core.List.{List}
 use borrow.Author.Needs.{needs}
 use denote.Ref.{now}
 use Rattle.refusal.specs.declared.Verdict.{Verdict}
@@ -14,11 +15,17 @@ use Rattle.scte20.specs.Value.{held, Typed}
 use Rattle.scte20.specs.Lent.{unitIn}
 use Rattle.scte20.proofs.Holding.{value-whole}
 use Rattle.scte20.proofs.Lending.{lent-typed}
-use Rattle.film.specs.declared.Passage.{Passage}
+use Rattle.scte20.specs.declared.Record.{Record}
+use Rattle.film.specs.declared.State.{State}
+use Rattle.film.specs.declared.Sent.{Sent}
+use Rattle.film.specs.declared.Sent.the-variants.{None}
+use Rattle.film.specs.declared.Passing.{Passing}
 use Rattle.film.specs.declared.Shown.{Shown}
 use Rattle.film.specs.Display.{pictureEvents}
 use Rattle.film.specs.Calls.{pictureVerdict, unitsSent}
-use Rattle.film.proofs.Passages.{accepted-checked, all-shown, refuses, accepts}
+use Rattle.film.specs.Inside.{shownField, added}
+use Rattle.film.specs.Inside.{added as Inside·added}
+use Rattle.film.proofs.Passages.{accepted-checked, firstShown, secondShown, thirdShown, twoSent, two-shown, three-shown, refuses, accepts}
 use Rattle.film_picture.proofs.picture.Statement.{statement}
 use Rattle.film_picture.proofs.picture.Tie as tie
 
@@ -56,22 +63,77 @@ refused c =
       answer = refuses (verdict told) (told .told .result) (args .state) (pictureEvents (args .how) (held (unit told) .records)) (refusal-told told) (c .if1 .taken);
     }
 
-shown : tie.Need-returns-2
-shown c =
-    let told = c .before .before .before in
-    let args = start told .args in
-    let rs = held (unit told) .records in
-    let right = all-shown (args .state) (args .how) rs in
+-- the fields that were shown
+module _ (c : tie.After-add2) where
+  abbrev from : tie.After-told
+  from = c .before .before .before .before .before .before
+
+  abbrev shows : tie.After-show2
+  shows = c .before .before
+
+  abbrev s : State
+  s = start from .args .state
+
+  abbrev how : Shown
+  how = start from .args .how
+
+  abbrev rs : List Record
+  rs = held (unit from) .records
+
+  one : shows .before .show .result ≡ firstShown s how rs
+  one = shows .before .show .ensures
+
+  two : shows .show2 .result ≡ secondShown s how rs
+  two = shows .show2 .ensures ∙ ap (λ (p : Passing). shownField (p .state) 2 how rs) one
+
+  both : c .add2 .result ≡ twoSent s how rs
+  both =
+      c .add2 .ensures
+      ∙ ap (λ (x : Sent). added x (shows .show2 .result .gone)) (c .before .add .ensures)
+      ∙ ap₂ (λ (p q : Passing). added (added None (p .gone)) (q .gone)) one two
+
+two-fields : tie.Need-returns-3
+two-fields c =
+    let added = c .before in
+    let told = from added in
+    let right = two-shown (s added) (how added) (rs added) (c .if2 .left) in
     record {
       typed = typed told;
       answer =
-          accepts (verdict told) (told .told .result) (args .state) (pictureEvents (args .how) rs) (c .show-all .result .sent) (c .show-all .result .state)
-          (refusal-told told) (accepted told (c .before .if1 .left))
-          (ap (λ (p : Passage). unitsSent (p .sent)) (c .show-all .ensures) ∙ right .0)
-          (ap (λ (p : Passage). p .state) (c .show-all .ensures) ∙ right .1);
+          accepts (verdict told) (told .told .result) (s added) (pictureEvents (how added) (rs added)) (added .add2 .result) (shows added .show2 .result .state)
+          (refusal-told told) (accepted told (shows added .before .before .if1 .left))
+          (ap unitsSent (both added) ∙ right .0) (ap (λ (p : Passing). p .state) (two added) ∙ right .1);
+    }
+
+three-fields : tie.Need-returns-2
+three-fields c =
+    let third = c .before in
+    let added = third .before .before in
+    let told = from added in
+    let right = three-shown (s added) (how added) (rs added) (third .before .if2 .taken) in
+    let three : third .show3 .result ≡ thirdShown (s added) (how added) (rs added) = third .show3 .ensures ∙ ap (λ (p : Passing). shownField (p .state) 3 (how added) (rs added)) (two added) in
+    record {
+      typed = typed told;
+      answer =
+          accepts (verdict told) (told .told .result) (s added) (pictureEvents (how added) (rs added)) (c .add3 .result) (third .show3 .result .state)
+          (refusal-told told) (accepted told (shows added .before .before .if1 .left))
+          (ap unitsSent (c .add3 .ensures ∙ ap₂ (λ (x : Sent) (p : Passing). Inside·added x (p .gone)) (both added) three) ∙ right .0)
+          (ap (λ (p : Passing). p .state) three ∙ right .1);
     }
 
 pub picture-spec : {M : Type 1} → statement M
 picture-spec =
     tie.close
-    (tie.spec (λ c κs. search needs) (λ c κs. search needs) (λ c κs. search needs) refused (λ c κs. few (c .before .before) (c .if1 .left)) shown)
+    (tie.spec
+    (λ c κs. search needs)
+    (λ c κs. search needs)
+    (λ c κs. search needs)
+    refused
+    (λ c κs. few (c .before .before) (c .if1 .left))
+    (λ c κs. few (c .before .before .before) (c .before .if1 .left))
+    (λ c κs. search needs)
+    (λ c κs. search needs)
+    (λ c κs. let added = c .before in few (from added) (shows added .before .before .if1 .left))
+    (λ c κs. search needs)
+    three-fields
+    two-fields)

@@ -14,7 +14,7 @@ shown c =
     let found = c .before in
     let args = found .before .before .args in
     c .pass .ensures
-    ∙ ap₂ (λ (side : OddEven) (slot : Slot). passed (args .p) (side .0) slot) (found .before .odd-even .ensures) (found .slot-of .ensures)
+    ∙ ap₂ (λ (side : OddEven) (slot : Slot). passed (args .state) (side .0) slot) (found .before .odd-even .ensures) (found .slot-of .ensures)
 
 pub show-spec : {M : Type 1} → statement M
 show-spec = tie.close (tie.spec (λ c κs. search needs) (λ c κs. search needs) (λ c κs. search needs) shown)
