@@ -1,6 +1,6 @@
 -- What an answer tells, from the promise of its call.
 -- Assumes nothing.
-use Prim.Native.Nat.{ℕ, _≤_}
+use Prim.Native.Nat.{_≤_}
 use native.Mathlib.Omega.{arith}
 use mathlib.Core.Path.{_≡_, _∙_, ap, subst, sym, refl}
 use mathlib.Core.Logic.{⊎-elim}
@@ -18,7 +18,6 @@ use Rattle.scte20.specs.declared.Record.{Record}
 use Rattle.scte20.specs.declared.CaptionUnit.{CaptionUnit}
 use Rattle.scte20.specs.Value.{held}
 use Rattle.line21.specs.declared.AccessUnit.{AccessUnit}
-use Rattle.film.specs.declared.Slot.the-variants.{Invalid}
 use Rattle.film.specs.declared.State.{State}
 use Rattle.film.specs.declared.State.the-variants.{Nothing, Waiting}
 use Rattle.film.specs.declared.Shown.{Shown}

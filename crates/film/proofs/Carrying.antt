@@ -2,22 +2,20 @@
 -- Assumes nothing.
 use Prim.Native.Nat.{ℕ, zero, suc, _+_, _≤_, _<_}
 use native.Mathlib.Omega.{arith}
-use mathlib.Core.Path.{_≡_, _∙_, ap, sym, refl}
-use mathlib.Core.Logic.{_↔_, _⊎_, inl, inr, ⊎-elim}
+use mathlib.Core.Path.{_≡_, _∙_, ap, refl}
+use mathlib.Core.Logic.{_↔_, inl, inr}
 use mathlib.Core.Bool.{Bool, true, false, not, _&&_, true≢false}
 use mathlib.Core.List.{List, [], _∷_, _++_}
 use borrow.Author.Tests.{eqb-true, eq-eqb, ne-eqb, le-ltb}
-use lib.Dec.{eqb, ltb}
+use lib.Dec.{eqb}
 use lib.ListN.{length}
 use Rattle.lists.specs.Each.{Each}
 use Rattle.lists.proofs.Each.{each-map, each-both}
-use Rattle.refusal.specs.declared.Verdict.{Verdict}
 use Rattle.refusal.specs.declared.Verdict.the-variants.{Accepted}
 use Rattle.refusal.proofs.Checks.{accepted-andThen, andThen-accepted, accepted-refuseIf, refuseIf-accepted, accepted-equal, both-hold}
 use Rattle.scte20.specs.declared.Record.{Record}
 use Rattle.scte20.specs.declared.CaptionUnit.{CaptionUnit}
-use Rattle.scte20.specs.Value.{fieldOf, held, Typed, Ranged, LegalRecord, LegalCaptionUnit, Follows, InOrder}
-use Rattle.scte20.specs.Writing.{valueVerdict}
+use Rattle.scte20.specs.Value.{fieldOf, held, Typed, LegalRecord, Follows, InOrder}
 use Rattle.scte20.proofs.Holding.{value-whole}
 use Rattle.scte20.proofs.Writable.{accepted-unit, unit-accepted}
 use Rattle.film.specs.declared.Slot.{Slot}
@@ -30,7 +28,7 @@ use Rattle.film.specs.Frames.{halfOf}
 use Rattle.film.specs.Calls.{repeatVerdict, lineVerdict, pictureVerdict, Shows}
 use Rattle.film.specs.Order.{Carried}
 use Rattle.film.proofs.Records.{and-false}
-use Rattle.film.proofs.Passages.{Checked, accepted-checked}
+use Rattle.film.proofs.Passages.{accepted-checked}
 use Rattle.film.proofs.Answering.{told-verdict, verdict-told}
 
 -- 21

@@ -1,9 +1,8 @@
 -- Each function's promise fixes its answer.
 -- Assumes nothing.
 use Prim.Native.Nat.{ℕ}
-use mathlib.Core.Path.{_≡_, _∙_, ap, ap₂, sym, refl}
+use mathlib.Core.Path.{_≡_, _∙_, ap, sym, refl}
 use mathlib.Core.List.{List, [], _∷_}
-use Rattle.refusal.specs.declared.Refusal.{Refusal}
 use Rattle.refusal.specs.declared.Verdict.{Verdict}
 use Rattle.scte20.specs.declared.CaptionUnit.{CaptionUnit}
 use Rattle.line21.specs.declared.AccessUnit.{AccessUnit}

@@ -2,12 +2,11 @@
 -- Assumes nothing.
 use Prim.Native.Nat.{ℕ, zero, suc, _<_}
 use native.Mathlib.Omega.{arith}
-use mathlib.Core.Path.{_≡_, _∙_, ap, ap₂, subst, sym, refl}
+use mathlib.Core.Path.{subst, sym}
 use mathlib.Core.Bool.{Bool, true, false}
-use mathlib.Core.List.{List, [], _∷_, _++_, map, append-assoc}
+use mathlib.Core.List.{List, [], _∷_, map}
 use Rattle.refusal.specs.declared.Verdict.{Verdict}
 use Rattle.refusal.specs.declared.Verdict.the-variants.{Accepted, Refused}
-use Rattle.scte20.specs.declared.CaptionUnit.{CaptionUnit}
 use Rattle.scte20.specs.declared.Record.{Record}
 use Rattle.lists.specs.Each.{Each}
 use Rattle.lists.proofs.Each.{each-take, each-append}
@@ -18,14 +17,13 @@ use Rattle.line21.specs.Value.{LegalAccessUnit}
 use Rattle.film.specs.declared.Slot.{Slot}
 use Rattle.film.specs.declared.Slot.the-variants.{Invalid, Pair}
 use Rattle.film.specs.declared.State.{State}
-use Rattle.film.specs.declared.State.the-variants.{Nothing, Waiting}
+use Rattle.film.specs.declared.State.the-variants.{Nothing}
 use Rattle.film.specs.declared.Shown.{Shown}
 use Rattle.film.specs.declared.Answer.{Answer}
 use Rattle.film.specs.Display.{Event, odd, even, closing, isAt, pick, slotOf, onSide, fieldEvent, fieldsShown, pictureEvents}
-use Rattle.film.specs.Frames.{Frame, framesOf, waitingOf, pending, halfOf, accessUnit, unitOf, unitsOf, slotsSent, slotsOf}
-use Rattle.film.specs.Calls.{pictureVerdict, unitsSent, Told, told, toldOf, Shows, Closes}
-use Rattle.film.specs.Runs.{Call, shows, closes, Step, Keeps, Run, sentIn, after, callVerdict, callEvents, brought, rowOf, shownIn, displayed, keptIf, acceptedOf}
-use Rattle.film.proofs.Rows.{waiting-cut, units-cut, units-none, waiting-none, slots-kept, slots-append}
+use Rattle.film.specs.Frames.{halfOf, accessUnit, unitsOf}
+use Rattle.film.specs.Calls.{pictureVerdict}
+use Rattle.film.specs.Runs.{Call, shows, closes, Step, Keeps, Run, sentIn, callVerdict, callEvents, brought, rowOf}
 use Rattle.film.proofs.Running.{run-sends}
 
 -- the bytes of a slot are bytes

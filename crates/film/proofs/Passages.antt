@@ -1,17 +1,14 @@
 -- What a call answers, as the code has it: slot after slot sends what the rule says of the whole row.
 -- Assumes nothing.
 use Prim.Native.Nat.{ℕ, _≤_}
-use native.Mathlib.Omega.{arith}
 use mathlib.Core.Path.{_≡_, _∙_, ap, ap₂, subst, sym, refl}
 use mathlib.Core.Bool.{Bool, true, false}
-use mathlib.Core.List.{List, [], _∷_, _++_, map}
-use lib.ListN.{length}
+use mathlib.Core.List.{List, [], _++_, map}
 use Rattle.refusal.specs.declared.Verdict.{Verdict}
 use Rattle.refusal.specs.declared.Verdict.the-variants.{Accepted, Refused}
 use Rattle.refusal.specs.declared.Refusal.{Refusal}
 use Rattle.refusal.specs.Numbers.{refusalOf}
 use Rattle.refusal.proofs.Checks.{accepted-andThen, accepted-within}
-use Rattle.refusal.proofs.Acceptance.{told-accepted}
 use Rattle.scte20.specs.declared.Record.{Record}
 use Rattle.scte20.specs.declared.CaptionUnit.{CaptionUnit}
 use Rattle.scte20.specs.Value.{held}
@@ -23,10 +20,9 @@ use Rattle.film.specs.declared.Shown.{Shown}
 use Rattle.film.specs.declared.Sent.{Sent}
 use Rattle.film.specs.declared.Sent.the-variants as sent
 use Rattle.film.specs.declared.Passing.{Passing}
-use Rattle.film.specs.declared.Answer.{Answer}
-use Rattle.film.specs.Display.{Event, closing, fieldsShown, fieldEvent, pictureEvents}
-use Rattle.film.specs.Frames.{unitsOf, waitingOf, pending, accessUnit}
-use Rattle.film.specs.Calls.{repeatVerdict, lineVerdict, pictureVerdict, unitsSent, Told, told, toldOf}
+use Rattle.film.specs.Display.{Event, fieldsShown, fieldEvent, pictureEvents}
+use Rattle.film.specs.Frames.{unitsOf, waitingOf, pending}
+use Rattle.film.specs.Calls.{repeatVerdict, lineVerdict, pictureVerdict, unitsSent, told, toldOf}
 use Rattle.film.specs.Inside.{shownField, added}
 
 -- what the checks let through

@@ -5,13 +5,12 @@ use native.Mathlib.Omega.{arith}
 use native.Mathlib.Numerals.{add-one}
 use mathlib.Core.Path.{_≡_, _∙_, ap, ap₂, sym, refl}
 use mathlib.Core.Logic.{_⊎_, inl, inr}
-use mathlib.Core.Bool.{Bool, true, false, not, _&&_}
+use mathlib.Core.Bool.{Bool, true, false, _&&_}
 use mathlib.Core.List.{List, [], _∷_}
 use borrow.Author.Tests.{eq-eqb, ne-eqb}
 use lib.Dec.{eqb}
 use lib.ListN.{length, drop, getD, drop-of-length-le}
 use lib.Seq.{drop-cons, getD-take}
-use Rattle.refusal.specs.declared.Verdict.{Verdict}
 use Rattle.refusal.specs.declared.Verdict.the-variants.{Accepted, Refused}
 use Rattle.refusal.specs.declared.Reason.the-variants.{NotShown, OtherLine}
 use Rattle.refusal.specs.declared.Item.the-variants.{Bit}
@@ -21,7 +20,6 @@ use Rattle.scte20.specs.Value.{blank, fieldOf, held}
 use Rattle.scte20.specs.Lent.{lentRecords, unitIn}
 use Rattle.scte20.proofs.Lending.{lent-length}
 use Rattle.scte20.proofs.Holding.{length-held}
-use Rattle.film.specs.declared.Slot.{Slot}
 use Rattle.film.specs.declared.Slot.the-variants.{Invalid, Pair}
 use Rattle.film.specs.Display.{isAt, pick, slotOf}
 use Rattle.film.specs.Calls.{repeatVerdict, lineVerdict}

@@ -1,13 +1,12 @@
 -- The rule over a row of events: cut in two it sends the same, and every slot of the row goes out once or waits.
 -- Assumes nothing.
-use Prim.Native.Nat.{ℕ}
-use mathlib.Core.Path.{_≡_, _∙_, ap, ap₂, sym, refl}
-use mathlib.Core.List.{List, [], _∷_, _++_, map, append-nil, append-assoc}
+use mathlib.Core.Path.{_≡_, _∙_, ap, refl}
+use mathlib.Core.List.{List, [], _∷_, _++_, map}
 use Rattle.line21.specs.declared.AccessUnit.{AccessUnit}
 use Rattle.film.specs.declared.State.{State}
 use Rattle.film.specs.declared.State.the-variants.{Nothing, Waiting}
 use Rattle.film.specs.Display.{Event, odd, even, closing}
-use Rattle.film.specs.Frames.{Frame, both, odd-alone, even-alone, framesOf, waitingOf, pending, unitOf, unitsOf, slotsIn, slotsSent, slotsOf}
+use Rattle.film.specs.Frames.{Frame, both, odd-alone, even-alone, framesOf, waitingOf, pending, unitOf, unitsOf, slotsSent, slotsOf}
 
 -- what waits at the cut goes before what comes after it
 pub frames-cut : (row more : List Event) → framesOf (row ++ more) ≡ framesOf row ++ framesOf (pending (waitingOf row) ++ more)

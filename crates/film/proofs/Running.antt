@@ -1,29 +1,22 @@
 -- Runs: whatever the answers, if they keep the promises, all that was sent is what the one rule says of the whole row.
 -- Assumes nothing.
-use Prim.Native.Nat.{ℕ, zero, suc, _<_}
-use native.Mathlib.Omega.{arith}
+use Prim.Native.Nat.{ℕ, zero, suc}
 use mathlib.Core.Path.{_≡_, _∙_, ap, ap₂, subst, sym, refl}
-use mathlib.Core.Bool.{Bool, true, false}
 use mathlib.Core.List.{List, [], _∷_, _++_, map, append-assoc}
 use Rattle.refusal.specs.declared.Verdict.{Verdict}
 use Rattle.refusal.specs.declared.Verdict.the-variants.{Accepted, Refused}
-use Rattle.scte20.specs.declared.CaptionUnit.{CaptionUnit}
 use Rattle.scte20.specs.declared.Record.{Record}
-use Rattle.lists.specs.Each.{Each}
-use Rattle.lists.proofs.Each.{each-take, each-append}
 use Rattle.fields.specs.Sides.{side}
-use Rattle.scte20.specs.Value.{held, ByteRecord}
+use Rattle.scte20.specs.Value.{held}
 use Rattle.line21.specs.declared.AccessUnit.{AccessUnit}
-use Rattle.line21.specs.Value.{LegalAccessUnit}
 use Rattle.film.specs.declared.Slot.{Slot}
-use Rattle.film.specs.declared.Slot.the-variants.{Invalid, Pair}
 use Rattle.film.specs.declared.State.{State}
-use Rattle.film.specs.declared.State.the-variants.{Nothing, Waiting}
+use Rattle.film.specs.declared.State.the-variants.{Nothing}
 use Rattle.film.specs.declared.Shown.{Shown}
 use Rattle.film.specs.declared.Answer.{Answer}
-use Rattle.film.specs.Display.{Event, odd, even, closing, isAt, pick, slotOf, onSide, fieldEvent, fieldsShown, pictureEvents}
-use Rattle.film.specs.Frames.{Frame, framesOf, waitingOf, pending, halfOf, accessUnit, unitOf, unitsOf, slotsSent, slotsOf}
-use Rattle.film.specs.Calls.{pictureVerdict, unitsSent, Told, told, toldOf, Shows, Closes}
+use Rattle.film.specs.Display.{Event, slotOf, onSide, fieldEvent, fieldsShown, pictureEvents}
+use Rattle.film.specs.Frames.{Frame, framesOf, waitingOf, pending, unitOf, unitsOf, slotsSent, slotsOf}
+use Rattle.film.specs.Calls.{pictureVerdict, unitsSent, Told, told, toldOf}
 use Rattle.film.specs.Runs.{Call, shows, closes, Step, Keeps, Run, sentIn, after, callVerdict, callEvents, brought, rowOf, shownIn, displayed, keptIf, acceptedOf}
 use Rattle.film.proofs.Rows.{waiting-cut, units-cut, units-none, waiting-none, slots-kept, slots-append}
 

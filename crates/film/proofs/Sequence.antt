@@ -2,18 +2,16 @@
 -- Assumes nothing.
 use Prim.Native.Nat.{ℕ, _+_}
 use mathlib.Core.Path.{_≡_, _∙_, ap, sym, refl}
-use mathlib.Core.Logic.{_⊎_, inl, inr, ⊎-elim}
+use mathlib.Core.Logic.{inl, inr}
 use mathlib.Core.Bool.{Bool, not, _&&_}
 use mathlib.Core.List.{List, [], _∷_, _++_}
 use lib.Dec.{eqb, ltb}
 use Rattle.refusal.specs.declared.Verdict.{Verdict}
-use Rattle.refusal.specs.declared.Verdict.the-variants.{Accepted, Refused}
+use Rattle.refusal.specs.declared.Verdict.the-variants.{Accepted}
 use Rattle.refusal.specs.declared.Reason.the-variants.{Unholdable, NotShown, OtherLine}
 use Rattle.refusal.specs.declared.Excess.the-variants.{SetLine}
 use Rattle.refusal.specs.declared.Item.the-variants.{Whole, Bit}
-use Rattle.refusal.specs.declared.Refusal.{Refusal}
 use Rattle.refusal.specs.Checks.{refuseIf, andThen, first}
-use Rattle.refusal.specs.Numbers.{refusalOf}
 use Rattle.refusal.proofs.Checks.{andThen-last}
 use Rattle.refusal.proofs.Sequence.{first-append}
 use Rattle.refusal.proofs.Gives.{Gives, refuseIf-gives, andThen-gives, gives-as}

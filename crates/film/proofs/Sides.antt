@@ -1,10 +1,7 @@
 -- What a frame is as an access unit.
 -- Assumes nothing.
-use Prim.Native.Nat.{ℕ}
 use mathlib.Core.Path.{_≡_, refl}
-use Rattle.line21.specs.declared.AccessUnit.{AccessUnit}
 use Rattle.film.specs.declared.Slot.{Slot}
-use Rattle.film.specs.declared.Half.{Half}
 use Rattle.film.specs.Frames.{Frame, both, odd-alone, even-alone, halfOf, unitOf, fieldOne, fieldTwo, blank}
 
 pub frame-both : (a b : Slot) → (fieldOne (unitOf (both a b)) ≡ halfOf a) × (fieldTwo (unitOf (both a b)) ≡ halfOf b)

@@ -1,6 +1,5 @@
 -- Which access units go out for a row of slots, and which slot waits: one rule over the whole row. RULES, "Film"; 004,
 -- Table 2.
-use Prim.Native.Nat.{ℕ}
 use mathlib.Core.List.{List, [], _∷_, _++_, map}
 use Rattle.line21.specs.declared.AccessUnit.{AccessUnit}
 use Rattle.film.specs.declared.Slot.{Slot}

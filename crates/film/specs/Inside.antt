@@ -1,7 +1,6 @@
 -- What functions promise each other on the way to an answer: slot after slot. A signer may pass it over: it sends what
 -- `framesOf` says.
 use Prim.Native.Nat.{ℕ, zero, suc}
-use mathlib.Core.Bool.{Bool, true, false}
 use mathlib.Core.List.{List}
 use Rattle.fields.specs.Sides.{side}
 use Rattle.scte20.specs.declared.Record.{Record}

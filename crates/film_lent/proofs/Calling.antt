@@ -1,23 +1,21 @@
 -- What the calls over lent memory answer and leave, from their promises.
 -- Assumes nothing.
 use Prim.Native.Nat.{ℕ, _≤_}
-use native.Mathlib.Omega.{arith}
-use mathlib.Core.Path.{_≡_, _∙_, ap, ap₂, subst, sym, refl}
+use mathlib.Core.Path.{_≡_, _∙_, ap, sym, refl}
 use mathlib.Core.Logic.{_↔_}
 use mathlib.Core.List.{List, [], _∷_}
-use borrow.Author.Tests.{le-ltb}
 use lib.ListN.{length}
 use Rattle.refusal.specs.declared.Verdict.{Verdict}
 use Rattle.refusal.specs.declared.Verdict.the-variants.{Accepted, Refused}
 use Rattle.refusal.specs.declared.Refusal.{Refusal}
 use Rattle.refusal.specs.Numbers.{refusalOf}
 use Rattle.refusal.proofs.Acceptance.{told-accepted}
-use Rattle.refusal.proofs.Checks.{accepted-andThen, andThen-accepted, accepted-within, refuseIf-accepted, refused-not-accepted}
+use Rattle.refusal.proofs.Checks.{accepted-andThen, accepted-within, refused-not-accepted}
 use Rattle.scte20.specs.declared.CaptionUnit.{CaptionUnit}
 use Rattle.scte20.specs.Value.{held}
 use Rattle.film.specs.declared.State.{State}
 use Rattle.film.specs.declared.Answer.{Answer}
-use Rattle.film.specs.Display.{Event, closing, pictureEvents}
+use Rattle.film.specs.Display.{closing, pictureEvents}
 use Rattle.film.specs.Calls.{pictureVerdict, unitsSent, Told, told, toldOf, Shows, Closes}
 use Rattle.film.specs.Order.{Carried}
 use Rattle.film.proofs.Answering.{told-refusal, told-verdict}
@@ -25,7 +23,7 @@ use Rattle.film.proofs.Carrying.{accepted-carried, carried-accepted}
 use Rattle.film_lent.specs.declared.Head.{Head}
 use Rattle.film_lent.specs.declared.Kept.{Kept}
 use Rattle.film_lent.specs.declared.Kept.the-variants as kept
-use Rattle.film_lent.specs.Lent.{stateBytes, sentBytes, stateIn, shownIn, flagsVerdict, keptVerdict, keptState, intoVerdict, Left, leftOf, PictureInto, CloseInto}
+use Rattle.film_lent.specs.Lent.{stateBytes, sentBytes, stateIn, shownIn, keptVerdict, keptState, intoVerdict, Left, leftOf, PictureInto, CloseInto}
 use Rattle.film_lent.proofs.Left.{into-picture}
 
 -- whatever the call

@@ -3,7 +3,7 @@
 use Prim.Native.Nat.{ℕ, min}
 use mathlib.Core.Path.{_≡_}
 use mathlib.Core.Bool.{Bool, true, false, _&&_}
-use mathlib.Core.List.{List, [], _∷_, _++_}
+use mathlib.Core.List.{List, [], _∷_}
 use lib.Dec.{eqb, ltb}
 use lib.ListN.{length, getD}
 use Rattle.lists.specs.Room.{filled}
@@ -23,7 +23,7 @@ use Rattle.film.specs.declared.State.{State}
 use Rattle.film.specs.declared.State.the-variants.{Nothing, Waiting}
 use Rattle.film.specs.declared.Shown.{Shown}
 use Rattle.film.specs.declared.Half.{Half}
-use Rattle.film.specs.Display.{Event, closing, pictureEvents}
+use Rattle.film.specs.Display.{closing, pictureEvents}
 use Rattle.film.specs.Frames.{halfOf}
 use Rattle.film.specs.Calls.{pictureVerdict, Told, toldOf}
 use Rattle.film_lent.specs.declared.Head.{Head}

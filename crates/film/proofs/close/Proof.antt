@@ -1,6 +1,6 @@
 -- `film::close` meets its contract: nothing waits and nothing is sent, or the slot that waits is sent alone.
 -- Assumes nothing.
-use mathlib.Core.Path.{_≡_, _∙_, ap, sym, refl}
+use mathlib.Core.Path.{_∙_, ap, sym, refl}
 use mathlib.Core.List.{List, [], _∷_, _++_}
 use borrow.Author.Needs.{needs}
 use Rattle.refusal.specs.declared.Verdict.the-variants.{Accepted}

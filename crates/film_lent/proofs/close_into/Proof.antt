@@ -1,7 +1,7 @@
 -- `film_lent::close_into` meets its contract: bytes that are no state's are refused, and else film's answer is stored.
 -- Assumes nothing.
-use mathlib.Core.Path.{_≡_, _∙_, ap, sym, refl}
-use mathlib.Core.List.{List, [], _∷_}
+use mathlib.Core.Path.{_∙_, ap, sym, refl}
+use mathlib.Core.List.{[], _∷_}
 use borrow.Author.Needs.{needs}
 use denote.Ref.{now}
 use Rattle.refusal.specs.declared.Verdict.{Verdict}
@@ -9,7 +9,6 @@ use Rattle.refusal.specs.declared.Verdict.the-variants.{Accepted}
 use Rattle.film.specs.declared.State.{State}
 use Rattle.film.specs.Display.{closing}
 use Rattle.film.specs.Calls.{toldOf}
-use Rattle.film_lent.specs.declared.Kept.{Kept}
 use Rattle.film_lent.specs.Lent.{stateIn, keptVerdict, keptState, leftOf}
 use Rattle.film_lent.proofs.Left.{refused-left, stores-left, kept-left}
 use Rattle.film_lent.proofs.close_into.Statement.{statement}

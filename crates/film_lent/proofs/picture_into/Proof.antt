@@ -2,21 +2,19 @@
 -- Assumes nothing.
 use Prim.Native.Nat.{ℕ}
 use mathlib.Core.Path.{_≡_, _∙_, ap, ap₂, sym, refl}
-use mathlib.Core.List.{List}
 use borrow.Author.Needs.{needs}
 use denote.Ref.{now}
 use lib.Dec.{eqb}
 use Rattle.refusal.specs.declared.Verdict.{Verdict}
-use Rattle.refusal.specs.declared.Verdict.the-variants.{Accepted, Refused}
+use Rattle.refusal.specs.declared.Verdict.the-variants.{Accepted}
 use Rattle.scte20.specs.declared.CaptionUnit.{CaptionUnit}
 use Rattle.scte20.specs.Value.{held, Typed}
 use Rattle.scte20.specs.Lent.{unitIn}
 use Rattle.scte20.proofs.Lending.{lent-typed}
 use Rattle.film.specs.declared.State.{State}
 use Rattle.film.specs.declared.Shown.{Shown}
-use Rattle.film.specs.Display.{Event, pictureEvents}
+use Rattle.film.specs.Display.{pictureEvents}
 use Rattle.film.specs.Calls.{pictureVerdict, Told, toldOf}
-use Rattle.film_lent.specs.declared.Kept.{Kept}
 use Rattle.film_lent.specs.declared.Kept.the-variants as kept
 use Rattle.film_lent.specs.Lent.{stateIn, shownIn, keptState, intoVerdict, leftOf}
 use Rattle.film_lent.proofs.Left.{refused-left, stores-left, into-none, into-top, into-repeat, into-picture}

@@ -1,8 +1,7 @@
 -- `film_lent::put_four` meets its contract: four stores fill the four places.
 -- Assumes nothing.
-use Prim.Native.Nat.{ℕ, _≤_}
 use native.Mathlib.Omega.{arith}
-use mathlib.Core.List.{List, [], _∷_}
+use mathlib.Core.List.{_∷_}
 use denote.Ref.{now}
 use lib.ListN.{length-set}
 use Rattle.film_lent.specs.Lent.{halfBytes}

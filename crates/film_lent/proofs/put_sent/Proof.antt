@@ -1,7 +1,7 @@
 -- `film_lent::put_sent` meets its contract: each arm is a case of `unitsSent`.
 -- Assumes nothing.
 use mathlib.Core.Path.{_∙_, ap, ap₂, sym}
-use mathlib.Core.List.{List, [], _∷_, _++_}
+use mathlib.Core.List.{_++_}
 use borrow.Author.Needs.{needs}
 use lib.ListN.{length}
 use Rattle.line21.specs.declared.AccessUnit.{AccessUnit}

@@ -1,7 +1,7 @@
 -- `film_lent::put_state` meets its contract: each arm is a case of `stateBytes`.
 -- Assumes nothing.
 use mathlib.Core.Path.{_∙_, ap, sym}
-use mathlib.Core.List.{List, _∷_}
+use mathlib.Core.List.{_∷_}
 use borrow.Author.Needs.{needs}
 use Rattle.film.specs.declared.Half.{Half}
 use Rattle.film_lent.specs.Lent.{halfBytes, stateBytes}

@@ -2,7 +2,6 @@
 -- Assumes nothing.
 use mathlib.Core.Path.{_∙_, ap, sym}
 use borrow.Author.Needs.{needs}
-use Rattle.film.specs.declared.Gone.{Gone}
 use Rattle.film.specs.Inside.{added}
 use Rattle.film_picture.proofs.add.Statement.{statement}
 use Rattle.film_picture.proofs.add.Tie as tie

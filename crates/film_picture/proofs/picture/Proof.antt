@@ -1,6 +1,6 @@
 -- `film_picture::picture` meets its contract: where the checks refuse the state stays, and else the fields are shown one after the other.
 -- Assumes nothing.
-use Prim.Native.Nat.{ℕ, _≤_}
+use Prim.Native.Nat.{_≤_}
 use mathlib.Core.Path.{_≡_, _∙_, ap, ap₂, sym}
 use mathlib.Core.List.{List}
 use borrow.Author.Needs.{needs}

@@ -1,7 +1,6 @@
 -- `film_picture::show` meets its contract: the side is what `odd_even` says, and the slot what `slot_of` finds.
 -- Assumes nothing.
-use Prim.Native.Nat.{ℕ}
-use mathlib.Core.Path.{_≡_, _∙_, ap, ap₂}
+use mathlib.Core.Path.{_∙_, ap₂}
 use borrow.Author.Needs.{needs}
 use Rattle.fields.specs.declared.OddEven.{OddEven}
 use Rattle.film.specs.declared.Slot.{Slot}

@@ -1,6 +1,6 @@
 -- `film_value::judge_lines` meets its contract. The loop's invariant: the records from i on decide as all of them do.
 -- Assumes nothing.
-use Prim.Native.Nat.{ℕ, _+_, _-_}
+use Prim.Native.Nat.{_+_, _-_}
 use native.Mathlib.Omega.{arith}
 use mathlib.Core.Path.{_≡_, sym}
 use mathlib.Core.List.{List, [], _∷_}

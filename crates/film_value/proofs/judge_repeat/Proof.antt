@@ -1,7 +1,7 @@
 -- `film_value::judge_repeat` meets its contract. Where the first field is repeated no record is refused; else the loop's
 -- invariant: the records from i on decide as all of them do.
 -- Assumes nothing.
-use Prim.Native.Nat.{ℕ, _+_, _-_}
+use Prim.Native.Nat.{_+_, _-_}
 use native.Mathlib.Omega.{arith}
 use mathlib.Core.Path.{_≡_, _∙_, ap, sym}
 use mathlib.Core.Bool.{Bool, false}
