@@ -179,10 +179,7 @@ static uint8_t lay_constructs(size_t n, const captions_record *records, laid *un
     last before = {0};
     for (size_t i = 0; i < n; i++) {
         captions_record r = records[i];
-        if (r.cc_priority > 3 || r.field_number > 3 || r.line_offset > 31) {
-            return CAPTIONS_UNHOLDABLE;
-        }
-        uint8_t number = judge_record(&before, r);
+        uint8_t number = judge_passed_record(&before, r);
         if (number != CAPTIONS_ACCEPTED) {
             return number;
         }

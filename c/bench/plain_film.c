@@ -35,10 +35,7 @@ static uint8_t take_records(uint32_t line, uint32_t repeat, size_t n, const capt
     last before = {0};
     for (size_t i = 0; i < n; i++) {
         captions_record r = records[i];
-        if (r.cc_priority > 3 || r.field_number > 3 || r.line_offset > 31) {
-            return CAPTIONS_UNHOLDABLE;
-        }
-        uint8_t number = judge_record(&before, r);
+        uint8_t number = judge_passed_record(&before, r);
         if (number != CAPTIONS_ACCEPTED) {
             return number;
         }

@@ -33,4 +33,13 @@ static inline uint8_t judge_record(last *before, captions_record r)
     return CAPTIONS_ACCEPTED;
 }
 
+/* The same of a record that a caller passes, whose numbers may be too large: 15 first. */
+static inline uint8_t judge_passed_record(last *before, captions_record r)
+{
+    if (r.cc_priority > 3 || r.field_number > 3 || r.line_offset > 31) {
+        return CAPTIONS_UNHOLDABLE;
+    }
+    return judge_record(before, r);
+}
+
 #endif

@@ -11,6 +11,7 @@ use borrow.Author.Tests.{eq-eqb, ne-eqb}
 use lib.Dec.{eqb}
 use lib.ListN.{length, drop, getD, drop-of-length-le}
 use lib.Seq.{drop-cons, getD-take}
+use Rattle.refusal.specs.declared.Verdict.{Verdict}
 use Rattle.refusal.specs.declared.Verdict.the-variants.{Accepted, Refused}
 use Rattle.refusal.specs.declared.Reason.the-variants.{NotShown, OtherLine}
 use Rattle.refusal.specs.declared.Item.the-variants.{Bit}
@@ -20,7 +21,8 @@ use Rattle.scte20.specs.Value.{blank, fieldOf, held}
 use Rattle.scte20.specs.Lent.{lentRecords, unitIn}
 use Rattle.scte20.proofs.Lending.{lent-length}
 use Rattle.scte20.proofs.Holding.{length-held}
-use Rattle.film.specs.declared.Slot.the-variants.{Invalid, Pair}
+use Rattle.film.specs.declared.Slot.{Slot}
+use Rattle.film.specs.declared.Slot.the-variants.{Pair}
 use Rattle.film.specs.Display.{isAt, pick, slotOf}
 use Rattle.film.specs.Calls.{repeatVerdict, lineVerdict}
 
@@ -40,7 +42,34 @@ records-over v s i few end =
     let over : length (recordsOf v s) ≤ i = omega (arith, length-held (unitIn v s) (lent-length s) few, end) in
     drop-of-length-le (recordsOf v s) over
 
+-- what a loop finds out from record i on is what all records say
+pub record Left {D : Type 0} (says : ℕ → List Record → D) (rs : List Record) (i : ℕ) : Type 0 where
+  pub left : says 0 rs ≡ says i (drop i rs)
+
+module _ {D : Type 0} (says : ℕ → List Record → D) (rs : List Record) where
+  pub left-first : Left says rs 0
+  left-first = record { left = refl }
+
+  -- record i decides
+  pub left-here : (i : ℕ) (r : Record) (rest : List Record) (d : D) → Left says rs i → drop i rs ≡ r ∷ rest → says i (r ∷ rest) ≡ d → says 0 rs ≡ d
+  left-here i r rest d so-far here e = so-far .left ∙ ap (says i) here ∙ e
+
+  -- or those behind it do
+  pub left-next : (i : ℕ) (r : Record) → Left says rs i → drop i rs ≡ r ∷ drop (i + 1) rs
+      → says i (r ∷ drop (i + 1) rs) ≡ says (i + 1) (drop (i + 1) rs) → Left says rs (i + 1)
+  left-next i r so-far here e = record { left = so-far .left ∙ ap (says i) here ∙ e }
+
+  pub left-end : (i : ℕ) → Left says rs i → drop i rs ≡ [] → says 0 rs ≡ says i []
+  left-end i so-far over = so-far .left ∙ ap (says i) over
+
+-- where construct i begins
+on : (i : ℕ) → 21 + 26 * i + 26 ≡ 21 + 26 * (i + 1)
+on i = omega arith
+
 -- 21
+
+abbrev pub repeatFrom : ℕ → List Record → Verdict
+repeatFrom i rs = repeatVerdict false (21 + 26 * i) rs
 
 pub and-false : (t : Bool) → (t && false) ≡ false
 and-false true = refl
@@ -50,90 +79,38 @@ pub repeated : (at : ℕ) (rs : List Record) → repeatVerdict true at rs ≡ Ac
 repeated at [] = refl
 repeated at (r ∷ rs) = (simp (and-false (eqb (fieldOf r) 3))) ∙ repeated (at + 26) rs
 
--- the records from i on decide as all of them do
-pub record RepeatLeft (rs : List Record) (i : ℕ) : Type 0 where
-  pub left : repeatVerdict false 21 rs ≡ repeatVerdict false (21 + 26 * i) (drop i rs)
+pub repeat-refused : (i : ℕ) (r : Record) (rest : List Record) → fieldOf r ≡ 3 → repeatFrom i (r ∷ rest) ≡ Refused NotShown (Bit (21 + 26 * i + 2))
+repeat-refused i r rest e = simp (eq-eqb (fieldOf r) 3 e)
 
-pub repeat-first : (rs : List Record) → RepeatLeft rs 0
-repeat-first rs = record { left = refl }
-
-pub repeat-refused : (rs rest : List Record) (i : ℕ) (r : Record) → RepeatLeft rs i
-    → drop i rs ≡ r ∷ rest → fieldOf r ≡ 3
-    → repeatVerdict false 21 rs ≡ Refused NotShown (Bit (21 + 26 * i + 2))
-repeat-refused rs rest i r so-far here e =
-    so-far .left ∙ ap (repeatVerdict false (21 + 26 * i)) here ∙ simp (eq-eqb (fieldOf r) 3 e)
-
-pub repeat-next : (rs : List Record) (i : ℕ) (r : Record) → RepeatLeft rs i
-    → drop i rs ≡ r ∷ drop (i + 1) rs → (fieldOf r ≡ 3 → ⊥) → RepeatLeft rs (i + 1)
-repeat-next rs i r so-far here e =
-    let far : 21 + 26 * i + 26 ≡ 21 + 26 * (i + 1) = omega arith in
-    record {
-      left =
-          so-far .left
-          ∙ ap (repeatVerdict false (21 + 26 * i)) here
-          ∙ (simp (ne-eqb (fieldOf r) 3 e))
-          ∙ ap (λ (k : ℕ). repeatVerdict false k (drop (i + 1) rs)) far;
-    }
-
-pub repeat-accepted : (rs : List Record) (i : ℕ) → RepeatLeft rs i → drop i rs ≡ [] → repeatVerdict false 21 rs ≡ Accepted
-repeat-accepted rs i so-far over = so-far .left ∙ ap (repeatVerdict false (21 + 26 * i)) over
+pub repeat-next : (i : ℕ) (r : Record) (rest : List Record) → (fieldOf r ≡ 3 → ⊥) → repeatFrom i (r ∷ rest) ≡ repeatFrom (i + 1) rest
+repeat-next i r rest e = (simp (ne-eqb (fieldOf r) 3 e)) ∙ ap (λ (k : ℕ). repeatVerdict false k rest) (on i)
 
 -- 22
 
-pub record LinesLeft (line : ℕ) (rs : List Record) (i : ℕ) : Type 0 where
-  pub left : lineVerdict line 21 rs ≡ lineVerdict line (21 + 26 * i) (drop i rs)
+abbrev pub linesFrom : ℕ → ℕ → List Record → Verdict
+linesFrom line i rs = lineVerdict line (21 + 26 * i) rs
 
-pub lines-first : (line : ℕ) (rs : List Record) → LinesLeft line rs 0
-lines-first line rs = record { left = refl }
+pub line-refused : (line i : ℕ) (r : Record) (rest : List Record) → (r .«line_offset» ≡ line → ⊥)
+    → linesFrom line i (r ∷ rest) ≡ Refused OtherLine (Bit (21 + 26 * i + 4))
+line-refused line i r rest e = simp (ne-eqb (r .«line_offset») line e)
 
-pub line-refused : (line : ℕ) (rs rest : List Record) (i : ℕ) (r : Record) → LinesLeft line rs i
-    → drop i rs ≡ r ∷ rest → (r .«line_offset» ≡ line → ⊥)
-    → lineVerdict line 21 rs ≡ Refused OtherLine (Bit (21 + 26 * i + 4))
-line-refused line rs rest i r so-far here e =
-    so-far .left ∙ ap (lineVerdict line (21 + 26 * i)) here ∙ simp (ne-eqb (r .«line_offset») line e)
-
-pub line-next : (line : ℕ) (rs : List Record) (i : ℕ) (r : Record) → LinesLeft line rs i
-    → drop i rs ≡ r ∷ drop (i + 1) rs → r .«line_offset» ≡ line → LinesLeft line rs (i + 1)
-line-next line rs i r so-far here e =
-    let far : 21 + 26 * i + 26 ≡ 21 + 26 * (i + 1) = omega arith in
-    record {
-      left =
-          so-far .left
-          ∙ ap (lineVerdict line (21 + 26 * i)) here
-          ∙ (simp (eq-eqb (r .«line_offset») line e))
-          ∙ ap (λ (k : ℕ). lineVerdict line k (drop (i + 1) rs)) far;
-    }
-
-pub lines-accepted : (line : ℕ) (rs : List Record) (i : ℕ) → LinesLeft line rs i → drop i rs ≡ [] → lineVerdict line 21 rs ≡ Accepted
-lines-accepted line rs i so-far over = so-far .left ∙ ap (lineVerdict line (21 + 26 * i)) over
+pub line-next : (line i : ℕ) (r : Record) (rest : List Record) → r .«line_offset» ≡ line → linesFrom line i (r ∷ rest) ≡ linesFrom line (i + 1) rest
+line-next line i r rest e = (simp (eq-eqb (r .«line_offset») line e)) ∙ ap (λ (k : ℕ). lineVerdict line k rest) (on i)
 
 -- the slot of a display field
 
-pub record SlotLeft (line field : ℕ) (rs : List Record) (i : ℕ) : Type 0 where
-  pub left : slotOf line field rs ≡ slotOf line field (drop i rs)
+abbrev pub slotFrom : ℕ → ℕ → ℕ → List Record → Slot
+slotFrom line field i rs = slotOf line field rs
 
-pub slot-first : (line field : ℕ) (rs : List Record) → SlotLeft line field rs 0
-slot-first line field rs = record { left = refl }
-
-pub slot-here : (line field : ℕ) (rs rest : List Record) (i : ℕ) (r : Record) → SlotLeft line field rs i
-    → drop i rs ≡ r ∷ rest → fieldOf r ≡ field → r .«line_offset» ≡ line
-    → slotOf line field rs ≡ Pair (r .«cc_data_1») (r .«cc_data_2»)
-slot-here line field rs rest i r so-far here e f =
-    so-far .left ∙ ap (slotOf line field) here ∙ simp (eq-eqb (fieldOf r) field e, eq-eqb (r .«line_offset») line f)
+pub slot-here : (line field : ℕ) (r : Record) (rest : List Record) → fieldOf r ≡ field → r .«line_offset» ≡ line
+    → slotOf line field (r ∷ rest) ≡ Pair (r .«cc_data_1») (r .«cc_data_2»)
+slot-here line field r rest e f = simp (eq-eqb (fieldOf r) field e, eq-eqb (r .«line_offset») line f)
 
 not-at : (line field : ℕ) (r : Record) → (fieldOf r ≡ field → ⊥) ⊎ (r .«line_offset» ≡ line → ⊥) → isAt line field r ≡ false
 not-at line field r (inl e) = ap (λ (t : Bool). t && eqb (r .«line_offset») line) (ne-eqb (fieldOf r) field e)
 not-at line field r (inr e) = ap (λ (t : Bool). eqb (fieldOf r) field && t) (ne-eqb (r .«line_offset») line e) ∙ and-false (eqb (fieldOf r) field)
 
-pub slot-next : (line field : ℕ) (rs : List Record) (i : ℕ) (r : Record) → SlotLeft line field rs i
-    → drop i rs ≡ r ∷ drop (i + 1) rs → (fieldOf r ≡ field → ⊥) ⊎ (r .«line_offset» ≡ line → ⊥) → SlotLeft line field rs (i + 1)
-slot-next line field rs i r so-far here e =
-    record {
-      left =
-          so-far .left
-          ∙ ap (slotOf line field) here
-          ∙ ap (λ (t : Bool). pick t (Pair (r .«cc_data_1») (r .«cc_data_2»)) (slotOf line field (drop (i + 1) rs))) (not-at line field r e);
-    }
-
-pub slot-none : (line field : ℕ) (rs : List Record) (i : ℕ) → SlotLeft line field rs i → drop i rs ≡ [] → slotOf line field rs ≡ Invalid
-slot-none line field rs i so-far over = so-far .left ∙ ap (slotOf line field) over
+pub slot-next : (line field : ℕ) (r : Record) (rest : List Record) → (fieldOf r ≡ field → ⊥) ⊎ (r .«line_offset» ≡ line → ⊥)
+    → slotOf line field (r ∷ rest) ≡ slotOf line field rest
+slot-next line field r rest e =
+    ap (λ (t : Bool). pick t (Pair (r .«cc_data_1») (r .«cc_data_2»)) (slotOf line field rest)) (not-at line field r e)

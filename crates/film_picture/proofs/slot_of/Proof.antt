@@ -12,12 +12,12 @@ use denote.Ref.{now}
 use lib.ListN.{drop}
 use Rattle.scte20.specs.declared.Record.{Record}
 use Rattle.scte20.specs.Value.{fieldOf}
-use Rattle.film.proofs.Records.{recordsOf, record-here, records-over, SlotLeft, slot-first, slot-here, slot-next, slot-none}
+use Rattle.film.proofs.Records.{recordsOf, record-here, records-over, Left, left-first, left-here, left-next, left-end, slotFrom, slot-here, slot-next}
 use Rattle.film_picture.proofs.slot_of.Statement.{statement}
 use Rattle.film_picture.proofs.slot_of.Tie as tie
 
 abbrev Inv-loop : tie.InvT-loop
-Inv-loop line-offset field v records i₀ i = SlotLeft line-offset (field .0) (recordsOf v records) i
+Inv-loop line-offset field v records i₀ i = Left (slotFrom line-offset (field .0)) (recordsOf v records) i
 
 abbrev μ-loop : tie.MeasureT-loop
 μ-loop line-offset field v records i₀ i = v .n - i
@@ -47,30 +47,33 @@ over c =
     records-over (start .args .v) (now (start .args .records)) (head .loop .i) (start .pre) (c .if1 .left)
 
 loop-holds : tie.Need-loop-holds Inv-loop μ-loop
-loop-holds c = slot-first (c .args .line-offset) (c .args .field .0) (recordsOf (c .args .v) (now (c .args .records)))
+loop-holds c = left-first (slotFrom (c .args .line-offset) (c .args .field .0)) (recordsOf (c .args .v) (now (c .args .records)))
 
 found : tie.Need-returns Inv-loop μ-loop
 found c =
     let turn = c .before .before .before .before .before in
     let loop = head turn .loop in
     let args = head turn .before .args in
+    let rest = drop (loop .i + 1) (all (head turn)) in
     sym
-    (slot-here (args .line-offset) (args .field .0) (all (head turn)) (drop (loop .i + 1) (all (head turn))) (loop .i) (r turn) (loop .inv) (here turn)
-    (c .before .before .if2 .taken) (eqb-true _ _ (c .if3 .taken)))
+    (left-here (slotFrom (args .line-offset) (args .field .0)) (all (head turn)) (loop .i) (r turn) rest _ (loop .inv) (here turn)
+    (slot-here (args .line-offset) (args .field .0) (r turn) rest (c .before .before .if2 .taken) (eqb-true _ _ (c .if3 .taken))))
 
 loop-again : tie.Need-loop-again Inv-loop μ-loop
 loop-again c =
     let turn = c .before .before .before in
     let loop = head turn .loop in
     let args = head turn .before .args in
-    slot-next (args .line-offset) (args .field .0) (all (head turn)) (loop .i) (r turn) (loop .inv) (here turn)
+    let rest = drop (loop .i + 1) (all (head turn)) in
+    left-next (slotFrom (args .line-offset) (args .field .0)) (all (head turn)) (loop .i) (r turn) (loop .inv) (here turn)
+    (slot-next (args .line-offset) (args .field .0) (r turn) rest
     (⊎-elim {C = (fieldOf (r turn) ≡ args .field .0 → ⊥) ⊎ (r turn .«line_offset» ≡ args .line-offset → ⊥)}
-    (λ line. inr (λ e. true≢false (sym (eq-eqb _ _ e) ∙ line .2 .left))) (λ field. inl (field .left)) (c .if2 .came))
+    (λ line. inr (λ e. true≢false (sym (eq-eqb _ _ e) ∙ line .2 .left))) (λ field. inl (field .left)) (c .if2 .came)))
 
 none : tie.Need-returns-2 Inv-loop μ-loop
 none c =
     let head = c .before .before in
-    sym (slot-none (head .before .args .line-offset) (head .before .args .field .0) (all head) (head .loop .i) (head .loop .inv) (over c))
+    sym (left-end (slotFrom (head .before .args .line-offset) (head .before .args .field .0)) (all head) (head .loop .i) (head .loop .inv) (over c))
 
 pub slot-of-spec : {M : Type 1} → statement M
 slot-of-spec =

@@ -8,12 +8,12 @@ use borrow.Author.Needs.{needs}
 use denote.Ref.{now}
 use lib.ListN.{drop}
 use Rattle.scte20.specs.declared.Record.{Record}
-use Rattle.film.proofs.Records.{recordsOf, record-here, records-over, LinesLeft, lines-first, line-refused, line-next, lines-accepted}
+use Rattle.film.proofs.Records.{recordsOf, record-here, records-over, Left, left-first, left-here, left-next, left-end, linesFrom, line-refused, line-next}
 use Rattle.film_value.proofs.judge_lines.Statement.{statement}
 use Rattle.film_value.proofs.judge_lines.Tie as tie
 
 abbrev Inv-loop : tie.InvT-loop
-Inv-loop line-offset v records i₀ i = LinesLeft line-offset (recordsOf v records) i
+Inv-loop line-offset v records i₀ i = Left (linesFrom line-offset) (recordsOf v records) i
 
 abbrev μ-loop : tie.MeasureT-loop
 μ-loop line-offset v records i₀ i = v .n - i
@@ -43,24 +43,28 @@ over c =
     records-over (start .args .v) (now (start .args .records)) (head .loop .i) (start .pre) (c .if1 .left)
 
 loop-holds : tie.Need-loop-holds Inv-loop μ-loop
-loop-holds c = lines-first (c .args .line-offset) (recordsOf (c .args .v) (now (c .args .records)))
+loop-holds c = left-first (linesFrom (c .args .line-offset)) (recordsOf (c .args .v) (now (c .args .records)))
 
 other-line : tie.Need-returns Inv-loop μ-loop
 other-line c =
     let turn = c .before .before in
     let loop = head turn .loop in
-    sym (line-refused (head turn .before .args .line-offset) (all (head turn)) (drop (loop .i + 1) (all (head turn))) (loop .i) (r turn) (loop .inv) (here turn) (c .if2 .taken))
+    let line = head turn .before .args .line-offset in
+    let rest = drop (loop .i + 1) (all (head turn)) in
+    sym (left-here (linesFrom line) (all (head turn)) (loop .i) (r turn) rest _ (loop .inv) (here turn) (line-refused line (loop .i) (r turn) rest (c .if2 .taken)))
 
 loop-again : tie.Need-loop-again Inv-loop μ-loop
 loop-again c =
     let turn = c .before .before in
     let loop = head turn .loop in
-    line-next (head turn .before .args .line-offset) (all (head turn)) (loop .i) (r turn) (loop .inv) (here turn) (c .if2 .left)
+    let line = head turn .before .args .line-offset in
+    let rest = drop (loop .i + 1) (all (head turn)) in
+    left-next (linesFrom line) (all (head turn)) (loop .i) (r turn) (loop .inv) (here turn) (line-next line (loop .i) (r turn) rest (c .if2 .left))
 
 done : tie.Need-returns-2 Inv-loop μ-loop
 done c =
     let head = c .before .before in
-    sym (lines-accepted (head .before .args .line-offset) (all head) (head .loop .i) (head .loop .inv) (over c))
+    sym (left-end (linesFrom (head .before .args .line-offset)) (all head) (head .loop .i) (head .loop .inv) (over c))
 
 pub judge-lines-spec : {M : Type 1} → statement M
 judge-lines-spec =

@@ -11,12 +11,12 @@ use denote.Ref.{now}
 use lib.ListN.{drop}
 use Rattle.scte20.specs.declared.Record.{Record}
 use Rattle.film.specs.Calls.{repeatVerdict}
-use Rattle.film.proofs.Records.{recordsOf, record-here, records-over, repeated, RepeatLeft, repeat-first, repeat-refused, repeat-next, repeat-accepted}
+use Rattle.film.proofs.Records.{recordsOf, record-here, records-over, repeated, Left, left-first, left-here, left-next, left-end, repeatFrom, repeat-refused, repeat-next}
 use Rattle.film_value.proofs.judge_repeat.Statement.{statement}
 use Rattle.film_value.proofs.judge_repeat.Tie as tie
 
 abbrev Inv-loop : tie.InvT-loop
-Inv-loop repeat-first-field v records i₀ i = RepeatLeft (recordsOf v records) i
+Inv-loop repeat-first-field v records i₀ i = Left repeatFrom (recordsOf v records) i
 
 abbrev μ-loop : tie.MeasureT-loop
 μ-loop repeat-first-field v records i₀ i = v .n - i
@@ -52,7 +52,7 @@ flagged c =
     sym (ap (λ (t : Bool). repeatVerdict t 21 rs) (c .if1 .taken) ∙ repeated 21 rs)
 
 loop-holds : tie.Need-loop-holds Inv-loop μ-loop
-loop-holds c = repeat-first (recordsOf (c .before .args .v) (now (c .before .args .records)))
+loop-holds c = left-first repeatFrom (recordsOf (c .before .args .v) (now (c .before .args .records)))
 
 -- it is not set
 module _ (c : tie.At-loop Inv-loop μ-loop) where
@@ -63,20 +63,22 @@ not-shown : tie.Need-returns-2 Inv-loop μ-loop
 not-shown c =
     let turn = c .before .before in
     let loop = head turn .loop in
+    let rest = drop (loop .i + 1) (all (head turn)) in
     sym
     (two-fields (head turn)
-    ∙ repeat-refused (all (head turn)) (drop (loop .i + 1) (all (head turn))) (loop .i) (r turn) (loop .inv) (here turn) (c .if3 .taken))
+    ∙ left-here repeatFrom (all (head turn)) (loop .i) (r turn) rest _ (loop .inv) (here turn) (repeat-refused (loop .i) (r turn) rest (c .if3 .taken)))
 
 loop-again : tie.Need-loop-again Inv-loop μ-loop
 loop-again c =
     let turn = c .before .before in
     let loop = head turn .loop in
-    repeat-next (all (head turn)) (loop .i) (r turn) (loop .inv) (here turn) (c .if3 .left)
+    let rest = drop (loop .i + 1) (all (head turn)) in
+    left-next repeatFrom (all (head turn)) (loop .i) (r turn) (loop .inv) (here turn) (repeat-next (loop .i) (r turn) rest (c .if3 .left))
 
 done : tie.Need-returns-3 Inv-loop μ-loop
 done c =
     let head = c .before .before in
-    sym (two-fields head ∙ repeat-accepted (all head) (head .loop .i) (head .loop .inv) (over c))
+    sym (two-fields head ∙ left-end repeatFrom (all head) (head .loop .i) (head .loop .inv) (over c))
 
 pub judge-repeat-spec : {M : Type 1} → statement M
 judge-repeat-spec =
