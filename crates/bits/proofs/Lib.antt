@@ -2,6 +2,7 @@ pub mod Numbers
 pub mod Stream
 pub mod Fields
 pub mod Turn
+pub mod Table
 pub mod Beyond
 pub mod Runs
 pub mod Quiet

@@ -7,6 +7,7 @@ ghost use lib.ListN.{length};
 ghost use Rattle.refusal.specs.declared.Verdict.the-variants.{Accepted};
 ghost use Rattle.refusal.specs.Checks.{andThen};
 ghost use Rattle.bits.specs.Bits.{bitsOf};
+ghost use Rattle.bits.specs.Table.{Reverses};
 ghost use Rattle.scte20.specs.Value.{none, stored};
 ghost use Rattle.scte20.specs.Reading.{headVerdict, flagIn, sampledVerdict, restVerdict};
 ghost use Rattle.scte20.specs.Lent.{numbersOf, ReadsInto};
@@ -127,6 +128,7 @@ fn read_constructs(body: &[u8], n: usize, records: &mut [u8; LENT_RECORDS]) -> V
     requires { ⌜ length (now records) ≡ 155 ⌝ }
     ensures { λ r. ⌜ Runs (now (body .entry)) n (now (records .entry)) r (now (records .exit)) ⌝ }
 {
+    let table = bits::reversed_bytes();
     let mut last = scte20_rules::none_yet();
     let mut i = 0;
     while i < n {
@@ -135,7 +137,7 @@ fn read_constructs(body: &[u8], n: usize, records: &mut [u8; LENT_RECORDS]) -> V
             return Verdict::Refused(Reason::Ends, Item::Bit(at));
         }
         let construct = bits::peek(body, at, CONSTRUCT_BITS as u32);
-        let record = record_of(construct);
+        let record = record_of(construct, &table);
         let verdict = scte20_rules::judge_record(last, record, at as u32);
         if let Verdict::Refused(_, _) = verdict {
             return verdict;
@@ -151,21 +153,20 @@ fn read_constructs(body: &[u8], n: usize, records: &mut [u8; LENT_RECORDS]) -> V
 }
 
 // The record of a construct (001, 5.8). The data bytes come least significant bit first.
-fn record_of(construct: u32) -> Record
+fn record_of(construct: u32, table: &[u8; 256]) -> Record
     requires { ⌜ construct < 67108864 ⌝ }
+    requires { ⌜ Reverses (now table) ⌝ }
     ensures { λ r. ⌜ r ≡ constructOf construct ⌝ }
 {
     let field_number = DisplayField(((construct >> 22) % 4) as u8);
     let first = ((construct >> 9) % 256) as u8;
     let second = ((construct >> 1) % 256) as u8;
-    let cc_data_1 = bits::reverse(first);
-    let cc_data_2 = bits::reverse(second);
     Record {
         cc_priority: (construct >> 24) as u8,
         field_number,
         line_offset: ((construct >> 17) % 32) as u8,
-        cc_data_1,
-        cc_data_2,
+        cc_data_1: table[first as usize],
+        cc_data_2: table[second as usize],
     }
 }
 

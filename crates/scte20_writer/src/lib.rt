@@ -7,6 +7,7 @@ ghost use lib.ListN.{length};
 ghost use Rattle.lists.specs.Room.{overAt};
 ghost use Rattle.refusal.specs.declared.Verdict.the-variants.{Accepted};
 ghost use Rattle.bits.specs.Bits.{num};
+ghost use Rattle.bits.specs.Table.{Reverses};
 ghost use Rattle.scte20.specs.Value.{held, Ranged};
 ghost use Rattle.scte20.specs.Layout.{constructBits, layout, sizeIn};
 ghost use Rattle.scte20.specs.Lent.{unitIn};
@@ -96,6 +97,7 @@ fn put_constructs(v: Numbers, records: &[u8; LENT_RECORDS], out: &mut [u8]) -> u
     requires { ⌜ 2 + countedSize (v .n) ≤ length (now out) ⌝ }
     ensures { λ r. ⌜ (r ≡ 2 + countedSize (v .n)) × (now (out .exit) ≡ overAt 2 (countedBytes (held (unitIn v (now (records .entry))) .records)) (now (out .entry))) ⌝ }
 {
+    let table = bits::reversed_bytes();
     let mut pen = Pen {
         at: 2,
         width: 5,
@@ -104,7 +106,7 @@ fn put_constructs(v: Numbers, records: &[u8; LENT_RECORDS], out: &mut [u8]) -> u
     let mut i = 0;
     while i < v.n {
         let next = scte20::record_in(records, i);
-        pen = push(pen, construct_of(next), out);
+        pen = push(pen, construct_of(next, &table), out);
         i += 1;
     }
     let at = pen.at;
@@ -114,12 +116,13 @@ fn put_constructs(v: Numbers, records: &[u8; LENT_RECORDS], out: &mut [u8]) -> u
 
 // The construct of a record, as one number of 26 bits (001, 5.8). The data bytes go least significant bit first, and the marker
 // is 1.
-fn construct_of(r: Record) -> u32
+fn construct_of(r: Record, table: &[u8; 256]) -> u32
     requires { ⌜ Ranged r ⌝ }
+    requires { ⌜ Reverses (now table) ⌝ }
     ensures { λ c. ⌜ c ≡ num (constructBits r) ⌝ }
 {
-    let first = bits::reverse(r.cc_data_1) as u32;
-    let second = bits::reverse(r.cc_data_2) as u32;
+    let first = table[r.cc_data_1 as usize] as u32;
+    let second = table[r.cc_data_2 as usize] as u32;
     let place = (r.cc_priority as u32 * 4 + r.field_number.0 as u32) * 32 + r.line_offset as u32;
     ((place * 256 + first) * 256 + second) * 2 + 1
 }

@@ -30,14 +30,14 @@ use Rattle.scte20_reader.proofs.read_constructs.Statement.{statement}
 use Rattle.scte20_reader.proofs.read_constructs.Tie as tie
 
 abbrev Inv-loop : tie.InvT-loop
-Inv-loop body n records₀ last₀ i₀ records last i = Going (bitsOf body) n records₀ records last i
+Inv-loop body n records₀ table last₀ i₀ records last i = Going (bitsOf body) n records₀ records last i
 
 abbrev μ-loop : tie.MeasureT-loop
-μ-loop body n records₀ last₀ i₀ records last i = n - i
+μ-loop body n records₀ table last₀ i₀ records last i = n - i
 
 loop-holds : tie.Need-loop-holds Inv-loop μ-loop
 loop-holds c =
-    let start = c .before .before in
+    let start = c .before .before .before in
     let body = now (start .args .body) in
     let lent = now (start .args .records) in
     subst (λ (last : Last). Going (bitsOf body) (start .args .n) lent lent last 0) (sym (c .none-yet .ensures)) (going-first (bitsOf body) (start .args .n) lent)
@@ -45,13 +45,13 @@ loop-holds c =
 -- a turn of the loop
 module _ (c : tie.In-loop Inv-loop μ-loop) where
   abbrev bodyOf : List ℕ
-  bodyOf = now (c .before .before .before .before .args .body)
+  bodyOf = now (c .before .before .before .before .before .args .body)
 
   abbrev nOf : ℕ
-  nOf = c .before .before .before .before .args .n
+  nOf = c .before .before .before .before .before .args .n
 
   abbrev lentOf : List ℕ
-  lentOf = now (c .before .before .before .before .args .records)
+  lentOf = now (c .before .before .before .before .before .args .records)
 
   abbrev iOf : ℕ
   iOf = c .before .loop .i
@@ -103,29 +103,29 @@ module _ (c : tie.After-peek Inv-loop μ-loop) where
 -- and its record is judged as the one that stands there
 module _ (c : tie.After-judge-record Inv-loop μ-loop) where
   taken :
-      let turn = c .before .before .before .before in
+      let turn = c .before .before .before .before .before in
       c .before .record-of .result ≡ constructAt (atOf turn) (bitsOf (bodyOf turn))
   taken =
-      let peeked = c .before .before in
+      let peeked = c .before .before .before in
       let turn = peeked .before .before in
       c .before .record-of .ensures
       ∙ ap constructOf (seen peeked)
       ∙ construct-at (bitsOf (bodyOf turn)) (atOf turn) (bitsOf-are (bodyOf turn)) (fits peeked)
 
   judged :
-      let turn = c .before .before .before .before in
+      let turn = c .before .before .before .before .before in
       c .judge-record .result ≡ lastVerdict (atOf turn) (turn .before .loop .last) (constructAt (atOf turn) (bitsOf (bodyOf turn)))
   judged =
-      let turn = c .before .before .before .before in
+      let turn = c .before .before .before .before .before in
       c .judge-record .ensures ∙ ap (lastVerdict (atOf turn) (turn .before .loop .last)) taken
 
-  whole : let turn = c .before .before .before .before in missing (atOf turn) 26 (bitsOf (bodyOf turn)) ≡ Accepted
-  whole = let turn = c .before .before .before .before in missing-none (bodyOf turn) (atOf turn) 26 (long (c .before .before))
+  whole : let turn = c .before .before .before .before .before in missing (atOf turn) 26 (bitsOf (bodyOf turn)) ≡ Accepted
+  whole = let turn = c .before .before .before .before .before in missing-none (bodyOf turn) (atOf turn) 26 (long (c .before .before .before))
 
 illegal : tie.Need-returns-2 Inv-loop μ-loop
 illegal c =
     let past = c .before .before in
-    let turn = past .before .before .before .before in
+    let turn = past .before .before .before .before .before in
     let told = c .enum-told .given .1 in
     refused-run (bodyOf turn) (nOf turn) (lentOf turn) _ _ _ _ told
     (refused-first _ (judged past) told ∙ sym (here turn ∙ accepted-first _ (sym (whole past)) refl))
@@ -133,7 +133,7 @@ illegal c =
 unmarked : tie.Need-returns-3 Inv-loop μ-loop
 unmarked c =
     let past = c .before .before .before in
-    let peeked = past .before .before in
+    let peeked = past .before .before .before in
     let turn = peeked .before .before in
     let body = bodyOf turn in
     let other = marker-other (bitsOf body) (atOf turn) (bitsOf-are body) (fits peeked) (λ e. c .if2 .taken (ap (λ (k : ℕ). k % 2) (seen peeked) ∙ e)) in
@@ -145,7 +145,7 @@ loop-again : tie.Need-loop-again Inv-loop μ-loop
 loop-again c =
     let marking = c .before .before .before in
     let past = marking .before .before .before in
-    let peeked = past .before .before in
+    let peeked = past .before .before .before in
     let turn = peeked .before .before in
     let at = turn .before .loop in
     let body = bodyOf turn in
@@ -155,7 +155,7 @@ loop-again c =
     let legal = sym (judged past) ∙ marking .before .enum-told2 .given .1 in
     let marked = marker-one xs (atOf turn) (bitsOf-are body) (fits peeked) (ap (λ (k : ℕ). k % 2) (sym (seen peeked)) ∙ marking .if2 .left) in
     let after : c .after .result ≡ lastAfter (at .last) r = c .after .ensures ∙ ap (lastAfter (at .last)) (taken past) in
-    let room = going-room xs n (lentOf turn) (at .records) (at .last) (at .i) (at .inv) (turn .loop-test .taken) (few turn) (turn .before .before .before .before .pre .1 .1) in
+    let room = going-room xs n (lentOf turn) (at .records) (at .last) (at .i) (at .inv) (turn .loop-test .taken) (few turn) (turn .before .before .before .before .before .pre .1 .1) in
     let laid : c .before .put-record .last .1 .1 .0 ≡ overAt (5 * at .i) (recordBytes r) (at .records) =
     c .before .put-record .ensures ∙ ap (λ (s : Record). storedAt (at .i) s (at .records)) (taken past) ∙ stored-laid (at .i) r (at .records) (below turn) room
     in
@@ -165,7 +165,7 @@ loop-again c =
 
 done : tie.Need-returns-4 Inv-loop μ-loop
 done c =
-    let start = c .before .before .before .before in
+    let start = c .before .before .before .before .before in
     let at = c .before .loop in
     let xs = bitsOf (now (start .args .body)) in
     let lent = now (start .args .records) in
@@ -181,6 +181,7 @@ read-constructs-spec =
     Inv-loop
     μ-loop
     (λ c κs. search needs)
+    (λ c κs. search needs)
     loop-holds
     (λ c. omega arith)
     (λ c. omega arith)
@@ -189,17 +190,17 @@ read-constructs-spec =
     ends
     (λ c. omega arith)
     (λ c κs. search needs)
-    (λ c κs. omega (arith, small c))
-    (λ c. omega (arith, below (c .before .before .before)))
+    (λ c κs. (omega (arith, small (c .before)), c .before .before .before .before .before .before .reversed-bytes .ensures))
+    (λ c. omega (arith, below (c .before .before .before .before)))
     (λ c κs. search needs)
     (λ c. search needs)
     illegal
     (λ c. search needs)
-    (λ c. omega (arith, below (c .before .before .before .before .before .before .before)))
+    (λ c. omega (arith, below (c .before .before .before .before .before .before .before .before)))
     unmarked
     (λ c κs. search needs)
     (λ c κs. search needs)
-    (λ c. omega (arith, below (c .before .before .before .before .before .before .before .before .before .before)))
+    (λ c. omega (arith, below (c .before .before .before .before .before .before .before .before .before .before .before)))
     (λ c. omega arith)
     loop-again
     done)

@@ -1,6 +1,7 @@
 -- `scte20_reader::record_of` meets its contract: each part of the number is the one that `constructOf` takes.
 -- Assumes nothing.
 use Prim.Native.Nat.{ℕ, _/_, _%_}
+use native.Mathlib.Omega.{arith}
 use mathlib.Core.Path.{ap₂}
 use borrow.Author.Needs.{needs}
 use Rattle.scte20.specs.declared.Record.{Record}
@@ -20,7 +21,13 @@ made c first second =
 
 returns : tie.Need-returns
 unfolding constructOf made
-returns c = ap₂ (made (c .before .before .args .construct)) (c .before .reverse .ensures) (c .reverse2 .ensures)
+returns c =
+    let args = c .before .before .args in
+    let turned = c .before .before .pre .1 .entry in
+    ap₂
+    (made (args .construct))
+    (turned (args .construct / 512 % 256) (omega arith))
+    (turned (args .construct / 2 % 256) (omega arith))
 
 pub record-of-spec : {M : Type 1} → statement M
 record-of-spec =
@@ -29,8 +36,10 @@ record-of-spec =
     (λ c. search needs)
     (λ c. search needs)
     (λ c. search needs)
-    (λ c κs. search needs)
-    (λ c κs. search needs)
+    (λ c. search needs)
+    (λ c. search needs)
+    (λ c. search needs)
+    (λ c. search needs)
     (λ c. search needs)
     (λ c. search needs)
     returns)

@@ -51,10 +51,10 @@ counted-written u i room few all =
     ∙ ap (λ (m : ℕ). bytesOf (countedSize m) ((bits 5 m ++ constructsBits (held u .records)) ++ replicate 8 0)) (sym (length-held u room few))
 
 abbrev Inv-loop : tie.InvT-loop
-Inv-loop v records out₀ pen₀ i₀ out pen i = (i ≤ v .n) × Penned out₀ (written (unitIn v records) i) pen out
+Inv-loop v records out₀ table pen₀ i₀ out pen i = (i ≤ v .n) × Penned out₀ (written (unitIn v records) i) pen out
 
 abbrev μ-loop : tie.MeasureT-loop
-μ-loop v records out₀ pen₀ i₀ out pen i = v .n - i
+μ-loop v records out₀ table pen₀ i₀ out pen i = v .n - i
 
 module _ (c : tie.Start Inv-loop μ-loop) where
   -- the value that is written
@@ -76,7 +76,7 @@ module _ (c : tie.Start Inv-loop μ-loop) where
 -- at the loop's head
 module _ (c : tie.At-loop Inv-loop μ-loop) where
   abbrev start : tie.Start Inv-loop μ-loop
-  start = c .before .before
+  start = c .before .before .before
 
   abbrev out : List ℕ
   out = now (start .args .out)
@@ -114,37 +114,42 @@ module _ (c : tie.At-loop Inv-loop μ-loop) where
   moved = mod-eq-of-lt (omega (arith, small))
 
 loop-holds : tie.Need-loop-holds Inv-loop μ-loop
-loop-holds c = (omega arith, penned-start (now (c .before .args .out)) (c .before .args .v .n) (omega (arith, few (c .before))))
+loop-holds c =
+    let start = c .before .before in
+    (omega arith, penned-start (now (start .args .out)) (start .args .v .n) (omega (arith, few start)))
 
 construct-of-requires : tie.Need-construct-of-requires Inv-loop μ-loop
 construct-of-requires c κs =
-    let at = c .before .before .before in
-    in-range (c .record-in .result) (byte-record (c .record-in .result) _ (c .record-in .ok))
-    (subst InRange (sym (c .record-in .ensures)) (ranged (start at) (at .loop .i) (c .before .if1 .taken)))
+    let told = c .before .record-in in
+    let at = c .before .before .before .before in (
+      in-range (told .result) (byte-record (told .result) _ (told .ok))
+          (subst InRange (sym (told .ensures)) (ranged (start at) (at .loop .i) (c .before .before .if1 .taken))),
+      at .before .reversed-bytes .ensures,
+    )
 
 push-requires : tie.Need-push-requires Inv-loop μ-loop
 push-requires c κs =
-    let at = c .before .before .before .before .before in
+    let at = c .before .before .before .before .before .before in
     let i = at .loop .i in
-    let below : i < unit (start at) .n = c .before .before .before .if1 .taken in
+    let below : i < unit (start at) .n = c .before .before .before .before .if1 .taken in
     let narrow = penned-bits (out at) (so-far at) (are at) (pen at) (at .loop .out) (at .loop .inv .1) in
-    let construct = subst (λ (n : ℕ). n < 67108864) (sym (c .before .construct-of .ensures)) (construct-lt (c .before .before .record-in .result)) in
+    let construct = subst (λ (n : ℕ). n < 67108864) (sym (c .before .construct-of .ensures)) (construct-lt (c .before .before .before .record-in .result)) in
     (width at, (narrow, (construct, omega (arith, at .loop .inv .1 .at, sized at, kept at, start at .pre .1))))
 
 loop-again : tie.Need-loop-again Inv-loop μ-loop
 loop-again c =
     let told = c .before .before .before .before in
-    let at = told .before .before .before .before in
+    let at = told .before .before .before .before .before in
     let u = unit (start at) in
     let i = at .loop .i in
-    let below : i < u .n = told .before .before .if1 .taken in
+    let below : i < u .n = told .before .before .before .if1 .taken in
     let inside : i < length (u .records) = omega (arith, places (start at), few (start at)) in
-    let r = told .before .record-in .result in
+    let r = told .before .before .record-in .result in
     let next = c .before .before .push .result in
     let then = c .before .before .push .last .1 .1 .0 in
     let step = subst (λ (n : ℕ). Pushes (pen at) n (at .loop .out) next then) (told .construct-of .ensures) (c .before .before .push .ensures) in
     let more : so-far at ++ constructBits r ≡ written u (i + 1) =
-    ap (λ (s : Record). so-far at ++ constructBits s) (told .before .record-in .ensures)
+    ap (λ (s : Record). so-far at ++ constructBits s) (told .before .before .record-in .ensures)
     ∙ ap (λ (xs : List ℕ). bits 5 (u .n) ++ xs) (sym (constructs-more (u .records) i blank inside))
     in (
       omega arith,
@@ -169,11 +174,12 @@ put-constructs-spec =
     (tie.spec
     Inv-loop
     μ-loop
+    (λ c κs. search needs)
     loop-holds
     (λ c κs. search needs)
     construct-of-requires
     push-requires
-    (λ c. omega (arith, few (c .before .before .before .before .before .before .before .before .before .before)))
+    (λ c. omega (arith, few (c .before .before .before .before .before .before .before .before .before .before .before .before)))
     (λ c. omega arith)
     loop-again
     (λ c. omega (arith, width (c .before .before .before)))
@@ -181,6 +187,6 @@ put-constructs-spec =
     (λ c. omega (arith, width (c .before .before .before .before)))
     (λ c. omega (arith, moved (c .before .before .before .before), small (c .before .before .before .before)))
     (λ c. omega (arith, c .before .before .before .before .loop .inv .1 .at, kept (c .before .before .before .before), fits (c .before .before .before .before)))
-    (λ c. omega (arith, c .before .before .before .before .loop .inv .1 .at, sized (c .before .before .before .before), few (c .before .before .before .before .before .before)))
+    (λ c. omega (arith, c .before .before .before .before .loop .inv .1 .at, sized (c .before .before .before .before), few (c .before .before .before .before .before .before .before)))
     (λ c. length-set (c .before .before .before .before .loop .out) (c .before .before .before .before .loop .pen .at) _ ∙ kept (c .before .before .before .before))
     returns)
