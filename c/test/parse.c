@@ -280,12 +280,12 @@ static parsed skipped(vector_line *to, const char *why)
 }
 
 /*
- * ` STATE ` behind the operation: `1-4`, the rules with requests 1 to 4. By others the same input may have another answer.
+ * ` STATE ` behind the operation: `1-5`, the rules with requests 1 to 5. By others the same input may have another answer.
  * Gives the TAG, or null.
  */
 static const char *behind_state(const char *at)
 {
-    static const char state[] = " 1-4 ";
+    static const char state[] = " 1-5 ";
 
     return strncmp(at, state, strlen(state)) == 0 ? at + strlen(state) : NULL;
 }

@@ -97,7 +97,7 @@ static void show_film(const film_run *run)
 
 void show_question(const question *q, const char *tag)
 {
-    printf("%s 1-4 %s", operation_names[q->op], tag);
+    printf("%s 1-5 %s", operation_names[q->op], tag);
     if (takes_input(q->op)) {
         printf(" in=");
         if (q->op == PACKET_READ)

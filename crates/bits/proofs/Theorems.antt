@@ -1,11 +1,12 @@
--- The theorems of bits in bytes (docs/RULES.md, "Picture area", PA-8 and PA-19). What they speak of is defined in
--- specs/Bits and specs/Peek.
+-- The theorems of bits in bytes (docs/RULES.md, "Picture area", PA-8 and PA-19, and "Forms", F-9). What they speak of
+-- is defined in specs/Bits, specs/Table and specs/Peek.
 -- How to read it: docs/NOTATION.md.
 -- Assumes nothing.
 use Prim.Native.Nat.{ℕ, _<_, min}
 use mathlib.Core.Path.{_≡_}
 use mathlib.Core.List.{List}
 use Rattle.bits.specs.Bits.{reversed}
+use Rattle.bits.specs.Table.{Reverses}
 use Rattle.bits.specs.Peek.{peekOf, firstSet, leadingOf}
 use Rattle.bits.proofs.Turn as turn
 use Rattle.bits.proofs.Determined as determined
@@ -20,6 +21,9 @@ peek-determined = determined.peek-determined
 
 pub reverse-determined : (byte a b : ℕ) → a ≡ reversed byte → b ≡ reversed byte → a ≡ b
 reverse-determined = determined.reverse-determined
+
+pub reversed-bytes-determined : (a b : List ℕ) → Reverses a → Reverses b → a ≡ b
+reversed-bytes-determined = determined.reversed-bytes-determined
 
 pub first-set-determined : (s : List ℕ) (from a b : ℕ) → a ≡ firstSet s from → b ≡ firstSet s from → a ≡ b
 first-set-determined = determined.first-set-determined
