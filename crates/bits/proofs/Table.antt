@@ -1,6 +1,6 @@
 -- The table of reversed bytes: one test over all its entries, which antt computes, and what each entry is by that test.
 -- Assumes nothing.
-use Prim.Native.Nat.{ℕ, _<_}
+use Prim.Native.Nat.{ℕ}
 use mathlib.Core.Path.{_≡_}
 use mathlib.Core.Bool.{Bool}
 use mathlib.Core.List.{List}
@@ -14,7 +14,7 @@ use Rattle.bits.specs.Table.{Reverses}
 abbrev right : List ℕ → ℕ → Bool
 right table b = eqb (getD table b 0) (reversed b)
 
--- so is each of the 256
+-- all 256 are
 abbrev pub test : List ℕ → Bool
 test table = all (right table) 256
 

@@ -313,7 +313,7 @@ fn byte_at(s: &[u8], i: usize) -> u8
     if i < s.len() { s[i] } else { 0 }
 }
 
-// The 256 bytes, each with its bits in the other order, for a loop that turns many: it asks once, before its first turn.
+// The table. Who turns many bytes asks for it once, and then reads it at each byte.
 pub fn reversed_bytes() -> [u8; 256]
     ensures { λ r. ⌜ Reverses r ⌝ }
 {

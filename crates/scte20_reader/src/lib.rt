@@ -128,6 +128,7 @@ fn read_constructs(body: &[u8], n: usize, records: &mut [u8; LENT_RECORDS]) -> V
     requires { ⌜ length (now records) ≡ 155 ⌝ }
     ensures { λ r. ⌜ Runs (now (body .entry)) n (now (records .entry)) r (now (records .exit)) ⌝ }
 {
+    // Once for all constructs: wherever the table is asked for, its 256 bytes are laid on the stack.
     let table = bits::reversed_bytes();
     let mut last = scte20_rules::none_yet();
     let mut i = 0;

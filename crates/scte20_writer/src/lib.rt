@@ -97,6 +97,7 @@ fn put_constructs(v: Numbers, records: &[u8; LENT_RECORDS], out: &mut [u8]) -> u
     requires { ⌜ 2 + countedSize (v .n) ≤ length (now out) ⌝ }
     ensures { λ r. ⌜ (r ≡ 2 + countedSize (v .n)) × (now (out .exit) ≡ overAt 2 (countedBytes (held (unitIn v (now (records .entry))) .records)) (now (out .entry))) ⌝ }
 {
+    // Once for all constructs: wherever the table is asked for, its 256 bytes are laid on the stack.
     let table = bits::reversed_bytes();
     let mut pen = Pen {
         at: 2,
