@@ -21,11 +21,11 @@ module _ (c : tie.Start) where
   second : getD (now (c .args .table)) (c .args .r .«cc_data_2») 0 ≡ reversed (c .args .r .«cc_data_2»)
   second = c .pre .1 .entry (c .args .r .«cc_data_2») (omega arith)
 
-  first-lt : getD (now (c .args .table)) (c .args .r .«cc_data_1») 0 < 256
-  first-lt = subst (λ (n : ℕ). n < 256) (sym first) (reversed-lt (c .args .r .«cc_data_1») (omega arith))
-
-  second-lt : getD (now (c .args .table)) (c .args .r .«cc_data_2») 0 < 256
-  second-lt = subst (λ (n : ℕ). n < 256) (sym second) (reversed-lt (c .args .r .«cc_data_2») (omega arith))
+  bytes : (getD (now (c .args .table)) (c .args .r .«cc_data_1») 0 < 256) × (getD (now (c .args .table)) (c .args .r .«cc_data_2») 0 < 256)
+  bytes = (
+    subst (λ (n : ℕ). n < 256) (sym first) (reversed-lt (c .args .r .«cc_data_1») (omega arith)),
+    subst (λ (n : ℕ). n < 256) (sym second) (reversed-lt (c .args .r .«cc_data_2») (omega arith)),
+  )
 
 -- the record and the table, where the parts are put together
 abbrev start : tie.After-struct-known5 → tie.Start
@@ -46,21 +46,21 @@ construct-of-spec =
     (tie.spec
     (λ c. search needs)
     (λ c. search needs)
-    (λ c. omega (arith, first-lt (c .before .before)))
+    (λ c. omega (arith, bytes (c .before .before)))
     (λ c. search needs)
     (λ c. search needs)
-    (λ c. omega (arith, second-lt (c .before .before .before .before)))
-    (λ c. search needs)
-    (λ c. search needs)
-    (λ c. search needs)
+    (λ c. omega (arith, bytes (c .before .before .before .before)))
     (λ c. search needs)
     (λ c. search needs)
     (λ c. search needs)
     (λ c. search needs)
     (λ c. search needs)
-    (λ c. omega (arith, first-lt (start c)))
-    (λ c. omega (arith, first-lt (start c)))
-    (λ c. omega (arith, first-lt (start c), second-lt (start c)))
-    (λ c. omega (arith, first-lt (start c), second-lt (start c)))
-    (λ c. omega (arith, first-lt (start c), second-lt (start c)))
+    (λ c. search needs)
+    (λ c. search needs)
+    (λ c. search needs)
+    (λ c. omega (arith, bytes (start c)))
+    (λ c. omega (arith, bytes (start c)))
+    (λ c. omega (arith, bytes (start c)))
+    (λ c. omega (arith, bytes (start c)))
+    (λ c. omega (arith, bytes (start c)))
     returns)
