@@ -62,6 +62,10 @@ pub enum Excess {
     PictureFlag,
     // What no call leaves as film's state.
     FilmState,
+    // The units of a reel's payload: none, or above 291.
+    PayloadSize,
+    // A reel's run that ends within an access unit.
+    RunLength,
 }
 
 // Why a check refused: finer than the numbers of RULES, since two reasons may share one.

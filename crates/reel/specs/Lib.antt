@@ -1,0 +1,5 @@
+pub mod Cut
+pub mod Writing
+pub mod OneByOne
+pub mod Lent
+pub mod Order
