@@ -14,7 +14,7 @@ use Rattle.line21.specs.declared.One.{One}
 use Rattle.line21.specs.Value.{blank}
 use Rattle.line21.specs.Reading.{Reads, ReadsHead, ReadsUnit}
 use Rattle.line21.specs.Writing.{Writes}
-use Rattle.line21.specs.Lent.{accessUnitsBytes, accessUnitsIn, ReadsInto}
+use Rattle.line21.specs.Lent.{accessUnitsBytes, runIn, ReadsInto}
 use Rattle.line21.proofs.Answers.{shown-one}
 
 pub read-determined : (s : List ℕ) (a b : Answer) → Reads s a → Reads s b → a ≡ b
@@ -31,7 +31,7 @@ pub read-into-determined : (s lent : List ℕ) (a : Head) (exit : List ℕ) (b :
 read-into-determined s lent a exit b end ra rb = (ra .answer ∙ sym (rb .answer), ra .left ∙ sym (rb .left))
 
 pub unit-in-determined : (units : List ℕ) (i : ℕ) (a b : AccessUnit)
-    → a ≡ getD (accessUnitsIn units) i blank → b ≡ getD (accessUnitsIn units) i blank → a ≡ b
+    → a ≡ getD (runIn units) i blank → b ≡ getD (runIn units) i blank → a ≡ b
 unit-in-determined units i a b ra rb = ra ∙ sym rb
 
 pub bytes-of-determined : (p : Payload) (a b : List ℕ) → a ≡ accessUnitsBytes (p .units) → b ≡ accessUnitsBytes (p .units) → a ≡ b

@@ -1,6 +1,6 @@
 -- Units as bytes in a lent array, seven bytes each, and back.
 -- Assumes nothing.
-use Prim.Native.Nat.{ℕ, zero, suc, _+_, _-_, _*_, _≤_, _<_}
+use Prim.Native.Nat.{ℕ, zero, suc, _+_, _-_, _*_, _/_, _≤_, _<_}
 use native.Mathlib.Omega.{arith}
 use mathlib.Core.Path.{_≡_, _∙_, ap, ap₂, sym, refl}
 use mathlib.Core.List.{List, [], _∷_, _++_, append-assoc, append-nil}
@@ -11,7 +11,7 @@ use Rattle.lists.specs.Bytes.{Bytes}
 use Rattle.lists.specs.Room.{filled, over, overAt}
 use Rattle.lists.specs.Flat.{taken}
 use Rattle.lists.proofs.Each.{each-drop}
-use Rattle.lists.proofs.Flat.{length-taken, getD-taken, flat-more, length-flat, flat-taken, flat-filled}
+use Rattle.lists.proofs.Flat.{length-taken, getD-taken, taken-take, taken-drop, flat-more, length-flat, flat-taken, flat-filled}
 use Rattle.lists.proofs.Lay.{length-over, take-over, overAt-overAt}
 use Rattle.refusal.specs.declared.Verdict.{Verdict}
 use Rattle.refusal.specs.declared.Verdict.the-variants.{Accepted, Refused}
@@ -21,7 +21,7 @@ use Rattle.line21.specs.declared.Payload.{Payload}
 use Rattle.line21.specs.Value.{Line21, ByteUnit, Typed, blank}
 use Rattle.line21.specs.Reading.{answerOf}
 use Rattle.line21.specs.Writing.{valueVerdict}
-use Rattle.line21.specs.Lent.{accessUnitBytes, accessUnitsBytes, accessUnitIn, accessUnitsIn, payloadIn}
+use Rattle.line21.specs.Lent.{accessUnitBytes, accessUnitsBytes, accessUnitIn, accessUnitsIn, runIn, payloadIn}
 
 seven : (u : AccessUnit) → length (accessUnitBytes u) ≡ 7
 seven u = refl
@@ -43,12 +43,26 @@ payload-told p places = ap made (ap₂ (taken accessUnitIn 7) (sym places) (sym 
 pub lent-held : (p : Payload) → Typed p → payloadIn (p .flags) (p .m) (accessUnitsBytes (p .units)) ≡ p
 lent-held p t = payload-told p (t .places)
 
--- the unit of an index is the one that stands there, and beyond the last place it is blank
-pub unit-there : (s : List ℕ) (i : ℕ) → i < 291 → getD (accessUnitsIn s) i blank ≡ accessUnitIn (drop (7 * i) s)
-unit-there s i h = getD-taken accessUnitIn 7 blank 291 i s h
+-- in a slice, the unit at an index is the one that stands there, and beyond the last whole one it is blank
+pub unit-there : (s : List ℕ) (i : ℕ) → i < length s / 7 → getD (runIn s) i blank ≡ accessUnitIn (drop (7 * i) s)
+unit-there s i h = getD-taken accessUnitIn 7 blank (length s / 7) i s h
 
-pub unit-beyond : (s : List ℕ) (i : ℕ) → 291 ≤ i → getD (accessUnitsIn s) i blank ≡ blank
-unit-beyond s i h = let past : length (accessUnitsIn s) ≤ i = omega (arith, length-taken accessUnitIn 7 291 s) in List·getD-eq-default (accessUnitsIn s) blank past
+pub unit-beyond : (s : List ℕ) (i : ℕ) → length s / 7 ≤ i → getD (runIn s) i blank ≡ blank
+unit-beyond s i h =
+    let past : length (runIn s) ≤ i = omega (arith, length-taken accessUnitIn 7 (length s / 7) s) in
+    List·getD-eq-default (runIn s) blank past
+
+-- the first 291 are those of an array
+pub unit-either : (s : List ℕ) (i : ℕ) → i < length s / 7 → i < 291 → getD (runIn s) i blank ≡ getD (accessUnitsIn s) i blank
+unit-either s i here few = unit-there s i here ∙ sym (getD-taken accessUnitIn 7 blank 291 i s few)
+
+-- m units from index i on, where the run has them, as the array that begins there tells them
+pub run-from : (s : List ℕ) (i m : ℕ) → m ≤ 291 → i + m ≤ length s / 7 → take m (accessUnitsIn (drop (7 * i) s)) ≡ take m (drop i (runIn s))
+run-from s i m few inside =
+    let left = length s / 7 - i in
+    let split : i + left ≡ length s / 7 = omega arith in
+    taken-take accessUnitIn 7 m 291 (drop (7 * i) s) few
+    ∙ sym (ap (take m) (taken-drop accessUnitIn 7 i (length s / 7) left s split) ∙ taken-take accessUnitIn 7 m left (drop (7 * i) s) (omega arith))
 
 -- what bytes tell is typed
 byte-at : (s : List ℕ) → Bytes s → (i : ℕ) → getD s i 0 < 256
@@ -56,7 +70,7 @@ byte-at [] h i = omega arith
 byte-at (b ∷ s) h zero = h .0
 byte-at (b ∷ s) h (suc i) = byte-at s (h .1) i
 
-byte-units : (k : ℕ) (s : List ℕ) → Bytes s → Each ByteUnit (taken accessUnitIn 7 k s)
+pub byte-units : (k : ℕ) (s : List ℕ) → Bytes s → Each ByteUnit (taken accessUnitIn 7 k s)
 unfolding accessUnitIn
 byte-units zero s h = tt
 byte-units (suc k) s h = (

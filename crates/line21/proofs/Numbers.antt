@@ -1,10 +1,10 @@
 -- What the checks of writing let through: numbers that the layout can hold.
 -- Assumes nothing.
-use Prim.Native.Nat.{ℕ, _+_, _*_, _≤_, _<_}
+use Prim.Native.Nat.{ℕ, suc, _+_, _*_, _≤_, _<_}
 use native.Mathlib.Omega.{arith}
 use native.Mathlib.Numerals.{add-one}
-use mathlib.Core.Path.{_≡_, _∙_, ap, sym}
-use mathlib.Core.List.{List}
+use mathlib.Core.Path.{_≡_, _∙_, ap, ap₂, sym}
+use mathlib.Core.List.{List, [], _∷_}
 use lib.Dec.{ltb}
 use lib.ListN.{length, drop, getD}
 use lib.Seq.{drop-cons, length-take-le}
@@ -12,14 +12,15 @@ use borrow.Author.Tests.{le-ltb}
 use Rattle.lists.specs.Each.{Each}
 use Rattle.lists.proofs.Each.{each-at, each-take, each-map, each-both}
 use Rattle.refusal.specs.declared.Verdict.the-variants.{Accepted}
-use Rattle.refusal.specs.declared.Reason.the-variants.{NoRoom}
+use Rattle.refusal.specs.declared.Reason.the-variants.{NoRoom, Unholdable}
+use Rattle.refusal.specs.declared.Excess.the-variants.{Count}
 use Rattle.refusal.specs.declared.Item.the-variants.{Whole}
-use Rattle.refusal.specs.Checks.{refuseIf, andThen}
+use Rattle.refusal.specs.Checks.{refuseIf, andThen, first, fitVerdict}
 use Rattle.refusal.proofs.Checks.{accepted-andThen, accepted-each, each-accepted, andThen-last, accepted-within, accepted-fit}
 use Rattle.line21.specs.declared.AccessUnit.{AccessUnit}
 use Rattle.line21.specs.declared.Payload.{Payload}
 use Rattle.line21.specs.Value.{HoldableUnit, LegalAccessUnit, ByteUnit, LegalPayload, Typed, blank, held}
-use Rattle.line21.specs.Layout.{layout}
+use Rattle.line21.specs.Layout.{layout, layoutAccessUnits}
 use Rattle.line21.specs.Writing.{unitVerdict, unitsVerdict, valueVerdict}
 use Rattle.line21.proofs.Layouts.{length-layoutUnits}
 
@@ -77,6 +78,15 @@ module _ (p : Payload) (room : length (p .units) ≡ 291) (few : p .m ≤ 291) w
       let short : length (layout (held p)) ≤ 1456 = omega (arith, length-layout-held) in
       simp (le-ltb 291 (p .m) few, le-ltb 1456 (length (layout (held p))) short, andThen-last)
       (ap (λ (n : ℕ). andThen (unitsVerdict (held p .units)) (refuseIf (ltb space n) NoRoom Whole)) length-layout-held)
+
+-- structs that say the same count and hold the same units are judged alike, whatever their flags byte and the rest of
+-- their arrays
+pub verdict-same : (p q : Payload) (room : ℕ) → p .m ≡ q .m → held p .units ≡ held q .units → valueVerdict p room ≡ valueVerdict q room
+unfolding valueVerdict
+verdict-same p q room count units =
+    ap₂ (λ (m : ℕ) (us : List AccessUnit). first (refuseIf (ltb 291 m) (Unholdable Count) Whole ∷ unitsVerdict us ∷ fitVerdict 1456 (suc (length (layoutAccessUnits us))) room ∷ []))
+    count
+    units
 
 pub record Writable (p : Payload) (room : ℕ) : Type 0 where
   pub few : p .m ≤ 291

@@ -29,7 +29,7 @@ use Rattle.line21.specs.Value.{Legal, LegalPayload, Typed, blank, none, 
 use Rattle.line21.specs.Layout.{layout}
 use Rattle.line21.specs.Reading.{lengthVerdict, headOf, Reads, ReadsHead, ReadsUnit}
 use Rattle.line21.specs.Writing.{valueVerdict, Writes}
-use Rattle.line21.specs.Lent.{accessUnitsBytes, accessUnitsIn, payloadIn, ReadsInto}
+use Rattle.line21.specs.Lent.{accessUnitsBytes, runIn, payloadIn, ReadsInto}
 use Rattle.line21.specs.Order.{readingChecks, writingChecks}
 use Rattle.line21.specs.Places.{Stands}
 use Rattle.line21.proofs.Answers as answers
@@ -231,7 +231,7 @@ pub read-into-determined : (s lent : List ℕ) (a : Head) (exit : List ℕ) (b :
 read-into-determined = determined.read-into-determined
 
 pub unit-in-determined : (units : List ℕ) (i : ℕ) (a b : AccessUnit)
-    → a ≡ getD (accessUnitsIn units) i blank → b ≡ getD (accessUnitsIn units) i blank → a ≡ b
+    → a ≡ getD (runIn units) i blank → b ≡ getD (runIn units) i blank → a ≡ b
 unit-in-determined = determined.unit-in-determined
 
 pub bytes-of-determined : (p : Payload) (a b : List ℕ)

@@ -1,6 +1,6 @@
 -- A payload's units as bytes in a lent array, seven bytes each, in the order of the struct: what the C interface lends
 -- and is lent.
-use Prim.Native.Nat.{ℕ}
+use Prim.Native.Nat.{ℕ, _/_}
 use mathlib.Core.Path.{_≡_}
 use mathlib.Core.List.{List, [], _∷_}
 use lib.ListN.{length, getD}
@@ -35,6 +35,10 @@ accessUnitIn s =
 
 abbrev pub accessUnitsIn : List ℕ → List AccessUnit
 accessUnitsIn s = taken accessUnitIn 7 291 s
+
+-- the same in a lent slice of any length: all whole units in it
+abbrev pub runIn : List ℕ → List AccessUnit
+runIn s = taken accessUnitIn 7 (length s / 7) s
 
 -- the struct that a flags byte, a count and a lent array tell
 abbrev pub payloadIn : ℕ → ℕ → List ℕ → Payload

@@ -6,7 +6,7 @@ ghost use mathlib.Core.List.{_++_};
 ghost use lib.ListN.{length, getD, take, drop, replicate};
 ghost use Rattle.lists.specs.Room.{overAt};
 ghost use Rattle.line21.specs.Value.{blank as Value·blank};
-ghost use Rattle.line21.specs.Lent.{accessUnitBytes, accessUnitsBytes, accessUnitIn, accessUnitsIn};
+ghost use Rattle.line21.specs.Lent.{accessUnitBytes, accessUnitsBytes, accessUnitIn, runIn};
 use crate::AccessUnit;
 use crate::LENT_UNIT;
 use crate::LENT_UNITS;
@@ -14,11 +14,11 @@ use crate::MAX_UNITS;
 use crate::Payload;
 use crate::reading::blank;
 
-// The unit of index i, counted from 0. Beyond the last place it is all zero.
-pub fn unit_in(units: &[u8; LENT_UNITS], i: usize) -> AccessUnit
-    ensures { λ r. ⌜ r ≡ getD (accessUnitsIn (now (units .entry))) i Value·blank ⌝ }
+// The unit of index i, counted from 0. Beyond the last whole one it is all zero.
+pub fn unit_in(units: &[u8], i: usize) -> AccessUnit
+    ensures { λ r. ⌜ r ≡ getD (runIn (now (units .entry))) i Value·blank ⌝ }
 {
-    if MAX_UNITS <= i {
+    if units.len() / LENT_UNIT <= i {
         return blank();
     }
     unit_from(units, i)

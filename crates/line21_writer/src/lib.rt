@@ -1,8 +1,10 @@
-// Writing an ISMA Line 21 RTP payload.
+// Writing an ISMA Line 21 RTP payload, and a reel of them.
 //
 // Normative references: docs/RULES.md, "Line 21 payload" and "Order of checks"; document 004, 3.2.1, Tables 1 and 2.
+mod reels;
+
 ghost use mathlib.Core.Path.{_≡_};
-ghost use Prim.Native.Nat.{_≤_};
+ghost use Prim.Native.Nat.{_*_, _≤_};
 ghost use lib.ListN.{length};
 ghost use Rattle.lists.specs.Room.{over};
 ghost use Rattle.refusal.specs.declared.Verdict.the-variants.{Accepted};
@@ -10,6 +12,7 @@ ghost use Rattle.line21.specs.Value.{held};
 ghost use Rattle.line21.specs.Layout.{layout, layoutAccessUnit};
 ghost use Rattle.line21.specs.Writing.{unitVerdict, valueVerdict, Writes};
 ghost use Rattle.line21.specs.Lent.{payloadIn};
+pub use reels::write_reel;
 use line21::AccessUnit;
 use line21::LENT_UNITS;
 use line21::MAX_UNITS;
@@ -38,16 +41,14 @@ pub fn write_from(flags: u8, m: usize, units: &[u8; LENT_UNITS], out: &mut [u8])
     if refusal.number != 0 {
         return Written { refusal, len: 0 };
     }
-    put(flags, m, units, out);
-    Written {
-        refusal,
-        len: 1 + UNIT_BYTES * m,
-    }
+    let len = write_judged(flags, m, units, out);
+    Written { refusal, len }
 }
 
 // RULES, "Order of checks": 15 of m, 15 unit by unit, then 1, which 291 units cannot meet, then 14. No flags byte is
 // refused.
-fn judge_value(m: usize, units: &[u8; LENT_UNITS], room: usize) -> Verdict
+pub(crate) fn judge_value(m: usize, units: &[u8], room: usize) -> Verdict
+    requires { ⌜ (m ≤ 291 → 7 * m ≤ length (now units)) ⌝ }
     ensures { λ r. ⌜ r ≡ valueVerdict (payloadIn 0 m (now (units .entry))) room ⌝ }
 {
     if MAX_UNITS < m {
@@ -82,9 +83,11 @@ fn judge_unit(u: AccessUnit) -> Verdict
     Verdict::Accepted
 }
 
-// Stores the layout of a value that was judged.
-fn put(flags: u8, m: usize, units: &[u8; LENT_UNITS], out: &mut [u8])
+// Writes a payload that was judged at the front of out, and tells its length.
+pub(crate) fn write_judged(flags: u8, m: usize, units: &[u8], out: &mut [u8]) -> usize
     requires { ⌜ valueVerdict (payloadIn flags m (now units)) (length (now out)) ≡ Accepted ⌝ }
+    requires { ⌜ 7 * m ≤ length (now units) ⌝ }
+    ensures { λ r. ⌜ r ≡ length (layout (held (payloadIn flags m (now (units .entry))))) ⌝ }
     ensures { λ _. ⌜ now (out .exit) ≡ over (layout (held (payloadIn flags m (now (units .entry))))) (now (out .entry)) ⌝ }
 {
     out[0] = flags;
@@ -93,6 +96,7 @@ fn put(flags: u8, m: usize, units: &[u8; LENT_UNITS], out: &mut [u8])
         put_unit(line21::unit_in(units, k), &mut out[1 + UNIT_BYTES * k..]);
         k += 1;
     }
+    1 + UNIT_BYTES * m
 }
 
 // Stores one unit's five bytes at the front of out.

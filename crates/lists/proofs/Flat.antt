@@ -41,8 +41,20 @@ module _ {A : Type 0} (from : List ℕ → A) (width : ℕ) where
       ap (λ (xs : List A). from s ∷ xs)
       (taken-more k (drop width s) ∙ ap (λ (t : List ℕ). taken from width k (drop width s) ++ (from t ∷ [])) (further k s))
 
+  -- the first of them are taken alone,
+  pub taken-take : (m k : ℕ) (s : List ℕ) → m ≤ k → take m (taken from width k s) ≡ taken from width m s
+  taken-take zero k s h = refl
+  taken-take (suc m) zero s h = let f : ⊥ = omega arith in absurd f
+  taken-take (suc m) (suc k) s h = ap (λ (xs : List A). from s ∷ xs) (taken-take m k (drop width s) (omega arith))
+
+  -- and the others from where they stand
+  pub taken-drop : (i k j : ℕ) (s : List ℕ) → i + j ≡ k → drop i (taken from width k s) ≡ taken from width j (drop (width * i) s)
+  taken-drop zero k j s e = ap₂ (taken from width) (let same : k ≡ j = omega arith in same) (here s)
+  taken-drop (suc i) zero j s e = let f : ⊥ = omega arith in absurd f
+  taken-drop (suc i) (suc k) j s e = taken-drop i k j (drop width s) (omega arith) ∙ ap (taken from width j) (further i s)
+
 module _ {A : Type 0} (bytes : A → List ℕ) where
-  flat-append : (xs ys : List A) → flat bytes (xs ++ ys) ≡ flat bytes xs ++ flat bytes ys
+  pub flat-append : (xs ys : List A) → flat bytes (xs ++ ys) ≡ flat bytes xs ++ flat bytes ys
   flat-append [] ys = refl
   flat-append (x ∷ xs) ys = ap (λ (r : List ℕ). bytes x ++ r) (flat-append xs ys) ∙ sym (append-assoc (bytes x) (flat bytes xs) (flat bytes ys))
 

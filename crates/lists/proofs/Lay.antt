@@ -27,7 +27,7 @@ module _ {A : Type 0} where
   rest-none out a = ap (λ (k : ℕ). drop k (drop a out)) (sym (length-drop a out)) ∙ drop-length (drop a out)
 
   -- a piece laid over the rest behind the front is laid behind the front
-  over-over : (front piece out : List A) → front ++ over piece (drop (length front) out) ≡ over (front ++ piece) out
+  pub over-over : (front piece out : List A) → front ++ over piece (drop (length front) out) ≡ over (front ++ piece) out
   over-over front piece out =
       sym (append-assoc front piece (drop (length piece) (drop (length front) out)))
       ∙ ap (λ (r : List A). (front ++ piece) ++ r)

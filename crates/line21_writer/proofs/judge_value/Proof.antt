@@ -19,7 +19,8 @@ use Rattle.refusal.specs.Checks.{refuseIf, andThen}
 use Rattle.line21.specs.declared.AccessUnit.{AccessUnit}
 use Rattle.line21.specs.Value.{blank, held}
 use Rattle.line21.specs.Writing.{unitVerdict, unitsVerdict, valueVerdict}
-use Rattle.line21.specs.Lent.{accessUnitIn, accessUnitsIn, payloadIn}
+use Rattle.line21.specs.Lent.{accessUnitIn, accessUnitsIn, runIn, payloadIn}
+use Rattle.line21.proofs.LentUnits.{unit-either}
 use Rattle.line21.proofs.Numbers.{length-held, units-from, verdict-few}
 use Rattle.line21_writer.proofs.judge_value.Statement.{statement}
 use Rattle.line21_writer.proofs.judge_value.Tie as tie
@@ -38,6 +39,10 @@ abbrev μ-loop : tie.MeasureT-loop
 module _ (m : ℕ) (units : List ℕ) (few : m ≤ 291) where
   places : length (judged m units) ≡ m
   places = length-held (payloadIn 0 m units) (length-taken accessUnitIn 7 291 units) few
+
+  -- the slice tells a unit as an array does
+  same-unit : 7 * m ≤ length units → (i : ℕ) → i < m → getD (runIn units) i blank ≡ getD (accessUnitsIn units) i blank
+  same-unit all i below = unit-either units i (omega arith) (omega arith)
 
   -- in a turn, the unit at i decides first
   split : (i : ℕ) → i < m → unitsVerdict (drop i (judged m units)) ≡ andThen (unitVerdict (getD (accessUnitsIn units) i blank)) (unitsVerdict (drop (i + 1) (judged m units)))
@@ -78,7 +83,7 @@ returns-2 c =
     let space = refuseIf (ltb (start .args .room) (1 + 5 * m)) NoRoom Whole in
     judged-here
     ∙ ap (λ (v : Verdict). andThen (andThen v rest) space)
-    (sym judged-here ∙ c .before .before .judge-unit .ensures ∙ ap unitVerdict (c .before .before .before .unit-in .ensures))
+    (sym judged-here ∙ c .before .before .judge-unit .ensures ∙ ap unitVerdict (c .before .before .before .unit-in .ensures ∙ same-unit m units few (start .pre few) i (turn .loop-test .taken)))
     ∙ ap (λ (v : Verdict). andThen v space) (sym (split m units few i (turn .loop-test .taken)))
     ∙ sym (told m units few (start .args .room) i (turn .before .loop .inv .1))
 
@@ -88,12 +93,13 @@ loop-again c =
     let start = turn .before .before .before in
     let m = start .args .m in
     let units = now (start .args .units) in
-    let i = turn .before .loop .i in (
+    let i = turn .before .loop .i in
+    let few = turn .before .before .if1 .left in (
       omega arith,
       turn .before .loop .inv .1
-          ∙ split m units (turn .before .before .if1 .left) i (turn .loop-test .taken)
+          ∙ split m units few i (turn .loop-test .taken)
           ∙ ap (λ (v : Verdict). andThen v (unitsVerdict (drop (i + 1) (judged m units))))
-          (sym (c .before .before .judge-unit .ensures ∙ ap unitVerdict (c .before .before .before .unit-in .ensures)) ∙ c .enum-told2 .given .1),
+          (sym (c .before .before .judge-unit .ensures ∙ ap unitVerdict (c .before .before .before .unit-in .ensures ∙ same-unit m units few (start .pre few) i (turn .loop-test .taken))) ∙ c .enum-told2 .given .1),
     )
 
 -- after the loop the room decides

@@ -1,4 +1,4 @@
--- `line21::lent::unit_in` meets its contract: within the 291 places the unit is the one that stands there, and beyond them it is blank.
+-- `line21::lent::unit_in` meets its contract: a whole unit is the one that stands there, and beyond the last it is blank.
 -- Assumes nothing.
 use native.Mathlib.Omega.{arith}
 use mathlib.Core.Path.{_∙_, sym}
@@ -9,10 +9,10 @@ use Rattle.line21.proofs.lent.unit_in.Statement.{statement}
 use Rattle.line21.proofs.lent.unit_in.Tie as tie
 
 beyond : tie.Need-returns
-beyond c = c .blank .ensures ∙ sym (unit-beyond (now (c .before .before .args .units)) (c .before .before .args .i) (c .before .if1 .taken))
+beyond c = c .blank .ensures ∙ sym (unit-beyond (now (c .before .before .before .args .units)) (c .before .before .before .args .i) (c .before .if1 .taken))
 
 from-requires : tie.Need-unit-from-requires
-from-requires c κs = omega (arith, c .unit-from-arg .given .0)
+from-requires c κs = omega (arith, c .if1 .left)
 
 there : tie.Need-returns-2
 there c =

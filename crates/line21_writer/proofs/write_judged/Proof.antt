@@ -1,4 +1,4 @@
--- `line21_writer::put` meets its contract. The loop's invariant: the flags byte and the first i units are laid over the output.
+-- `line21_writer::write_judged` meets its contract. The loop's invariant: the flags byte and the first i units are laid over the output.
 -- Assumes nothing.
 use Prim.Native.Nat.{ℕ, _+_, _-_, _*_, _≤_, _<_}
 use native.Mathlib.Omega.{arith}
@@ -18,11 +18,12 @@ use Rattle.line21.specs.declared.Payload.{Payload}
 use Rattle.line21.specs.Value.{blank, held}
 use Rattle.line21.specs.Layout.{layout, layoutAccessUnit, layoutAccessUnits}
 use Rattle.line21.specs.Writing.{unitVerdict}
-use Rattle.line21.specs.Lent.{accessUnitIn, accessUnitsIn, payloadIn}
+use Rattle.line21.specs.Lent.{accessUnitIn, accessUnitsIn, runIn, payloadIn}
 use Rattle.line21.proofs.Layouts.{length-layoutUnits, layoutUnits-more}
 use Rattle.line21.proofs.Numbers.{Writable, accepted-value, length-held, length-layout-held, accepted-unit-at}
-use Rattle.line21_writer.proofs.put.Statement.{statement}
-use Rattle.line21_writer.proofs.put.Tie as tie
+use Rattle.line21.proofs.LentUnits.{unit-either}
+use Rattle.line21_writer.proofs.write_judged.Statement.{statement}
+use Rattle.line21_writer.proofs.write_judged.Tie as tie
 
 -- what the first i units have laid so far
 abbrev front : ℕ → List ℕ → ℕ → List ℕ
@@ -47,7 +48,7 @@ module _ (c : tie.Start Inv-loop μ-loop) where
   p = payloadIn (c .args .flags) (c .args .m) (now (c .args .units))
 
   writable : Writable p (length (now (c .args .out)))
-  writable = accepted-value p (length (now (c .args .out))) (c .pre)
+  writable = accepted-value p (length (now (c .args .out))) (c .pre .0)
 
   -- the result fits the output
   long : 1 + 5 * c .args .m ≤ length (now (c .args .out))
@@ -59,6 +60,13 @@ module _ (c : tie.Start Inv-loop μ-loop) where
       let inside : i < length (held p .units) = omega (arith, length-held p (places (now (c .args .units))) (writable .few)) in
       ap unitVerdict (sym (getD-take (c .args .m) (accessUnitsIn (now (c .args .units))) i blank below))
       ∙ accepted-unit-at (held p .units) (writable .each) i inside
+
+  -- and the slice tells it as an array does
+  same-unit : (i : ℕ) → i < c .args .m → getD (runIn (now (c .args .units))) i blank ≡ getD (accessUnitsIn (now (c .args .units))) i blank
+  same-unit i below =
+      let few = writable .few in
+      let all = c .pre .1 in
+      unit-either (now (c .args .units)) i (omega arith) (omega arith)
 
 -- what the loop knows of its output at its head
 module _ (c : tie.At-loop Inv-loop μ-loop) where
@@ -109,7 +117,7 @@ put-unit-requires c κs =
     let at = c .before .before .before in
     let i = at .loop .k in
     let out = at .loop .out in (
-      ap unitVerdict (c .before .unit-in .ensures) ∙ passed (start at) i (omega (arith, c .before .before .loop-test .taken)),
+      ap unitVerdict (c .before .unit-in .ensures ∙ same-unit (start at) i (c .before .before .loop-test .taken)) ∙ passed (start at) i (omega (arith, c .before .before .loop-test .taken)),
       omega (arith, ap length (rest-whole out (1 + 5 * i)), length-drop (1 + 5 * i) out, kept at, long (start at)),
     )
 
@@ -132,7 +140,7 @@ loop-again c =
     let laid =
     c .before .before .put-unit .ensures
     ∙ ap₂ (λ (u : AccessUnit) (xs : List ℕ). over (layoutAccessUnit u) (take (length xs - (1 + 5 * i)) (drop (1 + 5 * i) xs)))
-    (c .before .before .before .before .unit-in .ensures)
+    (c .before .before .before .before .unit-in .ensures ∙ same-unit (start at) i (c .before .before .before .before .before .loop-test .taken))
     (at .loop .inv .1)
     in (
       omega arith,
@@ -155,8 +163,8 @@ returns c =
     ∙ ap (λ (k : ℕ). over (front flags (now (start at .args .units)) k) (set out 0 flags)) all
     ∙ ap (λ (rest : List ℕ). laid ++ rest) (drop-set-lt (length laid) out 0 flags (omega arith))
 
-pub put-spec : {M : Type 1} → statement M
-put-spec =
+pub write-judged-spec : {M : Type 1} → statement M
+write-judged-spec =
     tie.close
     (tie.spec
     Inv-loop
