@@ -73,7 +73,7 @@ loop-holds c = (omega arith, refl)
 returns-2 : tie.Need-returns-2 Inv-loop μ-loop
 returns-2 c =
     let turn = c .before .before .before .before in
-    let start = turn .before .before .before in
+    let start = turn .before .before .before .before in
     let m = start .args .m in
     let units = now (start .args .units) in
     let i = turn .before .loop .i in
@@ -90,7 +90,7 @@ returns-2 c =
 loop-again : tie.Need-loop-again Inv-loop μ-loop
 loop-again c =
     let turn = c .before .before .before .before in
-    let start = turn .before .before .before in
+    let start = turn .before .before .before .before in
     let m = start .args .m in
     let units = now (start .args .units) in
     let i = turn .before .loop .i in
@@ -104,10 +104,10 @@ loop-again c =
 
 -- after the loop the room decides
 past : (c : tie.After-loop Inv-loop μ-loop)
-    → valueVerdict (payloadIn 0 (c .before .before .before .args .m) (now (c .before .before .before .args .units))) (c .before .before .before .args .room)
-    ≡ refuseIf (ltb (c .before .before .before .args .room) (1 + 5 * c .before .before .before .args .m)) NoRoom Whole
+    → valueVerdict (payloadIn 0 (c .before .before .before .before .args .m) (now (c .before .before .before .before .args .units))) (c .before .before .before .before .args .room)
+    ≡ refuseIf (ltb (c .before .before .before .before .args .room) (1 + 5 * c .before .before .before .before .args .m)) NoRoom Whole
 past c =
-    let start = c .before .before .before in
+    let start = c .before .before .before .before in
     let m = start .args .m in
     let units = now (start .args .units) in
     let few = c .before .before .if1 .left in

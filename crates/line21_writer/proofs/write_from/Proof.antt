@@ -25,7 +25,7 @@ use Rattle.line21_writer.proofs.write_from.Tie as tie
 
 module _ (c : tie.After-told) where
   abbrev start : tie.Start
-  start = c .before .before .before .before .before
+  start = c .before .before .before .before .before .before
 
   abbrev p : Payload
   p = payloadIn (start .args .flags) (start .args .m) (now (start .args .units))
@@ -40,7 +40,7 @@ module _ (c : tie.After-told) where
   told = c .told .ensures ∙ ap refusalOf (c .before .judge-value .ensures ∙ sym (verdict-flags (start .args .flags) (start .args .m) (length out) (accessUnitsIn (now (start .args .units)))))
 
   types : Typed p
-  types = typed-in (start .args .flags) (start .args .m) (now (start .args .units)) (start .good .0 .1) (c .before .before .known .ensures)
+  types = typed-in (start .args .flags) (start .args .m) (now (start .args .units)) (start .good .0 .1) (c .before .before .before .known .ensures)
 
 -- past the test the value is accepted
 module _ (c : tie.Else1) where
@@ -61,18 +61,17 @@ refused c =
           (wrote-nothing (verdict at) laid (out at) (λ e. c .if1 .taken (ap (λ (r : Refusal). r .number) (told at) ∙ e)));
     }
 
-put-requires : tie.Need-put-requires
-put-requires c κs = told-accepted _ (zero (c .before))
+-- the array has 2,037 bytes, 7 for each of 291 units
+judge-requires : tie.Need-judge-value-requires
+judge-requires c κs = λ few. omega (arith, few)
 
-mul-t10 : tie.Need-mul-t10
-mul-t10 c = omega (arith, writable (c .before .before .before .before) .few)
-
-add-t14 : tie.Need-add-t14
-add-t14 c = omega (arith, writable (c .before .before .before .before) .few)
+write-requires : tie.Need-write-judged-requires
+write-requires c κs = (told-accepted _ (zero (c .before .before)), omega (arith, writable (c .before .before) .few))
 
 accepted : tie.Need-returns-2
 accepted c =
-    let past = c .before .before .before .before in
+    let call = c .before .before in
+    let past = call .before .before .before in
     let at = past .before .before in
     let laid = layout (held (p at)) in
     record {
@@ -80,8 +79,8 @@ accepted c =
       wrote =
           subst₃ (λ (r : Refusal) (n : ℕ) (exit : List ℕ). Wrote (verdict at) laid (out at) (record { refusal = r; len = n }) exit)
           (sym (told at))
-          (length-layout-held (p at) (types at .places) (writable past .few))
-          (sym (c .before .before .put .ensures))
+          (sym (call .write-judged .ensures .0))
+          (sym (call .write-judged .ensures .1))
           (wrote-laid (verdict at) laid (out at) (zero past));
     }
 
@@ -90,11 +89,9 @@ write-from-spec =
     tie.close
     (tie.spec
     (λ c κs. search needs)
-    (λ c κs. search needs)
+    judge-requires
     (λ c κs. search needs)
     refused
-    put-requires
-    mul-t10
-    add-t14
+    write-requires
     (λ c. search needs)
     accepted)

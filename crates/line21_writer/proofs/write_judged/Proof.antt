@@ -71,7 +71,7 @@ module _ (c : tie.Start Inv-loop μ-loop) where
 -- what the loop knows of its output at its head
 module _ (c : tie.At-loop Inv-loop μ-loop) where
   abbrev start : tie.Start Inv-loop μ-loop
-  start = c .before .before
+  start = c .before .before .before
 
   sized : length (front (start .args .flags) (now (start .args .units)) (c .loop .k)) ≡ 1 + 5 * c .loop .k
   sized = length-front (start .args .flags) (now (start .args .units)) (c .loop .k) (omega (arith, writable start .few))
@@ -86,14 +86,14 @@ module _ (c : tie.At-loop Inv-loop μ-loop) where
       ap length (c .loop .inv .1) ∙ length-over laid (set out 0 flags) h ∙ same
 
 slice-write-out : tie.Need-slice-write-out Inv-loop μ-loop
-slice-write-out c = omega (arith, long (c .before))
+slice-write-out c = omega (arith, long (c .before .before))
 
 loop-holds : tie.Need-loop-holds Inv-loop μ-loop
 loop-holds c =
-    let out = now (c .before .args .out) in
-    let flags = c .before .args .flags in (
+    let out = now (c .before .before .args .out) in
+    let flags = c .before .before .args .flags in (
       omega arith,
-      sets-eq (flags ∷ []) out 0 (omega (arith, long (c .before)))
+      sets-eq (flags ∷ []) out 0 (omega (arith, long (c .before .before)))
           ∙ ap (λ (rest : List ℕ). flags ∷ rest) (sym (drop-set-lt 1 out 0 flags (omega arith))),
     )
 
@@ -149,6 +149,12 @@ loop-again c =
           ∙ ap (λ (bytes : List ℕ). over (flags ∷ bytes) begun) (sym (layoutUnits-more (accessUnitsIn units) i inside)),
     )
 
+mul-return : tie.Need-mul-result Inv-loop μ-loop
+mul-return c = omega (arith, writable (start (c .before)) .few)
+
+add-return : tie.Need-add-result Inv-loop μ-loop
+add-return c = omega (arith, writable (start (c .before)) .few)
+
 same-length : tie.Need-same-length Inv-loop μ-loop
 same-length c = kept (c .before)
 
@@ -158,10 +164,12 @@ returns c =
     let out = now (start at .args .out) in
     let flags = start at .args .flags in
     let laid = layout (held (p (start at))) in
-    let all : at .loop .k ≡ start at .args .m = omega arith in
-    at .loop .inv .1
+    let all : at .loop .k ≡ start at .args .m = omega arith in (
+      sym (length-layout-held (p (start at)) (places (now (start at .args .units))) (writable (start at) .few)),
+      at .loop .inv .1
     ∙ ap (λ (k : ℕ). over (front flags (now (start at .args .units)) k) (set out 0 flags)) all
-    ∙ ap (λ (rest : List ℕ). laid ++ rest) (drop-set-lt (length laid) out 0 flags (omega arith))
+    ∙ ap (λ (rest : List ℕ). laid ++ rest) (drop-set-lt (length laid) out 0 flags (omega arith)),
+    )
 
 pub write-judged-spec : {M : Type 1} → statement M
 write-judged-spec =
@@ -181,5 +189,7 @@ write-judged-spec =
     add-k
     loop-less
     loop-again
+    mul-return
+    add-return
     same-length
     returns)
