@@ -11,7 +11,7 @@ use lib.ListN.{length, take, drop, length-drop, drop-of-length-le}
 use lib.Seq.{length-take-le}
 use Rattle.lists.proofs.Flat.{length-taken}
 use Rattle.refusal.specs.declared.Verdict.{Verdict}
-use Rattle.refusal.specs.declared.Verdict.the-variants.{Accepted}
+use Rattle.refusal.specs.declared.Verdict.the-variants.{Accepted, Refused}
 use Rattle.refusal.specs.declared.Reason.the-variants.{Unholdable}
 use Rattle.refusal.specs.declared.Excess.the-variants.{RunLength}
 use Rattle.refusal.specs.declared.Item.the-variants.{Whole}
@@ -48,7 +48,18 @@ pub run-whole : (flags size : ℕ) (s : List ℕ) (room : ℕ) → length s % 7 
 unfolding runVerdict
 run-whole flags size s room e = simp (eq-eqb (length s % 7) 0 e, andThen-last)
 
--- and a run that is let through has no other
+pub run-sized : (flags size : ℕ) (s : List ℕ) (room : ℕ) → sizeVerdict size ≡ Accepted → length s % 7 ≡ 0
+    → runVerdict flags size s room ≡ reelVerdict (reel flags size (runIn s)) room
+run-sized flags size s room sized e =
+    run-whole flags size s room e ∙ ap (λ (v : Verdict). andThen v (reelVerdict (reel flags size (runIn s)) room)) sized
+
+-- one that ends within a unit is refused
+pub run-part : (flags size : ℕ) (s : List ℕ) (room : ℕ) → sizeVerdict size ≡ Accepted → (length s % 7 ≡ 0 → ⊥)
+    → runVerdict flags size s room ≡ Refused (Unholdable RunLength) Whole
+unfolding runVerdict
+run-part flags size s room sized h = simp (sized, ne-eqb (length s % 7) 0 h)
+
+-- and one that is let through ends with one
 pub record Judged (flags size : ℕ) (s : List ℕ) (room : ℕ) : Type 0 where
   pub some : 1 ≤ size
   pub few : size ≤ 291
