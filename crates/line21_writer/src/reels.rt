@@ -24,7 +24,6 @@ use refusal::Written;
 pub fn write_reel(flags: u8, size: usize, units: &[u8], out: &mut [u8]) -> Written
     ensures { λ r. ⌜ WritesRun flags size (now (units .entry)) (now (out .entry)) r (now (out .exit)) ⌝ }
 {
-    lists::known(units);
     let refusal = refusal::told(judge_reel(size, units, out.len()));
     if refusal.number != 0 {
         return Written { refusal, len: 0 };

@@ -3,19 +3,21 @@
 use Prim.Native.Nat.{ℕ, _+_, _-_, _*_, _/_, _%_, _≤_, _<_}
 use native.Mathlib.Omega.{arith}
 use mathlib.Core.Path.{_≡_, _∙_, ap, ap₂, sym, refl}
-use mathlib.Core.Bool.{not}
+use mathlib.Core.Bool.{Bool, true, false, not}
 use mathlib.Core.List.{List, [], _∷_, _++_, map}
 use borrow.Author.Tests.{le-ltb, ne-eqb, eq-eqb, eqb-false}
-use lib.Dec.{eqb}
+use lib.Dec.{eqb, ltb}
 use lib.ListN.{length, take, drop, length-drop, drop-of-length-le}
 use lib.Seq.{length-take-le}
 use Rattle.lists.proofs.Flat.{length-taken}
 use Rattle.refusal.specs.declared.Verdict.{Verdict}
 use Rattle.refusal.specs.declared.Verdict.the-variants.{Accepted, Refused}
 use Rattle.refusal.specs.declared.Reason.the-variants.{Unholdable}
-use Rattle.refusal.specs.declared.Excess.the-variants.{RunLength}
+use Rattle.refusal.specs.declared.Excess.the-variants.{PayloadSize, RunLength}
 use Rattle.refusal.specs.declared.Item.the-variants.{Whole}
-use Rattle.refusal.specs.Checks.{refuseIf, andThen}
+use Rattle.refusal.specs.Checks.{refuseIf, andThen, first}
+use Rattle.refusal.specs.Numbers.{refusalOf}
+use Rattle.refusal.specs.Answers.{refused}
 use Rattle.refusal.proofs.Checks.{accepted-andThen, accepted-within, accepted-refuseIf, accepted-equal, andThen-last}
 use Rattle.line21.specs.declared.AccessUnit.{AccessUnit}
 use Rattle.line21.specs.Value.{stored, held}
@@ -58,6 +60,18 @@ pub run-part : (flags size : ℕ) (s : List ℕ) (room : ℕ) → sizeVerdict si
     → runVerdict flags size s room ≡ Refused (Unholdable RunLength) Whole
 unfolding runVerdict
 run-part flags size s room sized h = simp (sized, ne-eqb (length s % 7) 0 h)
+
+-- whatever its size: both refusals are 15
+fifteen : (a b : Bool) (rest : Verdict)
+    → refusalOf (andThen (first (refuseIf a (Unholdable PayloadSize) Whole ∷ refuseIf b (Unholdable PayloadSize) Whole ∷ [])) (andThen (Refused (Unholdable RunLength) Whole) rest))
+    ≡ refused 15 0
+fifteen true b rest = refl
+fifteen false true rest = refl
+fifteen false false rest = refl
+
+pub run-cut-off : (flags size : ℕ) (s : List ℕ) (room : ℕ) → (length s % 7 ≡ 0 → ⊥) → refusalOf (runVerdict flags size s room) ≡ refused 15 0
+unfolding runVerdict sizeVerdict
+run-cut-off flags size s room h = simp (ne-eqb (length s % 7) 0 h) (fifteen (eqb size 0) (ltb 291 size) (andThen (reelVerdict (reel flags size (runIn s)) room) Accepted))
 
 -- and one that is let through ends with one
 pub record Judged (flags size : ℕ) (s : List ℕ) (room : ℕ) : Type 0 where
