@@ -15,13 +15,8 @@ ghost use Rattle.line21.specs.Lent.{payloadIn};
 pub use reels::write_reel;
 use line21::AccessUnit;
 use line21::LENT_UNITS;
-use line21::MAX_UNITS;
 use line21::Payload;
 use line21::UNIT_BYTES;
-use refusal::Excess;
-use refusal::Item;
-use refusal::Reason;
-use refusal::Verdict;
 use refusal::Written;
 
 // Writes a payload at the front of out.
@@ -37,50 +32,12 @@ pub fn write_from(flags: u8, m: usize, units: &[u8; LENT_UNITS], out: &mut [u8])
     ensures { λ r. ⌜ Writes (payloadIn flags m (now (units .entry))) (now (out .entry)) r (now (out .exit)) ⌝ }
 {
     lists::known(units);
-    let refusal = refusal::told(judge_value(m, units, out.len()));
+    let refusal = refusal::told(line21_judge::judge_value(m, units, out.len()));
     if refusal.number != 0 {
         return Written { refusal, len: 0 };
     }
     let len = write_judged(flags, m, units, out);
     Written { refusal, len }
-}
-
-// RULES, "Order of checks": 15 of m, 15 unit by unit, then 1, which 291 units cannot meet, then 14. No flags byte is
-// refused.
-pub(crate) fn judge_value(m: usize, units: &[u8], room: usize) -> Verdict
-    requires { ⌜ (m ≤ 291 → 7 * m ≤ length (now units)) ⌝ }
-    ensures { λ r. ⌜ r ≡ valueVerdict (payloadIn 0 m (now (units .entry))) room ⌝ }
-{
-    if MAX_UNITS < m {
-        return Verdict::Refused(Reason::Unholdable(Excess::Count), Item::Whole);
-    }
-    let mut i = 0;
-    while i < m {
-        let verdict = judge_unit(line21::unit_in(units, i));
-        if let Verdict::Refused(_, _) = verdict {
-            return verdict;
-        }
-        i += 1;
-    }
-    if room < 1 + UNIT_BYTES * m {
-        return Verdict::Refused(Reason::NoRoom, Item::Whole);
-    }
-    Verdict::Accepted
-}
-
-fn judge_unit(u: AccessUnit) -> Verdict
-    ensures { λ r. ⌜ r ≡ unitVerdict u ⌝ }
-{
-    if 1 < u.cc_valid_1 {
-        return Verdict::Refused(Reason::Unholdable(Excess::CcValid), Item::Whole);
-    }
-    if 1 < u.cc_valid_2 {
-        return Verdict::Refused(Reason::Unholdable(Excess::CcValid), Item::Whole);
-    }
-    if 63 < u.padding {
-        return Verdict::Refused(Reason::Unholdable(Excess::Padding), Item::Whole);
-    }
-    Verdict::Accepted
 }
 
 // Writes a payload that was judged at the front of out, and tells its length.

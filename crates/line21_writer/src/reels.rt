@@ -2,21 +2,14 @@
 //
 // Normative references: docs/RULES.md, "Reel" and "Order of checks"; document 004, 3.2.1, Tables 1 and 2.
 ghost use mathlib.Core.Path.{_≡_};
-ghost use Prim.Native.Nat.{_-_};
 ghost use lib.ListN.{length};
 ghost use Rattle.lists.specs.Room.{over};
 ghost use Rattle.refusal.specs.declared.Verdict.the-variants.{Accepted};
 ghost use Rattle.line21.specs.Lent.{runIn};
 ghost use Rattle.reel.specs.Writing.{reel, reelLayout};
 ghost use Rattle.reel.specs.Lent.{runVerdict, WritesRun};
-use crate::judge_value;
 use crate::write_judged;
 use line21::LENT_UNIT;
-use line21::UNIT_BYTES;
-use refusal::Excess;
-use refusal::Item;
-use refusal::Reason;
-use refusal::Verdict;
 use refusal::Written;
 
 // Writes a run as payloads of `size` units, one behind the other, at the front of out. All is judged before the first
@@ -24,39 +17,12 @@ use refusal::Written;
 pub fn write_reel(flags: u8, size: usize, units: &[u8], out: &mut [u8]) -> Written
     ensures { λ r. ⌜ WritesRun flags size (now (units .entry)) (now (out .entry)) r (now (out .exit)) ⌝ }
 {
-    let refusal = refusal::told(judge_reel(size, units, out.len()));
+    let refusal = refusal::told(reel::judge_reel(size, units, out.len()));
     if refusal.number != 0 {
         return Written { refusal, len: 0 };
     }
     let len = put_reel(flags, size, units, out);
     Written { refusal, len }
-}
-
-// RULES, "Order of checks": 15 of the size, 15 of a run that ends within a unit, then each payload's own checks in its
-// turn, with the room that those before it leave.
-fn judge_reel(size: usize, units: &[u8], room: usize) -> Verdict
-    ensures { λ r. ⌜ r ≡ runVerdict 0 size (now (units .entry)) room ⌝ }
-{
-    let sized = reel::judge_size(size);
-    if let Verdict::Refused(_, _) = sized {
-        return sized;
-    }
-    if units.len() % LENT_UNIT != 0 {
-        return Verdict::Refused(Reason::Unholdable(Excess::RunLength), Item::Whole);
-    }
-    let n = units.len() / LENT_UNIT;
-    let mut left = room;
-    let mut i = 0;
-    while i < n {
-        let m = least(size, n - i);
-        let verdict = judge_value(m, &units[LENT_UNIT * i..], left);
-        if let Verdict::Refused(_, _) = verdict {
-            return verdict;
-        }
-        left -= 1 + UNIT_BYTES * m;
-        i += m;
-    }
-    Verdict::Accepted
 }
 
 // Stores the payloads of a run that was judged, each into the rest of the output, and tells how long they are.
@@ -69,19 +35,9 @@ fn put_reel(flags: u8, size: usize, units: &[u8], out: &mut [u8]) -> usize
     let mut at = 0;
     let mut i = 0;
     while i < n {
-        let m = least(size, n - i);
+        let m = reel::least(size, n - i);
         at += write_judged(flags, m, &units[LENT_UNIT * i..], &mut out[at..]);
         i += m;
     }
     at
-}
-
-// The smaller of two numbers.
-fn least(a: usize, b: usize) -> usize
-    ensures { λ r. ⌜ r ≡ a - (a - b) ⌝ }
-{
-    if a < b {
-        return a;
-    }
-    b
 }

@@ -2,8 +2,12 @@
 //
 // Normative references: docs/RULES.md, "Reel"; document 004, 3.2.1, Tables 1 and 2.
 ghost use mathlib.Core.Path.{_≡_};
+ghost use Prim.Native.Nat.{_-_};
 ghost use Rattle.reel.specs.Writing.{sizeVerdict};
+ghost use Rattle.reel.specs.Lent.{runVerdict};
+use line21::LENT_UNIT;
 use line21::MAX_UNITS;
+use line21::UNIT_BYTES;
 use refusal::Excess;
 use refusal::Item;
 use refusal::Reason;
@@ -20,4 +24,41 @@ pub fn judge_size(size: usize) -> Verdict
         return Verdict::Refused(Reason::Unholdable(Excess::PayloadSize), Item::Whole);
     }
     Verdict::Accepted
+}
+
+// RULES, "Order of checks": 15 of the size, 15 of a run that ends within a unit, then each payload's own checks in its
+// turn, with the room that those before it leave.
+pub fn judge_reel(size: usize, units: &[u8], room: usize) -> Verdict
+    ensures { λ r. ⌜ r ≡ runVerdict 0 size (now (units .entry)) room ⌝ }
+{
+    let sized = judge_size(size);
+    if let Verdict::Refused(_, _) = sized {
+        return sized;
+    }
+    if units.len() % LENT_UNIT != 0 {
+        return Verdict::Refused(Reason::Unholdable(Excess::RunLength), Item::Whole);
+    }
+    let n = units.len() / LENT_UNIT;
+    let mut left = room;
+    let mut i = 0;
+    while i < n {
+        let m = least(size, n - i);
+        let verdict = line21_judge::judge_value(m, &units[LENT_UNIT * i..], left);
+        if let Verdict::Refused(_, _) = verdict {
+            return verdict;
+        }
+        left -= 1 + UNIT_BYTES * m;
+        i += m;
+    }
+    Verdict::Accepted
+}
+
+// The smaller of two numbers.
+pub fn least(a: usize, b: usize) -> usize
+    ensures { λ r. ⌜ r ≡ a - (a - b) ⌝ }
+{
+    if a < b {
+        return a;
+    }
+    b
 }

@@ -20,6 +20,7 @@ use Rattle.line21.specs.Writing.{valueVerdict}
 use Rattle.line21.specs.Lent.{accessUnitsIn, payloadIn}
 use Rattle.line21.proofs.Numbers.{Writable, accepted-value, length-layout-held}
 use Rattle.line21.proofs.LentUnits.{typed-in, verdict-flags}
+use Rattle.line21_judge.proofs.Lent.{lent-array}
 use Rattle.line21_writer.proofs.write_from.Statement.{statement}
 use Rattle.line21_writer.proofs.write_from.Tie as tie
 
@@ -37,7 +38,7 @@ module _ (c : tie.After-told) where
   verdict = valueVerdict p (length out)
 
   told : c .told .result ≡ refusalOf verdict
-  told = c .told .ensures ∙ ap refusalOf (c .before .judge-value .ensures ∙ sym (verdict-flags (start .args .flags) (start .args .m) (length out) (accessUnitsIn (now (start .args .units)))))
+  told = c .told .ensures ∙ ap refusalOf (c .before .judge-value .ensures ∙ lent-array _ _ _ (c .before .before .judge-value-arg .given .0) ∙ sym (verdict-flags (start .args .flags) (start .args .m) (length out) (accessUnitsIn (now (start .args .units)))))
 
   types : Typed p
   types = typed-in (start .args .flags) (start .args .m) (now (start .args .units)) (start .good .0 .1) (c .before .before .before .known .ensures)
@@ -60,10 +61,6 @@ refused c =
           subst (λ (r : Refusal). Wrote (verdict at) laid (out at) (record { refusal = r; len = 0 }) (out at)) (sym (told at))
           (wrote-nothing (verdict at) laid (out at) (λ e. c .if1 .taken (ap (λ (r : Refusal). r .number) (told at) ∙ e)));
     }
-
--- the array has 2,037 bytes, 7 for each of 291 units
-judge-requires : tie.Need-judge-value-requires
-judge-requires c κs = λ few. omega (arith, few)
 
 write-requires : tie.Need-write-judged-requires
 write-requires c κs = (told-accepted _ (zero (c .before .before)), omega (arith, writable (c .before .before) .few))
@@ -89,7 +86,7 @@ write-from-spec =
     tie.close
     (tie.spec
     (λ c κs. search needs)
-    judge-requires
+    (λ c κs. search needs)
     (λ c κs. search needs)
     refused
     write-requires

@@ -1,9 +1,9 @@
--- `line21_writer::judge_unit` meets its contract: at each return the tests that led there pick that check of `unitVerdict`.
+-- `line21_judge::judge_unit` meets its contract: at each return the tests that led there pick that check of `unitVerdict`.
 -- Assumes nothing.
 use borrow.Author.Tests.{lt-ltb, le-ltb}
 use Rattle.line21.specs.Writing.{unitVerdict}
-use Rattle.line21_writer.proofs.judge_unit.Statement.{statement}
-use Rattle.line21_writer.proofs.judge_unit.Tie as tie
+use Rattle.line21_judge.proofs.judge_unit.Statement.{statement}
+use Rattle.line21_judge.proofs.judge_unit.Tie as tie
 
 valid-1 : tie.Need-returns
 unfolding unitVerdict

@@ -1,4 +1,4 @@
--- `line21_writer::reels::judge_reel` meets its contract. The loop's invariant: the payloads from unit i on, with the room
+-- `reel::judge_reel` meets its contract. The loop's invariant: the payloads from unit i on, with the room
 -- that is left, decide as all of them do.
 -- Assumes nothing.
 use Prim.Native.Nat.{ℕ, _+_, _-_, _*_, _/_, _≤_, _<_}
@@ -17,12 +17,14 @@ use Rattle.refusal.proofs.Checks.{refused-first, accepted-first}
 use Rattle.line21.specs.Value.{Line21}
 use Rattle.line21.specs.Writing.{valueVerdict}
 use Rattle.line21.specs.Lent.{accessUnitIn, runIn, payloadIn}
+use Rattle.line21_judge.specs.Judging.{lentVerdict}
+use Rattle.line21_judge.proofs.Lent.{lent-verdict}
 use Rattle.line21.proofs.Numbers.{accepted-value, length-layout-held}
 use Rattle.reel.specs.Writing.{reel, sizeVerdict, reelVerdict}
 use Rattle.reel.specs.Lent.{runVerdict}
 use Rattle.reel.proofs.Judging.{accepted-size, run-sized, run-part, verdict-next, none-left}
-use Rattle.line21_writer.proofs.reels.judge_reel.Statement.{statement}
-use Rattle.line21_writer.proofs.reels.judge_reel.Tie as tie
+use Rattle.reel.proofs.judge_reel.Statement.{statement}
+use Rattle.reel.proofs.judge_reel.Tie as tie
 
 abbrev Inv-loop : tie.InvT-loop
 Inv-loop size units room n left₀ i₀ left i =
@@ -80,8 +82,14 @@ module _ (c : tie.After-judge-value Inv-loop μ-loop) where
   abbrev at : tie.At-loop Inv-loop μ-loop
   at = head counted
 
+  -- the slice has the units of the payload, so that it is judged as that payload is
   judged : c .judge-value .result ≡ valueVerdict (payloadIn 0 (m counted) (drop (7 * at .loop .i) (run at))) (at .loop .left)
-  judged = c .judge-value .ensures ∙ ap (λ (t : List ℕ). valueVerdict (payloadIn 0 (m counted) t) (at .loop .left)) (rest-whole (run at) (7 * at .loop .i))
+  judged =
+      let part = drop (7 * at .loop .i) (run at) in
+      let all : m counted ≤ length part / 7 = omega (arith, inside counted, length-drop (7 * at .loop .i) (run at)) in
+      c .judge-value .ensures
+      ∙ ap (λ (t : List ℕ). lentVerdict (m counted) t (at .loop .left)) (rest-whole (run at) (7 * at .loop .i))
+      ∙ lent-verdict (m counted) part (at .loop .left) all
 
   -- where it is accepted, it fits what is left
   fits : c .judge-value .result ≡ Accepted → 1 + 5 * m counted ≤ at .loop .left
@@ -117,13 +125,6 @@ part-judge-value-start c = omega (arith, below c)
 
 part-judge-value-end : tie.Need-part-judge-value-end Inv-loop μ-loop
 part-judge-value-end c = omega arith
-
-judge-value-requires : tie.Need-judge-value-requires Inv-loop μ-loop
-judge-value-requires c κs =
-    let counted = c .before in
-    let i = head counted .loop .i in
-    let s = run (head counted) in
-    λ few. omega (arith, inside counted, ap length (rest-whole s (7 * i)), length-drop (7 * i) s)
 
 returns-3 : tie.Need-returns-3 Inv-loop μ-loop
 returns-3 c =
@@ -179,7 +180,7 @@ judge-reel-spec =
     sub-judge-value
     part-judge-value-start
     part-judge-value-end
-    judge-value-requires
+    (λ c κs. search needs)
     (λ c. search needs)
     returns-3
     (λ c. search needs)
