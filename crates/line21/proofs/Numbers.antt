@@ -50,7 +50,7 @@ Passes u = unitVerdict u ≡ Accepted
 pub units-accepted : (us : List AccessUnit) → Each LegalAccessUnit us → unitsVerdict us ≡ Accepted
 units-accepted us h = each-accepted unitVerdict us (each-map LegalAccessUnit Passes (λ u legal. unit-accepted u (legal .numbers)) us h)
 
-accepted-units : (us : List AccessUnit) → Each ByteUnit us → unitsVerdict us ≡ Accepted → Each LegalAccessUnit us
+pub accepted-units : (us : List AccessUnit) → Each ByteUnit us → unitsVerdict us ≡ Accepted → Each LegalAccessUnit us
 accepted-units us h e =
     each-both ByteUnit Passes LegalAccessUnit (λ u bytes passes. record { numbers = accepted-unit u passes; bytes = bytes }) us h (accepted-each unitVerdict us e)
 

@@ -23,7 +23,7 @@ use Rattle.line21.proofs.Fifteen.{Is15, unit-15}
 unit-unplaced : (u : AccessUnit) → Gives Unplaced (unitVerdict u)
 unit-unplaced u = gives-as Is15 Unplaced (refused-unplaced 15) (unitVerdict u) (unit-15 u)
 
-value-unplaced : (p : Payload) (room : ℕ) → Gives Unplaced (valueVerdict p room)
+pub value-unplaced : (p : Payload) (room : ℕ) → Gives Unplaced (valueVerdict p room)
 unfolding valueVerdict
 value-unplaced p room =
     andThen-gives Unplaced _ _ (refuseIf-gives Unplaced (ltb 291 (p .m)) (Unholdable Count) Whole refl)

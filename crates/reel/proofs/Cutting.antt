@@ -1,11 +1,11 @@
 -- Cutting a list into pieces of one size.
 -- Assumes nothing.
-use Prim.Native.Nat.{ℕ, zero, suc, _+_, _-_, _*_, _≤_, _<_}
+use Prim.Native.Nat.{ℕ, zero, suc, _+_, _-_, _*_, _≤_, _<_, min}
 use native.Mathlib.Omega.{arith}
 use native.Mathlib.Nat.{mul-zero, mul-suc}
 use mathlib.Core.Path.{_≡_, _∙_, ap, ap₂, sym, subst, refl}
 use mathlib.Core.List.{List, [], _∷_, _++_}
-use lib.ListN.{length, take, drop, length-append, length-drop, take-append-drop}
+use lib.ListN.{length, take, drop, length-append, length-take, length-drop, take-append-drop}
 use lib.Seq.{take-nil, drop-nil, take-at, drop-at, drop-drop, length-take-le}
 use Rattle.lists.specs.Each.{Each}
 use Rattle.lists.proofs.Each.{each-append, append-each}
@@ -14,6 +14,9 @@ use Rattle.reel.specs.Cut.{pieces, cut, joined, Sized}
 -- the smaller of two numbers, as the code takes it
 abbrev pub least : ℕ → ℕ → ℕ
 least a b = a - (a - b)
+
+min-least : (a b : ℕ) → min a b ≡ least a b
+min-least a b = omega arith
 
 module _ {A : Type 0} where
   -- taking more than there is takes all
@@ -89,6 +92,31 @@ module _ {A : Type 0} where
             ap (λ (rest : List A). take size (x ∷ xs) ++ rest) (whole f (drop size (x ∷ xs)) (omega (arith, shorter x xs)))
             ∙ take-append-drop size (x ∷ xs)
 
+    -- each piece is full but the last, which has 1 to `size` elements
+    pub cut-sized : (xs : List A) → Sized size (cut size xs)
+    cut-sized xs = sized-from (length xs) xs (omega arith)
+      where
+        joint : (f : ℕ) (p rest : List A) → 0 < length p → length p ≤ size → (0 < length rest → length p ≡ size) → length rest ≤ f
+            → Sized size (pieces f size rest) → Sized size (p ∷ pieces f size rest)
+        joint zero p [] one few full h s = (one, few)
+        joint zero p (y ∷ ys) one few full h s = let f : ⊥ = omega arith in absurd f
+        joint (suc f) p [] one few full h s = (one, few)
+        joint (suc f) p (y ∷ ys) one few full h s = (full (omega arith), s)
+
+        sized-from : (f : ℕ) (xs : List A) → length xs ≤ f → Sized size (pieces f size xs)
+        sized-from zero [] h = tt
+        sized-from zero (x ∷ xs) h = let f : ⊥ = omega arith in absurd f
+        sized-from (suc f) [] h = tt
+        sized-from (suc f) (x ∷ xs) h =
+            let all = x ∷ xs in
+            let front = length-take size all in
+            let back = length-drop size all in
+            let less = shorter x xs in
+            joint f (take size all) (drop size all) (omega (arith, min-least size (length all))) (omega (arith, min-least size (length all)))
+            (λ more. omega (arith, min-least size (length all)))
+            (omega arith)
+            (sized-from f (drop size all) (omega arith))
+
     -- what is cut in this way is so in no other
     pub cut-only : (ps : List (List A)) → Sized size ps → cut size (joined ps) ≡ ps
     cut-only [] h = refl
@@ -106,6 +134,26 @@ module _ {A : Type 0} where
         cut-least (p ++ rest) size (omega (arith, h .0)) few
         ∙ ap₂ (λ (piece left : List A). piece ∷ cut size left) (take-at p rest size (h .0)) (drop-at p rest size (h .0))
         ∙ ap (λ (pieces : List (List A)). p ∷ pieces) (cut-only (q ∷ ps) (h .1))
+
+-- how many pieces there are: as few as hold the list
+module _ {A : Type 0} (size : ℕ) (some : 1 ≤ size) where
+  pub sized-count : (ps : List (List A)) → Sized size ps → (length (joined ps) ≤ size * length ps) × (size * length ps < length (joined ps) + size)
+  sized-count [] h = let none = mul-zero size in (omega arith, omega arith)
+  sized-count (p ∷ []) h =
+      let one : size * 1 ≡ size = omega (arith, mul-suc size 0, mul-zero size) in
+      let long : length (p ++ []) ≡ length p = simp length-append (omega arith) in
+      (omega (arith, h .1), omega (arith, h .0))
+  sized-count (p ∷ q ∷ ps) h =
+      let on = sized-count (q ∷ ps) (h .1) in
+      let more = mul-suc size (length (q ∷ ps)) in
+      let long = length-append p (joined (q ∷ ps)) in
+      (omega (arith, h .0, on .0), omega (arith, h .0, on .1))
+
+  -- no piece is longer than the size
+  pub sized-few : (ps : List (List A)) → Sized size ps → Each (λ (p : List A). length p ≤ size) ps
+  sized-few [] h = tt
+  sized-few (p ∷ []) h = (h .1, tt)
+  sized-few (p ∷ q ∷ ps) h = (omega (arith, h .0), sized-few (q ∷ ps) (h .1))
 
 -- every element of the list is one of a piece, and every one of a piece is one of the list
 module _ {A : Type 0} (P : A → Type 0) where

@@ -45,6 +45,18 @@ pub size-accepted : (size : ℕ) → 1 ≤ size → size ≤ 291 → sizeVerdict
 unfolding sizeVerdict
 size-accepted size some few = simp (ne-eqb size 0 (λ e. omega arith), le-ltb 291 size few)
 
+-- and another is refused with 15, whatever the rest says
+fifteen : (a b : Bool) (rest : Verdict)
+    → (first (refuseIf a (Unholdable PayloadSize) Whole ∷ refuseIf b (Unholdable PayloadSize) Whole ∷ []) ≡ Accepted → refusalOf rest ≡ refused 15 0)
+    → refusalOf (andThen (first (refuseIf a (Unholdable PayloadSize) Whole ∷ refuseIf b (Unholdable PayloadSize) Whole ∷ [])) rest) ≡ refused 15 0
+fifteen true b rest h = refl
+fifteen false true rest h = refl
+fifteen false false rest h = h refl
+
+pub size-15 : (size : ℕ) (rest : Verdict) → (sizeVerdict size ≡ Accepted → ⊥) → refusalOf (andThen (sizeVerdict size) rest) ≡ refused 15 0
+unfolding sizeVerdict
+size-15 size rest h = fifteen (eqb size 0) (ltb 291 size) rest (λ e. absurd (h e))
+
 -- a lent run of whole units is judged as its units are
 pub run-whole : (flags size : ℕ) (s : List ℕ) (room : ℕ) → length s % 7 ≡ 0 → runVerdict flags size s room ≡ callVerdict flags size (runIn s) room
 unfolding runVerdict
@@ -62,16 +74,10 @@ unfolding runVerdict
 run-part flags size s room sized h = simp (sized, ne-eqb (length s % 7) 0 h)
 
 -- whatever its size: both refusals are 15
-fifteen : (a b : Bool) (rest : Verdict)
-    → refusalOf (andThen (first (refuseIf a (Unholdable PayloadSize) Whole ∷ refuseIf b (Unholdable PayloadSize) Whole ∷ [])) (andThen (Refused (Unholdable RunLength) Whole) rest))
-    ≡ refused 15 0
-fifteen true b rest = refl
-fifteen false true rest = refl
-fifteen false false rest = refl
-
 pub run-cut-off : (flags size : ℕ) (s : List ℕ) (room : ℕ) → (length s % 7 ≡ 0 → ⊥) → refusalOf (runVerdict flags size s room) ≡ refused 15 0
 unfolding runVerdict sizeVerdict
-run-cut-off flags size s room h = simp (ne-eqb (length s % 7) 0 h) (fifteen (eqb size 0) (ltb 291 size) (andThen (reelVerdict (reel flags size (runIn s)) room) Accepted))
+run-cut-off flags size s room h =
+    simp (ne-eqb (length s % 7) 0 h) (fifteen (eqb size 0) (ltb 291 size) (Refused (Unholdable RunLength) Whole) (λ e. refl))
 
 -- and one that is let through ends with one
 pub record Judged (flags size : ℕ) (s : List ℕ) (room : ℕ) : Type 0 where

@@ -7,7 +7,7 @@ use mathlib.Core.List.{List, [], _∷_, _++_, map}
 use lib.ListN.{length, take, drop, replicate, length-append, length-drop, length-replicate}
 use Rattle.lists.specs.Each.{Each}
 use Rattle.lists.specs.Room.{filled, over}
-use Rattle.lists.proofs.Each.{each-append, each-replicate}
+use Rattle.lists.proofs.Each.{each-append, each-replicate, each-map, each-both}
 use Rattle.lists.proofs.Lay.{take-over, drop-over, over-over}
 use Rattle.refusal.specs.declared.Refusal.{Refusal}
 use Rattle.refusal.specs.declared.Verdict.{Verdict}
@@ -23,9 +23,12 @@ use Rattle.line21.specs.Value.{Line21, ByteUnit, Typed, blank, stored, held}
 use Rattle.line21.specs.Layout.{layout}
 use Rattle.line21.specs.Writing.{valueVerdict, Writes}
 use Rattle.line21.proofs.Answers.{stored-held}
+use Rattle.reel.specs.Cut.{cut}
 use Rattle.reel.specs.Writing.{reel, reelLayout, sizeVerdict, reelVerdict, WritesReel}
 use Rattle.reel.specs.OneByOne.{OneByOne, done, stop, more}
+use Rattle.reel.proofs.Cutting.{cut-joined, joined-each}
 use Rattle.reel.proofs.Judging.{size-accepted}
+use Rattle.reel.proofs.Writing.{each-payload, few-each}
 
 -- what the single calls come to: the reel's verdict, and where it accepts its bytes
 pub record Comes (vs : List Line21) (out : List ℕ) (refusal : Refusal) (len : ℕ) (exit : List ℕ) : Type 0 where
@@ -133,6 +136,19 @@ module _ (v : Line21) (out : List ℕ) where
 pub runs : (vs : List Line21) → Each Held vs → (out : List ℕ) → Runs vs out
 runs [] h out = record { refusal = accepted; len = 0; exit = out; calls = done }
 runs (v ∷ vs) h out = then v out vs (h .0) (λ rest. runs vs (h .1) rest) (verdict v out) refl
+
+pub can-be-made : (flags size : ℕ) (us : List AccessUnit) (out : List ℕ) → flags < 256 → Each ByteUnit us → 1 ≤ size → size ≤ 291
+    → (refusal : Refusal) × (len : ℕ) × (end : List ℕ) × OneByOne (reel flags size us) out refusal len end
+can-be-made flags size us out byte bytes some few =
+    let pieces = joined-each ByteUnit (cut size us) (subst (λ (xs : List AccessUnit). Each ByteUnit xs) (sym (cut-joined size some us)) bytes) in
+    let typed = each-payload flags (λ (v : Line21). Each ByteUnit (v .units)) (cut size us) pieces in
+    let same = each-payload flags (λ (v : Line21). v .flags < 256) (cut size us) (each-map (λ (xs : List AccessUnit). Each ByteUnit xs) (λ (xs : List AccessUnit). flags < 256) (λ xs h. byte) (cut size us) pieces) in
+    let all = each-both (λ (v : Line21). (v .flags < 256) × (length (v .units) ≤ 291)) (λ (v : Line21). Each ByteUnit (v .units)) Held (λ v h b. (h .0, h .1, b)) (reel flags size us)
+    (each-both (λ (v : Line21). v .flags < 256) (λ (v : Line21). length (v .units) ≤ 291) (λ (v : Line21). (v .flags < 256) × (length (v .units) ≤ 291)) (λ v f n. (f, n)) (reel flags size us) same (few-each flags size us some few))
+    typed
+    in
+    let made = runs (reel flags size us) all out in
+    (made .refusal, made .len, made .exit, made .calls)
 
 -- the reel beside them
 pub as-one-by-one : (flags size : ℕ) (us : List AccessUnit) (out : List ℕ) (r : Written) (exit : List ℕ)
