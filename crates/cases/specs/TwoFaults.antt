@@ -7,7 +7,7 @@ use mathlib.Core.Bool.{Bool, true, false}
 use mathlib.Core.List.{List, [], _∷_, _++_}
 use lib.ListN.{length, replicate, take}
 use Rattle.refusal.specs.declared.Reason.{Reason}
-use Rattle.refusal.specs.declared.Reason.the-variants.{TooLong, NoStart, StartCode, SecondUnit, Ends, Unfixed, FieldNumberZero, DescriptorLine, FieldFalls, LineDoesNotRise, FifthPriority, SampledVideo, WordRange, WordParity, SdpChecksum, Unfit, Unholdable, AdditionalData, NotShown, OtherLine}
+use Rattle.refusal.specs.declared.Reason.the-variants.{TooLong, NoStart, StartCode, SecondUnit, Ends, Unfixed, FieldNumberZero, DescriptorLine, FieldFalls, LineDoesNotRise, FifthPriority, SampledVideo, WordRange, WordParity, SdpChecksum, Unfit, NoRoom, Unholdable, AdditionalData, NotShown, OtherLine}
 use Rattle.refusal.specs.declared.Fixed.the-variants as fixed
 use Rattle.refusal.specs.declared.Misfit.the-variants as misfit
 use Rattle.refusal.specs.declared.Excess.the-variants as excess
@@ -33,6 +33,7 @@ use Rattle.line21.specs.Writing as payloads
 use Rattle.sdp.specs.Value as sdp
 use Rattle.subtitling.specs.Reading.{packetVerdict}
 use Rattle.subtitling.specs.Writing as packets
+use Rattle.reel.specs.Writing.{callVerdict}
 use Rattle.film.specs.declared.Shown.{Shown}
 use Rattle.film.specs.Calls.{pictureVerdict}
 use Rattle.cases.specs.Table.{marked, q, unit}
@@ -46,6 +47,7 @@ pub data FaultCase : Type 0 where
   writeUnit : (kind : Kind) → kinds.CaptionUnit kind → ℕ → Reason → ℕ → FaultCase
   writePacket : sdp.Sdp → ℕ → Reason → ℕ → FaultCase
   writePayload : Payload → ℕ → Reason → ℕ → FaultCase
+  writeReel : ℕ → List AccessUnit → ℕ → Reason → ℕ → FaultCase
   film : Shown → CaptionUnit → Reason → ℕ → FaultCase
   replace : (kind : Kind) → List ℕ → kinds.CaptionUnit kind → ℕ → Reason → ℕ → ℕ → FaultCase
 
@@ -65,6 +67,7 @@ Decided (writeUnit kind u room reason number) =
     Decides (kinds.writeVerdict kind u (length (unitBytes kind (kinds.held kind u))) room) reason number 0
 Decided (writePacket v room reason number) = Decides (packets.valueVerdict v room) reason number 0
 Decided (writePayload p room reason number) = Decides (payloads.valueVerdict p room) reason number 0
+Decided (writeReel size us room reason number) = Decides (callVerdict 0 size us room) reason number 0
 Decided (film how u reason number) = Decides (pictureVerdict how u) reason number 0
 Decided (replace kind s u room reason number place) = Decides (replaceVerdict kind s u room) reason number place
 
@@ -157,6 +160,16 @@ slot full line reserved row =
 -- a packet of these two slots and three empty ones
 abbrev two : ℕ → sdp.SlotRow → sdp.SlotRow → sdp.Sdp
 two counter x y = record { counter = counter; slots = x ∷ y ∷ replicate 3 sdp.emptyRow }
+
+-- units of a reel: a legal one, one of padding 64, and one of cc_valid_1 2
+abbrev fair : AccessUnit
+fair = unit 1 0 0 0x94 0x2C 0 0
+
+abbrev padded : AccessUnit
+padded = unit 1 0 64 0x94 0x2C 0 0
+
+abbrev invalid : AccessUnit
+invalid = unit 2 0 0 0x94 0x2C 0 0
 
 -- a payload of m units
 abbrev payloadOf : ℕ → List AccessUnit → Payload
@@ -321,6 +334,25 @@ two-faults =
     ∷ writePayload (payloadOf 292 (unit 0 0 64 0 0 0 0 ∷ [])) 0 (Unholdable excess.Count) 15
     -- 15 and 14: a padding of 64, and no room
     ∷ writePayload (payloadOf 1 (unit 0 0 64 0 0 0 0 ∷ [])) 0 (Unholdable excess.Padding) 15
+    -- WRITING A REEL
+    -- 15 and 15: size 0, and a padding of 64
+    ∷ writeReel 0 (padded ∷ []) 6 (Unholdable excess.PayloadSize) 15
+    -- 15 and 14: size 292, and no room
+    ∷ writeReel 292 (fair ∷ []) 0 (Unholdable excess.PayloadSize) 15
+    -- 15 and 14: in payload 1 a padding of 64, and no room for it
+    ∷ writeReel 1 (padded ∷ fair ∷ []) 0 (Unholdable excess.Padding) 15
+    -- 14 and 15: no room for payload 1, and in payload 2 a padding of 64
+    ∷ writeReel 1 (fair ∷ padded ∷ []) 5 NoRoom 14
+    -- 15 and 14: in payload 2 a padding of 64, and no room for it
+    ∷ writeReel 1 (fair ∷ padded ∷ []) 6 (Unholdable excess.Padding) 15
+    -- 14 and 15: no room for payload 2, and in payload 3 a padding of 64
+    ∷ writeReel 1 (fair ∷ fair ∷ padded ∷ []) 11 NoRoom 14
+    -- 15 and 15: in payload 1 a padding of 64, and in payload 2 cc_valid_1 is 2
+    ∷ writeReel 1 (padded ∷ invalid ∷ []) 12 (Unholdable excess.Padding) 15
+    -- 14 and 15: no room for payload 1, of two units, and in the last, of one, a padding of 64
+    ∷ writeReel 2 (fair ∷ fair ∷ padded ∷ []) 10 NoRoom 14
+    -- 15 and 14: in that last one a padding of 64, and no room for it
+    ∷ writeReel 2 (fair ∷ fair ∷ padded ∷ []) 11 (Unholdable excess.Padding) 15
     -- CARRYING A FILM PICTURE
     -- 15 and 15: a set line of 32, and a record of priority 4
     ∷ film (shown true 32) (value (caption 4 1 10 ∷ []) 0) (Unholdable excess.SetLine) 15
