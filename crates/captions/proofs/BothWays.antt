@@ -34,7 +34,8 @@ use Rattle.line21.specs.Reading.{readOf, headOf, Reads}
 use Rattle.line21.specs.Lent as units
 use Rattle.line21.proofs.Theorems as payloads
 use Rattle.captions.specs.declared.UnitHead.{UnitHead}
-use Rattle.captions.specs.Calls.{headIn, AreaReads, numbersIn, packetIn, PayloadWrites}
+use Rattle.captions.specs.Calls.{headIn, AreaReads, numbersIn, packetIn}
+use Rattle.line21_writer.specs.Calls.{PayloadWrites}
 use Rattle.captions.specs.Arguments.{plain, passed, slotBytes}
 use Rattle.captions.proofs.Numbers.{apart, numbers-told, legal-same, packet-told, slots-same}
 use Rattle.captions.proofs.Succeeding.{flags-byte}

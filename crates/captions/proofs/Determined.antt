@@ -19,7 +19,8 @@ use Rattle.film_lent.specs.declared.Head as film-lent
 use Rattle.film_lent.specs.Lent.{PictureInto, CloseInto}
 use Rattle.film_lent.proofs.Theorems as films
 use Rattle.captions.specs.declared.UnitHead.{UnitHead}
-use Rattle.captions.specs.Calls.{headIn, AreaReads, packetIn, PayloadWrites}
+use Rattle.captions.specs.Calls.{headIn, AreaReads, packetIn}
+use Rattle.line21_writer.specs.Calls.{PayloadWrites}
 use Rattle.captions.proofs.Numbers.{apart, byte-or-wide}
 
 pub area-read-determined : (s lent : List ℕ) (a : UnitHead) (exit : List ℕ) (b : UnitHead) (end : List ℕ)

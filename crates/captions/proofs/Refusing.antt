@@ -17,7 +17,8 @@ use Rattle.picture.specs.Writing.{Writes}
 use Rattle.picture.proofs.Theorems as picture
 use Rattle.line21.specs.Lent.{payloadIn}
 use Rattle.line21.specs.Writing as payload
-use Rattle.captions.specs.Calls.{numbersIn, PayloadWrites}
+use Rattle.captions.specs.Calls.{numbersIn}
+use Rattle.line21_writer.specs.Calls.{PayloadWrites}
 use Rattle.captions.proofs.Numbers.{numbers-wide}
 
 pub wide-refused : (reserved flag n z : ℕ) (lent out : List ℕ) (r : Written) (exit : List ℕ)

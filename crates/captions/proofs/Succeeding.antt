@@ -17,7 +17,8 @@ use Rattle.subtitling.proofs.Theorems as subtitling
 use Rattle.line21.specs.Lent.{payloadIn}
 use Rattle.line21.proofs.Theorems as payloads
 use Rattle.captions.specs.declared.UnitHead.{UnitHead}
-use Rattle.captions.specs.Calls.{headIn, AreaReads, numbersIn, packetIn, PayloadWrites}
+use Rattle.captions.specs.Calls.{headIn, AreaReads, numbersIn, packetIn}
+use Rattle.line21_writer.specs.Calls.{PayloadWrites}
 use Rattle.captions.specs.Arguments.{plain, Fits, FitsIn, FitsPacket, FitsPayload}
 use Rattle.captions.proofs.Numbers.{plain-exactly, byte-or-wide}
 

@@ -50,7 +50,8 @@ use Rattle.film_lent.specs.declared.Head as film-lent
 use Rattle.film_lent.specs.Lent.{PictureInto, CloseInto}
 use Rattle.captions.specs.declared.UnitHead.{UnitHead}
 use Rattle.captions.specs.declared.Ga94Head.{Ga94Head}
-use Rattle.captions.specs.Calls.{AreaReads, numbersIn, ga94HeadIn, Ga94Reads, packetIn, PayloadWrites}
+use Rattle.captions.specs.Calls.{AreaReads, numbersIn, ga94HeadIn, Ga94Reads, packetIn}
+use Rattle.line21_writer.specs.Calls.{PayloadWrites}
 use Rattle.captions.specs.Arguments.{plain, passed, ga94Passed, Fits, FitsIn, slotBytes, FitsPacket, FitsPayload}
 use Rattle.captions.proofs.Numbers as numbers
 use Rattle.captions.proofs.Refusing as refusing

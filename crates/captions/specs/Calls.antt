@@ -1,23 +1,15 @@
 -- What the calls of the C interface mean: each is a call of its carriage, of the value that plain numbers and lent
 -- memory tell. c/captions.h has the same in C's words.
-use Prim.Native.Nat.{ℕ, _<_, min}
-use mathlib.Core.List.{List, []}
+use Prim.Native.Nat.{ℕ, min}
+use mathlib.Core.List.{List}
 use lib.ListN.{getD}
 use Rattle.lists.specs.Flat.{taken}
-use Rattle.refusal.specs.declared.Verdict.the-variants.{Refused}
-use Rattle.refusal.specs.declared.Reason.the-variants.{Unholdable}
-use Rattle.refusal.specs.declared.Excess.the-variants.{FlagsByte}
-use Rattle.refusal.specs.declared.Item.the-variants.{Whole}
-use Rattle.refusal.specs.declared.Written.{Written}
-use Rattle.refusal.specs.Answers.{Wrote}
 use Rattle.kind.specs.declared.Kind.the-variants.{Scte20, Ga94}
 use Rattle.scte20.specs.declared.Numbers.{Numbers}
 use Rattle.ga94.specs.declared.Numbers as ga94
 use Rattle.picture.specs.Lent.{Head, ReadsInto}
 use Rattle.sdp.specs.declared.Slot.{Slot}
 use Rattle.sdp.specs.declared.Packet.{Packet}
-use Rattle.line21.specs.Lent.{payloadIn}
-use Rattle.line21.specs.Writing.{Writes}
 use Rattle.captions.specs.declared.UnitHead.{UnitHead}
 use Rattle.captions.specs.declared.Ga94Head.{Ga94Head}
 
@@ -83,10 +75,3 @@ slotIn s = record { full = getD s 0 0; line = getD s 1 0; reserved = getD s 2 0;
 
 abbrev pub packetIn : ℕ → List ℕ → Packet
 packetIn counter s = record { counter = counter; slots = taken slotIn 4 5 s }
-
--- THE LINE 21 PAYLOAD
-
--- the promise of `captions_payload_write`: that of the carriage, and before it 15 for flags that no byte holds
-pub record PayloadWrites (flags m : ℕ) (lent out : List ℕ) (r : Written) (exit : List ℕ) : Type 0 where
-  pub within : flags < 256 → Writes (payloadIn flags m lent) out r exit
-  pub beyond : 255 < flags → Wrote (Refused (Unholdable FlagsByte) Whole) [] out r exit

@@ -1,12 +1,8 @@
 // The Line 21 payload.
 ghost use Rattle.line21.specs.Lent.{ReadsInto};
-ghost use Rattle.captions.specs.Calls.{PayloadWrites};
+ghost use Rattle.line21_writer.specs.Calls.{PayloadWrites};
 use line21::Head;
 use line21::LENT_UNITS;
-use refusal::Excess;
-use refusal::Item;
-use refusal::Reason;
-use refusal::Verdict;
 use refusal::Written;
 
 // Reads a payload, its units into a lent array.
@@ -27,12 +23,5 @@ pub extern "C" fn captions_payload_write(
 ) -> Written
     ensures { λ r. ⌜ PayloadWrites flags m (now (units .entry)) (now (out .entry)) r (now (out .exit)) ⌝ }
 {
-    if 255 < flags {
-        let wide = Verdict::Refused(Reason::Unholdable(Excess::FlagsByte), Item::Whole);
-        return Written {
-            refusal: refusal::told(wide),
-            len: 0,
-        };
-    }
-    line21_writer::write_from(flags as u8, m, units, out)
+    line21_writer::write_plain(flags, m, units, out)
 }

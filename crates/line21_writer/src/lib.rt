@@ -1,6 +1,7 @@
 // Writing an ISMA Line 21 RTP payload, and a reel of them.
 //
 // Normative references: docs/RULES.md, "Line 21 payload" and "Order of checks"; document 004, 3.2.1, Tables 1 and 2.
+mod plain;
 mod reels;
 
 ghost use mathlib.Core.Path.{_≡_};
@@ -12,6 +13,8 @@ ghost use Rattle.line21.specs.Value.{held};
 ghost use Rattle.line21.specs.Layout.{layout, layoutAccessUnit};
 ghost use Rattle.line21.specs.Writing.{unitVerdict, valueVerdict, Writes};
 ghost use Rattle.line21.specs.Lent.{payloadIn};
+pub use plain::write_plain;
+pub use plain::write_reel_plain;
 pub use reels::write_reel;
 use line21::AccessUnit;
 use line21::LENT_UNITS;
