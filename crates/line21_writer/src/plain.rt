@@ -19,11 +19,14 @@ use refusal::Reason;
 use refusal::Verdict;
 use refusal::Written;
 
+// The largest number that the flags byte holds.
+const WIDEST: u32 = 255;
+
 // Writes the payload of the first m of the units in a lent array.
 pub fn write_plain(flags: u32, m: usize, units: &[u8; LENT_UNITS], out: &mut [u8]) -> Written
     ensures { λ r. ⌜ PayloadWrites flags m (now (units .entry)) (now (out .entry)) r (now (out .exit)) ⌝ }
 {
-    if 255 < flags {
+    if WIDEST < flags {
         return wide();
     }
     write_from(flags as u8, m, units, out)
@@ -33,7 +36,7 @@ pub fn write_plain(flags: u32, m: usize, units: &[u8; LENT_UNITS], out: &mut [u8
 pub fn write_reel_plain(flags: u32, size: usize, units: &[u8], out: &mut [u8]) -> Written
     ensures { λ r. ⌜ RunWrites flags size (now (units .entry)) (now (out .entry)) r (now (out .exit)) ⌝ }
 {
-    if 255 < flags {
+    if WIDEST < flags {
         return wide();
     }
     write_reel(flags as u8, size, units, out)

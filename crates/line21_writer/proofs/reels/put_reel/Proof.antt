@@ -137,8 +137,8 @@ module _ (c : tie.After-least Inv-loop μ-loop) where
   abbrev head : tie.At-loop Inv-loop μ-loop
   head = c .before .before
 
-  abbrev below : head .loop .i < length (now (start head .args .units)) / 7
-  below = c .before .loop-test .taken
+  below : head .loop .i < length (now (start head .args .units)) / 7
+  below = omega (arith, c .before .loop-test .taken, judged-whole (start head) .some)
 
 sub-least : tie.Need-sub-least Inv-loop μ-loop
 sub-least c = omega (arith, c .loop-test .taken)
@@ -200,7 +200,7 @@ returns c =
     let from = start at in
     let judged = judged-whole from in
     let p = at .loop .inv in
-    let none = none-left (from .args .flags) (from .args .size) (judged .some) (judged .few) (now (from .args .units)) (at .loop .i) (c .loop-test .left) in
+    let none = none-left (from .args .flags) (from .args .size) (judged .some) (judged .few) (now (from .args .units)) (at .loop .i) (omega (arith, c .loop-test .left)) in
     let all = p .whole ∙ ap (λ (vs : List Line21). p .front ++ reelLayout vs) none ∙ append-nil (p .front) in
     (sym (p .long) ∙ ap length (sym all), p .stands ∙ ap (λ (bytes : List ℕ). over bytes (now (from .args .out))) (sym all))
 
