@@ -123,7 +123,7 @@ static void question_fields(cursor *c, question *q)
         take_film_calls(c, &q->film);
     }
     if (is_writer(q->op))
-        q->room = number_field(c, "room", OUTPUT_MAX / 2);
+        q->room = number_field(c, "room", OUTPUT_MAX / element_bytes(q->op));
     if (*c->at != '\0')
         c->bad = true;
 }
