@@ -58,7 +58,8 @@ captions_written plain_reel_write(uint32_t flags, size_t size, const captions_ac
 }
 
 /* The struct is seven bytes and nothing else, as captions.h asserts, so that the bytes can be looked at as structs. */
-captions_written plain_reel_write_bytes(uint32_t flags, size_t size, const uint8_t *units, size_t len, uint8_t *out, size_t room)
+captions_written plain_reel_write_bytes(uint32_t flags, size_t size, const uint8_t *units, size_t len, uint8_t *out,
+                                        size_t room)
 {
     if (len % sizeof(captions_access_unit) != 0) {
         return (captions_written){.refusal = {CAPTIONS_UNHOLDABLE, 0}};

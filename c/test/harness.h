@@ -28,7 +28,7 @@ typedef enum operation {
 
 enum {
     INPUT_MAX = 70000,  /* bytes of the longest input */
-    OUTPUT_MAX = 70000, /* bytes of the longest lent output */
+    OUTPUT_MAX = 90000, /* bytes of the longest lent output */
     WORDS_MAX = 1000,   /* words of the longest packet input or output */
     FILM_NUMBERS = 3,   /* numbers of one answer of film: number, place, m */
     FILM_BYTES = CAPTIONS_FILM_UNITS * sizeof(captions_access_unit), /* bytes of the output of one call of film */

@@ -44,7 +44,7 @@ typedef struct payload_value {
 } payload_value;
 
 /* A run of access units, and how many of them a payload gets. A run that is told by bytes can end within a unit. */
-enum { REEL_UNITS_MAX = 10000 };
+enum { REEL_UNITS_MAX = 14000 }; /* as payloads they take more bytes than 16 bits count */
 
 typedef struct reel_value {
     uint32_t flags;

@@ -20,24 +20,17 @@ static size_t some_size(dice *d)
     }
 }
 
-/* About how long a run is at the most. */
-static size_t some_most(dice *d, size_t size)
-{
-    if (chance(d, 2))
-        return chance(d, 10) ? REEL_UNITS_MAX : 2000;
-    return chance(d, 20) ? 4 * size : 40;
-}
-
 /* Whole payloads in many cases, or one unit more or less. */
 static size_t some_length(dice *d, size_t size)
 {
-    size_t most = some_most(d, size), n;
+    size_t most = chance(d, 20) ? 4 * size : 40, n;
 
+    if (chance(d, 1))
+        return REEL_UNITS_MAX - below(d, chance(d, 70) ? size + 2 : REEL_UNITS_MAX);
     if (chance(d, 40))
         return below(d, most + 1);
     n = size * below(d, most / size + 2) + below(d, 3);
-    n = n > 0 ? n - 1 : 0;
-    return n < REEL_UNITS_MAX ? n : REEL_UNITS_MAX;
+    return n > 0 ? n - 1 : 0;
 }
 
 void legal_reel(dice *d, reel_value *to)

@@ -3,7 +3,7 @@
 
 #include <stdio.h>
 
-enum { REEL_LEAST = 20, LONG_RUN = 1000 };
+enum { REEL_LEAST = 20, LONG_REEL = 65536 };
 
 typedef enum meeting {
     SIZE_1,
@@ -56,7 +56,7 @@ static const char *const meeting_names[MEETINGS] = {
     "accepted: several payloads, the last a unit short",
     "accepted: several payloads, all whole",
     "accepted: several payloads, the last of one unit",
-    "accepted: above 1,000 units",
+    "accepted: above 65,536 bytes",
     "accepted: more room than is needed",
     "flags above 255",
     "size 0",
@@ -106,7 +106,7 @@ static void note_accepted(const question *q, size_t len)
     met[ONE_SHORT] += r->n > size && (r->n + 1) % size == 0;
     met[WHOLE] += r->n > size && r->n % size == 0;
     met[ONE_MORE] += r->n > size && r->n % size == 1;
-    met[LONG] += r->n > LONG_RUN;
+    met[LONG] += len > LONG_REEL;
     met[ROOM_LEFT] += q->room > len;
 }
 
