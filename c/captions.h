@@ -5,7 +5,7 @@
  * Picture area       the user data behind an MPEG-2 picture header, with an SCTE 20 caption unit
  * GA94               ATSC caption data in a unit of the same picture area
  * Subtitling packet  RDD 8 (OP-47), as ancillary data words
- * Line 21 payload    the ISMA RTP payload, what follows the RTP header
+ * Line 21 payload    the ISMA RTP payload, what follows the RTP header; or a reel, many such payloads at once
  * Film               pictures of two or three fields, with an SCTE 20 caption unit each, into access units of that payload
  *
  * docs/RULES.md has the rules: what is not ours passes byte for byte, a unit of ours is read whole or refused with a
@@ -15,7 +15,7 @@
  * nothing outside the library but C's memcpy and memset, so that any number of threads may call it.
  *
  * What a caller owes, since C cannot check it:
- *   - behind a pointer and a length stand that many bytes or words; only with length 0 may the pointer be null;
+ *   - behind a pointer and a length stand that many bytes, words or units; only with length 0 may the pointer be null;
  *   - behind an array of fixed size stand all of its places, and behind `film` one struct;
  *   - memory that a call may store to (STORED below) overlaps no other argument of that call.
  *
@@ -73,7 +73,7 @@ enum {
     CAPTIONS_LENGTH = 13,          /* a length that fits nothing: DC, LENGTH, or that of a payload */
     CAPTIONS_NO_ROOM = 14,         /* the lent output is shorter than the result */
     CAPTIONS_UNHOLDABLE = 15,      /* a number out of range, records under flag 0, 09 or 0A behind 03, a mismarked slot;
-                                      a film state that no call leaves */
+                                      a film state that no call leaves; a run of bytes that ends within a unit */
     CAPTIONS_ADDITIONAL_DATA = 16, /* GA94 with additional_data_flag set */
     CAPTIONS_MARKER = 18,          /* a construct's marker is not all ones, or GA94's closing byte is not FF */
     CAPTIONS_ZEROS = 19,           /* a bit of a unit's alignment or stuffing is not 0 */
@@ -317,6 +317,33 @@ captions_payload captions_payload_read(const uint8_t *payload, size_t len,
 captions_written captions_payload_write(uint32_t flags, size_t m,
                                         const captions_access_unit CAPTIONS_ARRAY(units, CAPTIONS_ACCESS_UNITS),
                                         uint8_t *CAPTIONS_STORED out, size_t room);
+
+/* ---- A reel of payloads ---- */
+
+/*
+ * Writes a run of n access units as payloads of `size` units each, one behind the other from the front of `out`. All have
+ * the same flags byte, and the last may be shorter. A run may have any length. One of no units stores nothing, and is
+ * accepted. n units take 5n bytes, and one byte more for each payload: 5n + (n + size - 1) / size in all.
+ *
+ * Bytes and refusals are those of single calls of captions_payload_write, each for the next `size` units and with the room
+ * that is left. But one refusal refuses the whole run, and then nothing is stored.
+ *
+ * Refuses with 15 (flags above 255; size 0 or above 291, for a run of no units too); then for each payload in order with
+ * 15 for its units in order, then with 14. So a room too short for one payload comes before a wrong unit of the next.
+ * Lent: the first `len` bytes of `out` are stored to.
+ */
+captions_written captions_reel_write(uint32_t flags, size_t size, const captions_access_unit *units, size_t n,
+                                     uint8_t *CAPTIONS_STORED out, size_t room);
+
+/*
+ * The same for a run that is told by bytes: seven for each unit, in the order of captions_access_unit, `len` of them in
+ * all. It is the quicker of the two. An array of n structs is such a run of 7n bytes as it stands.
+ *
+ * Refuses as captions_reel_write does, and before that with 15 where the run ends within a unit (len is no multiple of 7).
+ * Lent: as for captions_reel_write.
+ */
+captions_written captions_reel_write_bytes(uint32_t flags, size_t size, const uint8_t *units, size_t len,
+                                           uint8_t *CAPTIONS_STORED out, size_t room);
 
 /* ---- Film pictures into RTP frames ---- */
 

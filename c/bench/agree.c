@@ -7,7 +7,7 @@ size_t agree_numbers[256];
 
 /* Lent memory, one piece for each program, with the same bytes in it before a call. The third is for a variant. */
 static union lent {
-    uint8_t bytes[CAPTIONS_AREA_BYTES + 64];
+    uint8_t bytes[REEL_BYTES + 64];
     uint16_t words[CAPTIONS_PACKET_WORDS + 32];
     captions_record records[CAPTIONS_RECORDS + 2];
     captions_ga94_record ga94[CAPTIONS_RECORDS + 2];
@@ -63,7 +63,7 @@ bool agree_area_read(const area_input *area)
 /* How much of a byte output is compared: what an answer may have stored, and 64 bytes more. */
 static size_t reach(size_t room)
 {
-    return room + 64 < sizeof lent[0].bytes ? room + 64 : sizeof lent[0].bytes;
+    return room + 64;
 }
 
 bool agree_unit_write(const unit_value *v, size_t room)
@@ -145,6 +145,24 @@ bool agree_payload_write(const payload_value *v, size_t room)
     fill(reach(room));
     captions_written a = plain_calls.payload_write(v->flags, v->m, v->units, lent[0].bytes, room);
     captions_written b = library_calls.payload_write(v->flags, v->m, v->units, lent[1].bytes, room);
+    return same_written(a, b) && same_lent(reach(room));
+}
+
+bool agree_reel_write(const reel_value *v, size_t room)
+{
+    fill(reach(room));
+    captions_written a = plain_calls.reel_write(v->flags, v->size, v->units, v->n, lent[0].bytes, room);
+    captions_written b = library_calls.reel_write(v->flags, v->size, v->units, v->n, lent[1].bytes, room);
+    return same_written(a, b) && same_lent(reach(room));
+}
+
+bool agree_reel_write_bytes(const reel_value *v, size_t room)
+{
+    const uint8_t *units = (const uint8_t *)v->units;
+    size_t len = v->n * sizeof v->units[0] + v->stray;
+    fill(reach(room));
+    captions_written a = plain_calls.reel_write_bytes(v->flags, v->size, units, len, lent[0].bytes, room);
+    captions_written b = library_calls.reel_write_bytes(v->flags, v->size, units, len, lent[1].bytes, room);
     return same_written(a, b) && same_lent(reach(room));
 }
 
@@ -374,6 +392,23 @@ static bool random_payload(void)
     return same && agree_payload_write(&v, below(2) == 0 ? CAPTIONS_PAYLOAD_BYTES : below(80));
 }
 
+/* Short runs of several payloads. Half of them get the room that they need, the others any less or a byte more. */
+static bool random_reel(void)
+{
+    static captions_access_unit units[700];
+    reel_value v = {.flags = below(20) == 0 ? below(600) : below(256), .units = units};
+    v.size = below(6) == 0 ? 289 + below(5) : below(12);
+    v.n = below(30) == 0 ? below(699) : below(30);
+    v.stray = below(20) == 0 ? 1 + below(6) : 0;
+    make_run(units, v.n + 1);
+    if (below(4) == 0) {
+        mutate(units, v.n * sizeof units[0]);
+    }
+    size_t whole = 5 * v.n + (v.size == 0 ? 0 : (v.n + v.size - 1) / v.size);
+    size_t room = below(2) == 0 ? whole : below((uint32_t)whole + 2);
+    return agree_reel_write(&v, room) && agree_reel_write_bytes(&v, room);
+}
+
 /* Mostly a state that a call can leave. */
 static captions_film random_state(void)
 {
@@ -412,7 +447,7 @@ bool agree_on_random(size_t inputs)
 {
     static area_input area;
     static packet_input packet;
-    for (size_t i = 0; i < inputs; i += 12) {
+    for (size_t i = 0; i < inputs; i += 14) {
         unit_value v;
         ga94_value g;
         random_area(&area);
@@ -426,7 +461,7 @@ bool agree_on_random(size_t inputs)
         size_t room = below(8) == 0 || v.z > 1000 || g.z > 1000 ? CAPTIONS_AREA_BYTES : below(600);
         if (!agree_area_read(&area) || !agree_unit_write(&v, room) || !agree_area_replace(&area, &v, room) ||
             !agree_ga94_read(&area) || !agree_ga94_write(&g, room) || !agree_ga94_replace(&area, &g, room) ||
-            !agree_packet_read(&packet) || !random_packet_write() || !random_payload() || !random_film()) {
+            !agree_packet_read(&packet) || !random_packet_write() || !random_payload() || !random_reel() || !random_film()) {
             return false;
         }
     }

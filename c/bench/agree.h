@@ -18,6 +18,8 @@ bool agree_packet_read(const packet_input *packet);
 bool agree_packet_write(const packet_value *v, size_t room);
 bool agree_payload_read(const payload_input *payload);
 bool agree_payload_write(const payload_value *v, size_t room);
+bool agree_reel_write(const reel_value *v, size_t room);
+bool agree_reel_write_bytes(const reel_value *v, size_t room);
 bool agree_film_picture(const film_value *v);
 bool agree_film_close(const film_value *v);
 

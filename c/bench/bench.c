@@ -39,11 +39,13 @@ typedef struct sample {
     packet_value numbers;
     payload_input payload;
     payload_value access;
+    reel_value reel;
     film_value film;
 } sample;
 
 /* What the calls store to. */
 static uint8_t out_bytes[CAPTIONS_AREA_BYTES];
+static uint8_t out_reel[REEL_BYTES];
 static uint16_t out_words[CAPTIONS_PACKET_WORDS];
 static captions_record out_records[CAPTIONS_RECORDS];
 static captions_ga94_record out_ga94[CAPTIONS_RECORDS];
@@ -53,7 +55,7 @@ static captions_access_unit out_units[CAPTIONS_ACCESS_UNITS];
 /* Every answer goes in here, so that no call is without effect. */
 static volatile uint64_t sink;
 
-/* ---- The twelve calls, `times` over the samples in turn ---- */
+/* ---- The fourteen calls, `times` over the samples in turn ---- */
 
 static void run_area_read(const calls *c, const sample *samples, size_t times)
 {
@@ -139,6 +141,23 @@ static void run_payload_write(const calls *c, const sample *samples, size_t time
     for (size_t i = 0; i < times; i++) {
         const payload_value *v = &samples[i % SAMPLES].access;
         sink += c->payload_write(v->flags, v->m, v->units, out_bytes, sizeof out_bytes).len;
+    }
+}
+
+static void run_reel_write(const calls *c, const sample *samples, size_t times)
+{
+    for (size_t i = 0; i < times; i++) {
+        const reel_value *v = &samples[i % SAMPLES].reel;
+        sink += c->reel_write(v->flags, v->size, v->units, v->n, out_reel, sizeof out_reel).len;
+    }
+}
+
+static void run_reel_write_bytes(const calls *c, const sample *samples, size_t times)
+{
+    for (size_t i = 0; i < times; i++) {
+        const reel_value *v = &samples[i % SAMPLES].reel;
+        sink += c->reel_write_bytes(v->flags, v->size, (const uint8_t *)v->units, v->n * sizeof v->units[0], out_reel,
+                                    sizeof out_reel).len;
     }
 }
 
@@ -244,6 +263,34 @@ static void payload(sample *s, size_t n)
     carry_payload(&s->access, &s->payload);
 }
 
+/* The first n units of a run, by `size`. The runs are made once, one for each sample, and all rows of reels have them. */
+static void reel(sample *s, size_t n, size_t size)
+{
+    static captions_access_unit runs[SAMPLES][REEL_UNITS];
+    static size_t turn;
+    captions_access_unit *run = runs[turn % SAMPLES];
+    if (turn < SAMPLES) {
+        make_run(run, REEL_UNITS);
+    }
+    turn++;
+    s->reel = (reel_value){.flags = below(256), .size = size, .n = n, .units = run};
+}
+
+static void reel_by_1(sample *s, size_t n)
+{
+    reel(s, n, 1);
+}
+
+static void reel_by_15(sample *s, size_t n)
+{
+    reel(s, n, 15);
+}
+
+static void reel_by_291(sample *s, size_t n)
+{
+    reel(s, n, 291);
+}
+
 /* Four pictures in turn, which make five frames: film by 3:2 pulldown. Their first n display fields have a record. */
 static void picture(sample *s, size_t n)
 {
@@ -309,6 +356,18 @@ static const row rows[] = {
     {"payload of 1 unit: write", &plain_calls, payload, 1, run_payload_write},
     {"payload of 291 units: read", &plain_calls, payload, 291, run_payload_read},
     {"payload of 291 units: write", &plain_calls, payload, 291, run_payload_write},
+    {"reel of 1,000 units by 1", &plain_calls, reel_by_1, 1000, run_reel_write},
+    {"reel of 1,000 units by 1: bytes", &plain_calls, reel_by_1, 1000, run_reel_write_bytes},
+    {"reel of 1,000 units by 15", &plain_calls, reel_by_15, 1000, run_reel_write},
+    {"reel of 1,000 units by 15: bytes", &plain_calls, reel_by_15, 1000, run_reel_write_bytes},
+    {"reel of 1,000 units by 291", &plain_calls, reel_by_291, 1000, run_reel_write},
+    {"reel of 1,000 units by 291: bytes", &plain_calls, reel_by_291, 1000, run_reel_write_bytes},
+    {"reel of 100,000 units by 1", &plain_calls, reel_by_1, REEL_UNITS, run_reel_write},
+    {"reel of 100,000 units by 1: bytes", &plain_calls, reel_by_1, REEL_UNITS, run_reel_write_bytes},
+    {"reel of 100,000 units by 15", &plain_calls, reel_by_15, REEL_UNITS, run_reel_write},
+    {"reel of 100,000 units by 15: bytes", &plain_calls, reel_by_15, REEL_UNITS, run_reel_write_bytes},
+    {"reel of 100,000 units by 291", &plain_calls, reel_by_291, REEL_UNITS, run_reel_write},
+    {"reel of 100,000 units by 291: bytes", &plain_calls, reel_by_291, REEL_UNITS, run_reel_write_bytes},
     {"film: a picture of 1 record", &plain_calls, picture, 1, run_film_picture},
     {"film: a picture of 3 records", &plain_calls, long_picture, 3, run_film_picture},
     {"film: a closing", &plain_calls, waiting_slot, 0, run_film_close},
@@ -349,6 +408,12 @@ static bool agree_on_sample(const row *r, const sample *s)
     }
     if (r->run == run_payload_write) {
         return agree_payload_write(&s->access, CAPTIONS_AREA_BYTES);
+    }
+    if (r->run == run_reel_write) {
+        return agree_reel_write(&s->reel, REEL_BYTES);
+    }
+    if (r->run == run_reel_write_bytes) {
+        return agree_reel_write_bytes(&s->reel, REEL_BYTES);
     }
     if (r->run == run_film_picture) {
         return agree_film_picture(&s->film);

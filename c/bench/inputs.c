@@ -6,19 +6,22 @@
 #include <string.h>
 
 const calls plain_calls = {
-    plain_area_read,   plain_unit_write,   plain_area_replace, plain_ga94_read,     plain_ga94_write,   plain_ga94_replace,
-    plain_packet_read, plain_packet_write, plain_payload_read, plain_payload_write, plain_film_picture, plain_film_close,
+    plain_area_read,    plain_unit_write,       plain_area_replace, plain_ga94_read,    plain_ga94_write,
+    plain_ga94_replace, plain_packet_read,      plain_packet_write, plain_payload_read, plain_payload_write,
+    plain_reel_write,   plain_reel_write_bytes, plain_film_picture, plain_film_close,
 };
 
 const calls memchr_calls = {
-    plain_area_read_memchr, plain_unit_write,   plain_area_replace, plain_ga94_read,     plain_ga94_write,   plain_ga94_replace,
-    plain_packet_read,      plain_packet_write, plain_payload_read, plain_payload_write, plain_film_picture, plain_film_close,
+    plain_area_read_memchr, plain_unit_write,       plain_area_replace, plain_ga94_read,    plain_ga94_write,
+    plain_ga94_replace,     plain_packet_read,      plain_packet_write, plain_payload_read, plain_payload_write,
+    plain_reel_write,       plain_reel_write_bytes, plain_film_picture, plain_film_close,
 };
 
 const calls library_calls = {
     captions_area_read,    captions_unit_write,    captions_area_replace, captions_ga94_read,
     captions_ga94_write,   captions_ga94_replace,  captions_packet_read,  captions_packet_write,
-    captions_payload_read, captions_payload_write, captions_film_picture, captions_film_close,
+    captions_payload_read, captions_payload_write, captions_reel_write,   captions_reel_write_bytes,
+    captions_film_picture, captions_film_close,
 };
 
 uint32_t below(uint32_t n)
@@ -91,16 +94,21 @@ void make_packet(packet_value *v, size_t k)
     }
 }
 
+void make_run(captions_access_unit *units, size_t n)
+{
+    for (size_t i = 0; i < n; i++) {
+        units[i] = (captions_access_unit){
+            (uint8_t)below(2), (uint8_t)below(2), (uint8_t)below(64), byte(), byte(), byte(), byte(),
+        };
+    }
+}
+
 void make_payload(payload_value *v, size_t m)
 {
     memset(v, 0, sizeof *v);
     v->flags = byte();
     v->m = m;
-    for (size_t i = 0; i < m; i++) {
-        v->units[i] = (captions_access_unit){
-            (uint8_t)below(2), (uint8_t)below(2), (uint8_t)below(64), byte(), byte(), byte(), byte(),
-        };
-    }
+    make_run(v->units, m);
 }
 
 void make_picture(film_value *v, uint32_t top_field_first, uint32_t repeat_first_field, size_t n)

@@ -50,6 +50,17 @@ typedef struct payload_input {
     uint8_t bytes[CAPTIONS_PAYLOAD_BYTES + 16];
 } payload_input;
 
+/* A run of access units, as structs and as bytes alike, and how many of them a payload gets. */
+enum { REEL_UNITS = 100000, REEL_BYTES = 6 * REEL_UNITS /* what the longest takes, one unit a payload */ };
+
+typedef struct reel_value {
+    uint32_t flags;
+    size_t size;
+    size_t n;
+    size_t stray; /* bytes behind the last whole unit, where bytes tell the run */
+    const captions_access_unit *units;
+} reel_value;
+
 /* A picture of film: the state before it, how it is shown, and its caption unit's value. */
 typedef struct film_value {
     captions_film state;
@@ -59,7 +70,7 @@ typedef struct film_value {
     unit_value unit;
 } film_value;
 
-/* The twelve calls of one program. */
+/* The fourteen calls of one program. */
 typedef struct calls {
     captions_unit (*area_read)(const uint8_t *, size_t, captions_record *);
     captions_written (*unit_write)(uint32_t, uint32_t, size_t, size_t, const captions_record *, uint8_t *, size_t);
@@ -74,6 +85,8 @@ typedef struct calls {
     captions_written (*packet_write)(uint32_t, const captions_slot *, const captions_row *, uint16_t *, size_t);
     captions_payload (*payload_read)(const uint8_t *, size_t, captions_access_unit *);
     captions_written (*payload_write)(uint32_t, size_t, const captions_access_unit *, uint8_t *, size_t);
+    captions_written (*reel_write)(uint32_t, size_t, const captions_access_unit *, size_t, uint8_t *, size_t);
+    captions_written (*reel_write_bytes)(uint32_t, size_t, const uint8_t *, size_t, uint8_t *, size_t);
     captions_film_sent (*film_picture)(captions_film *, uint32_t, uint32_t, uint32_t, uint32_t, uint32_t, size_t, size_t,
                                        const captions_record *, captions_access_unit *);
     captions_film_sent (*film_close)(captions_film *, captions_access_unit *);
@@ -91,6 +104,9 @@ void make_unit(unit_value *v, size_t n, size_t z);
 void make_ga94(ga94_value *v, size_t n, size_t z);
 void make_packet(packet_value *v, size_t k);
 void make_payload(payload_value *v, size_t m);
+
+/* n legal units. */
+void make_run(captions_access_unit *units, size_t n);
 
 /* A picture with these flags and records of its first n display fields, before which nothing waits. */
 void make_picture(film_value *v, uint32_t top_field_first, uint32_t repeat_first_field, size_t n);

@@ -1,5 +1,5 @@
 /*
- * plain.h: the twelve calls of captions.h in plain C, to measure the library against.
+ * plain.h: the fourteen calls of captions.h in plain C, to measure the library against.
  *
  * Each does the same work as its namesake: the checks of docs/RULES.md in their order, the same refusals and places,
  * the same answers, and no lent memory changed in a refusal.
@@ -52,6 +52,12 @@ captions_payload plain_payload_read(const uint8_t *payload, size_t len,
 captions_written plain_payload_write(uint32_t flags, size_t m,
                                      const captions_access_unit units[static CAPTIONS_ACCESS_UNITS],
                                      uint8_t *out, size_t room);
+
+captions_written plain_reel_write(uint32_t flags, size_t size, const captions_access_unit *units, size_t n,
+                                  uint8_t *out, size_t room);
+
+captions_written plain_reel_write_bytes(uint32_t flags, size_t size, const uint8_t *units, size_t len,
+                                        uint8_t *out, size_t room);
 
 captions_film_sent plain_film_picture(captions_film *film, uint32_t top_field_first, uint32_t repeat_first_field,
                                       uint32_t line_offset, uint32_t reserved, uint32_t vbi_data_flag, size_t n, size_t z,

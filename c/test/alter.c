@@ -284,6 +284,17 @@ static void alter_calls(const char *line, const vector_line *right)
     count(SPOILT, difference(&right->q, &right->expected, &got) == NULL, line); /* here the unspoilt call must pass */
 }
 
+/* A reel has two calls. A line is asked by the one over structs first. */
+static void alter_as_bytes(const char *line, const vector_line *right)
+{
+    static vector_line other;
+
+    memcpy(&other, right, sizeof other);
+    other.q.as_bytes = true;
+    alter_expected(line, &other);
+    alter_calls(line, &other);
+}
+
 void alter_line(const char *line, const vector_line *right)
 {
     if (right->q.op == FILM_RUN) {
@@ -297,6 +308,8 @@ void alter_line(const char *line, const vector_line *right)
     }
     alter_expected(line, right);
     alter_calls(line, right);
+    if (right->q.op == PAYLOAD_REEL && !right->q.as_bytes)
+        alter_as_bytes(line, right);
 }
 
 bool alter_report(void)

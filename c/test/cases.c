@@ -5,6 +5,7 @@
 
 #include "film_cases.h"
 #include "mutate.h"
+#include "reel_cases.h"
 
 enum { MEANT_LEGAL = 35 };
 
@@ -247,6 +248,18 @@ static void payload_write_case(dice *d, question *q, bool legal)
         spoil_payload(d, &q->payload);
 }
 
+static void payload_reel_case(dice *d, question *q, bool legal)
+{
+    legal_reel(d, &q->reel);
+    q->as_bytes = chance(d, 50);
+    q->room = enough_room(d, reel_bytes(&q->reel, reel_payloads(&q->reel)), OUTPUT_MAX);
+    if (legal || chance(d, 15))
+        return;
+    spoil_reel(d, q);
+    if (chance(d, 50))
+        spoil_reel(d, q);
+}
+
 /* ---- All ---- */
 
 static operation some_operation(dice *d)
@@ -255,7 +268,7 @@ static operation some_operation(dice *d)
                                       AREA_REPLACE, UNIT_WRITE,   UNIT_WRITE,   GA94_READ,    GA94_READ,    GA94_READ,
                                       GA94_REPLACE, GA94_REPLACE, GA94_REPLACE, GA94_WRITE,   GA94_WRITE,   PACKET_READ,
                                       PACKET_READ,  PACKET_READ,  PACKET_WRITE, PACKET_WRITE, PAYLOAD_READ, PAYLOAD_WRITE,
-                                      FILM_RUN,     FILM_RUN};
+                                      FILM_RUN,     FILM_RUN,     PAYLOAD_REEL, PAYLOAD_REEL};
 
     return often[below(d, sizeof often / sizeof *often)];
 }
@@ -283,6 +296,8 @@ void make_case(dice *d, question *q)
         payload_read_case(d, q, legal);
     else if (q->op == PAYLOAD_WRITE)
         payload_write_case(d, q, legal);
+    else if (q->op == PAYLOAD_REEL)
+        payload_reel_case(d, q, legal);
     else
         film_case(d, &q->film, legal);
     q->nulls = chance(d, 50);

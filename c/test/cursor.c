@@ -189,7 +189,7 @@ size_t take_ga94_list(cursor *c, captions_ga94_record *to)
     return len;
 }
 
-size_t take_unit_list(cursor *c, captions_access_unit *to)
+size_t take_unit_list(cursor *c, captions_access_unit *to, size_t most)
 {
     size_t len = 0;
 
@@ -198,7 +198,7 @@ size_t take_unit_list(cursor *c, captions_access_unit *to)
     do {
         captions_access_unit unit = take_unit(c);
         for (size_t times = take_times(c); times > 0 && !c->bad; times--, len++)
-            if (len < CAPTIONS_ACCESS_UNITS)
+            if (len < most)
                 to[len] = unit;
     } while (!c->bad && take(c, ','));
     return len;

@@ -22,10 +22,10 @@ uint64_t take_number(cursor *c, uint64_t most);
 size_t take_elements(cursor *c, unsigned digits, uint16_t *to, size_t most);
 size_t take_bytes(cursor *c, uint8_t *to, size_t most);
 
-/* Lists, and how many items they have. Items beyond the places of the array are counted, not kept. */
+/* Lists, and how many items they have. Items beyond the places of the array, of units `most`, are counted, not kept. */
 size_t take_record_list(cursor *c, captions_record *to);
 size_t take_ga94_list(cursor *c, captions_ga94_record *to);
-size_t take_unit_list(cursor *c, captions_access_unit *to);
+size_t take_unit_list(cursor *c, captions_access_unit *to, size_t most);
 
 /* GA94's three flags: digits 0 or 1 in stream order. Larger ones, which no file has, are decimals joined by `.`. */
 void take_flags(cursor *c, ga94_value *to);

@@ -1,5 +1,6 @@
 /*
- * empty.c: null pointers with length 0, for each pointer of each call that has a length. Those of film have none.
+ * empty.c: null pointers with length 0, for each pointer of each call that has a length. Those of film have none. A reel has
+ * two calls, and both are asked.
  *
  * The library is given null where the model is given a pointer to nothing. Both must answer alike, with the number that
  * stands here. Then the same question goes to calls that touch their first element before they look at the length: each
@@ -13,7 +14,7 @@
 typedef struct empty_case {
     const char *what;
     operation op;
-    bool input, output; /* which of them is empty */
+    bool input, output; /* which of them is empty; the input of a reel is its run */
     bool legal;         /* whether the value to write is */
     uint8_t number;     /* the refusal by RULES */
     size_t len;         /* how many elements a writer wrote */
@@ -42,6 +43,12 @@ static const empty_case cases[] = {
     {"payload_read: payload", PAYLOAD_READ, true, false, true, 2, 0},
     {"payload_write: out", PAYLOAD_WRITE, false, true, true, 14, 0},
     {"payload_write: out, a value that is not legal", PAYLOAD_WRITE, false, true, false, 15, 0},
+    {"reel_write and _bytes: units", PAYLOAD_REEL, true, false, true, 0, 0},
+    {"reel_write and _bytes: units, a value that is not legal", PAYLOAD_REEL, true, false, false, 15, 0},
+    {"reel_write and _bytes: out", PAYLOAD_REEL, false, true, true, 14, 0},
+    {"reel_write and _bytes: out, a value that is not legal", PAYLOAD_REEL, false, true, false, 15, 0},
+    {"reel_write and _bytes: units and out", PAYLOAD_REEL, true, true, true, 0, 0},
+    {"reel_write and _bytes: units and out, a value that is not legal", PAYLOAD_REEL, true, true, false, 15, 0},
 };
 
 static question q;
@@ -122,9 +129,28 @@ static captions_written eager_payload_write(uint32_t flags, size_t m, const capt
     return captions_payload_write(flags, m, units, out, room);
 }
 
-static const calls eager_calls = {eager_area_read,    eager_unit_write,   eager_area_replace, eager_ga94_read,
-                                  eager_ga94_write,   eager_ga94_replace, eager_packet_read,  eager_packet_write,
-                                  eager_payload_read, eager_payload_write, captions_film_picture, captions_film_close};
+/* Only one of the two is touched: the run where it is empty, else the output. */
+static captions_written eager_reel_write(uint32_t flags, size_t size, const captions_access_unit *units, size_t n, uint8_t *out,
+                                         size_t room)
+{
+    if (n == 0)
+        touch(units);
+    else
+        touch(out);
+    return captions_reel_write(flags, size, units, n, out, room);
+}
+
+static captions_written eager_reel_write_bytes(uint32_t flags, size_t size, const uint8_t *units, size_t len, uint8_t *out,
+                                               size_t room)
+{
+    touch(len == 0 ? units : out);
+    return captions_reel_write_bytes(flags, size, units, len, out, room);
+}
+
+static const calls eager_calls = {eager_area_read,       eager_unit_write,    eager_area_replace, eager_ga94_read,
+                                  eager_ga94_write,      eager_ga94_replace,  eager_packet_read,  eager_packet_write,
+                                  eager_payload_read,    eager_payload_write, eager_reel_write,   eager_reel_write_bytes,
+                                  captions_film_picture, captions_film_close};
 
 static void ask_eagerly(void *question_asked)
 {
@@ -133,7 +159,8 @@ static void ask_eagerly(void *question_asked)
 
 /* ---- Questions ---- */
 
-static void make_question(const empty_case *c, side at)
+/* `as_bytes`: a reel by the call over bytes. */
+static void make_question(const empty_case *c, side at, bool as_bytes)
 {
     static const uint8_t area[] = {0x00, 0x00, 0x01, 0xB2, 0x47};
 
@@ -159,6 +186,10 @@ static void make_question(const empty_case *c, side at)
     q.payload.flags = c->legal ? 0 : 256;
     q.payload.m = 1;
     q.payload.units[0] = (captions_access_unit){1, 0, 0, 0x94, 0x2C, 0x00, 0x00};
+    q.as_bytes = as_bytes;
+    q.reel.size = c->legal ? CAPTIONS_ACCESS_UNITS : CAPTIONS_ACCESS_UNITS + 1;
+    q.reel.n = c->input ? 0 : 1;
+    q.reel.units[0] = q.payload.units[0];
 }
 
 static void complain(const empty_case *c, const char *what)
@@ -180,11 +211,11 @@ static void alter(const empty_case *c)
     }
 }
 
-static void run(const empty_case *c, side at)
+static void run(const empty_case *c, side at, bool as_bytes)
 {
     const char *differs;
 
-    make_question(c, at);
+    make_question(c, at, as_bytes);
     snprintf(guard_asking, sizeof guard_asking, "%s", c->what);
     ask(&library_calls, &q, SPOIL_NOTHING, &by_library);
     ask(&model_calls, &q, SPOIL_NOTHING, &by_model);
@@ -207,8 +238,11 @@ int main(void)
 
     harness_open();
     for (size_t i = 0; i < sizeof cases / sizeof *cases; i++) {
-        run(&cases[i], AT_END);
-        run(&cases[i], AT_FRONT);
+        bool reel = cases[i].op == PAYLOAD_REEL;
+        for (int as_bytes = 0; as_bytes <= reel; as_bytes++) {
+            run(&cases[i], AT_END, as_bytes == 1);
+            run(&cases[i], AT_FRONT, as_bytes == 1);
+        }
     }
     good = differ == 0 && not_noticed == 0 && arenas_are_whole();
     printf("empty: %lu calls with null pointers, %lu differ; altered or touching too soon, and not noticed: %lu\n", asked, differ,

@@ -114,12 +114,40 @@ static void payloads()
     expect_refused("a payload and no room", made.refusal, CAPTIONS_NO_ROOM);
 }
 
+static void reels()
+{
+    const std::vector<captions_access_unit> none;
+    const std::vector<uint8_t> no_bytes;
+    const std::vector<captions_access_unit> run(2, captions_access_unit{1, 0, 0, 0x94, 0x2C, 0x00, 0x00});
+    std::vector<uint8_t> no_room, out(64, 0xA5);
+
+    captions_written made = captions_reel_write(0, 1, none.data(), none.size(), no_room.data(), no_room.size());
+    expect_refused("a run of no units and no room", made.refusal, CAPTIONS_ACCEPTED);
+    expect("a run of no units is no bytes", made.len == 0);
+    made = captions_reel_write(0, 292, none.data(), none.size(), no_room.data(), no_room.size());
+    expect_refused("a run of no units and a size of 292", made.refusal, CAPTIONS_UNHOLDABLE);
+    made = captions_reel_write(0, 1, run.data(), run.size(), no_room.data(), no_room.size());
+    expect_refused("a run and no room", made.refusal, CAPTIONS_NO_ROOM);
+    made = captions_reel_write_bytes(0, 1, no_bytes.data(), no_bytes.size(), no_room.data(), no_room.size());
+    expect_refused("a run of no bytes and no room", made.refusal, CAPTIONS_ACCEPTED);
+    expect("a run of no bytes is no bytes", made.len == 0);
+    made = captions_reel_write_bytes(0, 0, no_bytes.data(), no_bytes.size(), no_room.data(), no_room.size());
+    expect_refused("a run of no bytes and a size of 0", made.refusal, CAPTIONS_UNHOLDABLE);
+
+    made = captions_reel_write(7, 1, run.data(), run.size(), out.data(), out.size());
+    expect_refused("a run of two units", made.refusal, CAPTIONS_ACCEPTED);
+    const uint8_t right[] = {0x07, 0x80, 0x94, 0x2C, 0x00, 0x00, 0x07, 0x80, 0x94, 0x2C, 0x00, 0x00};
+    expect("the bytes of that run", made.len == sizeof right && std::memcmp(out.data(), right, sizeof right) == 0);
+    expect("what stands behind that run", out[made.len] == 0xA5);
+}
+
 int main()
 {
     areas();
     ga94();
     packets();
     payloads();
+    reels();
     std::printf("empty_vector: %d checks, %d differ; an empty vector gave %s\n", checks, wrong,
                 std::vector<uint8_t>().data() == nullptr ? "null" : "a pointer that is not null");
     std::puts(wrong == 0 ? "empty_vector: passed" : "empty_vector: FAILED");

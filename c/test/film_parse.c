@@ -92,8 +92,8 @@ void take_film_calls(cursor *c, film_run *to)
 /* `ok:UNITS`: zeros stand behind the last unit. */
 static void take_sent(cursor *c, uint8_t *output, uint64_t *numbers)
 {
-    captions_access_unit units[CAPTIONS_ACCESS_UNITS];
-    size_t m = take_unit_list(c, units);
+    captions_access_unit units[CAPTIONS_FILM_UNITS];
+    size_t m = take_unit_list(c, units, CAPTIONS_FILM_UNITS);
 
     if (m > CAPTIONS_FILM_UNITS || c->bad) {
         c->bad = true;

@@ -328,14 +328,19 @@ static size_t some_m(dice *d)
     }
 }
 
+captions_access_unit legal_access_unit(dice *d)
+{
+    uint64_t bits = roll(d);
+
+    return (captions_access_unit){bits & 1, bits >> 1 & 1, bits >> 2 & 63, bits >> 8 & 255, bits >> 16 & 255, bits >> 24 & 255,
+                                  bits >> 32 & 255};
+}
+
 void legal_payload(dice *d, payload_value *to)
 {
     to->flags = any_byte(d);
     to->m = some_m(d);
     memset(to->units, 0xFF, sizeof to->units); /* what no unit may hold, behind the m units */
-    for (size_t i = 0; i < to->m; i++) {
-        uint64_t bits = roll(d);
-        to->units[i] = (captions_access_unit){bits & 1, bits >> 1 & 1, bits >> 2 & 63, bits >> 8 & 255, bits >> 16 & 255,
-                                              bits >> 24 & 255, bits >> 32 & 255};
-    }
+    for (size_t i = 0; i < to->m; i++)
+        to->units[i] = legal_access_unit(d);
 }

@@ -19,6 +19,7 @@ void legal_unit(dice *d, unit_value *to);
 void legal_ga94(dice *d, ga94_value *to);
 void legal_packet(dice *d, packet_value *to);
 void legal_payload(dice *d, payload_value *to);
+captions_access_unit legal_access_unit(dice *d);
 
 /* Which units of an area are ours. Those of the other kind are foreign, wrong ones and second ones too. */
 typedef enum unit_kind { SCTE20_KIND, GA94_KIND } unit_kind;

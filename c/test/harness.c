@@ -6,16 +6,18 @@
 #include "film_runs.h"
 #include "model.h"
 
-const calls library_calls = {captions_area_read,    captions_unit_write,   captions_area_replace, captions_ga94_read,
-                             captions_ga94_write,   captions_ga94_replace, captions_packet_read,  captions_packet_write,
-                             captions_payload_read, captions_payload_write, captions_film_picture, captions_film_close};
-const calls model_calls = {model_area_read,    model_unit_write,   model_area_replace, model_ga94_read,
-                           model_ga94_write,   model_ga94_replace, model_packet_read,  model_packet_write,
-                           model_payload_read, model_payload_write, model_film_picture, model_film_close};
+const calls library_calls = {captions_area_read,    captions_unit_write,    captions_area_replace, captions_ga94_read,
+                             captions_ga94_write,   captions_ga94_replace,  captions_packet_read,  captions_packet_write,
+                             captions_payload_read, captions_payload_write, captions_reel_write,   captions_reel_write_bytes,
+                             captions_film_picture, captions_film_close};
+const calls model_calls = {model_area_read,    model_unit_write,    model_area_replace, model_ga94_read,
+                           model_ga94_write,   model_ga94_replace,  model_packet_read,  model_packet_write,
+                           model_payload_read, model_payload_write, model_reel_write,   model_reel_write_bytes,
+                           model_film_picture, model_film_close};
 
 const char *const operation_names[OPERATIONS] = {"area read",    "unit write",    "area replace", "ga94 read",
                                                  "ga94 write",   "ga94 replace",  "packet read",  "packet write",
-                                                 "payload read", "payload write", "film run"};
+                                                 "payload read", "payload write", "payload reel", "film run"};
 
 /* What one call is lent: an input, a second one (records, units, or slots with rows apart), and one output. */
 static arena first_arena, second_arena, rows_arena, output_arena;
@@ -29,7 +31,7 @@ typedef struct loan {
 void harness_open(void)
 {
     arena_open(&first_arena, INPUT_MAX);
-    arena_open(&second_arena, sizeof(payload_value));
+    arena_open(&second_arena, sizeof(reel_value));
     arena_open(&rows_arena, CAPTIONS_SLOTS * sizeof(captions_row));
     arena_open(&output_arena, OUTPUT_MAX);
     film_open();
@@ -38,7 +40,7 @@ void harness_open(void)
 
 bool is_writer(operation op)
 {
-    return takes_unit(op) || takes_ga94(op) || op == PACKET_WRITE || op == PAYLOAD_WRITE;
+    return takes_unit(op) || takes_ga94(op) || op == PACKET_WRITE || op == PAYLOAD_WRITE || op == PAYLOAD_REEL;
 }
 
 bool takes_input(operation op)
@@ -120,6 +122,9 @@ static void choose_inputs(const question *q, loan *l)
     } else if (q->op == PAYLOAD_WRITE) {
         l->second = q->payload.units;
         l->second_size = sizeof q->payload.units;
+    } else if (q->op == PAYLOAD_REEL) {
+        l->second = q->reel.units;
+        l->second_size = q->reel.n * sizeof *q->reel.units + q->reel.stray;
     }
 }
 
@@ -226,8 +231,10 @@ static void call(const calls *who, const question *q, const loan *l, outcome *go
 {
     const unit_value *u = &q->unit;
     const ga94_value *g = &q->ga94;
+    const reel_value *r = &q->reel;
     void *output = given(who, q, l->output_lent, l->output_size);
-    const void *first = given(who, q, l->first_lent, l->first_size), *second = l->second_lent, *rows = l->rows_lent;
+    const void *first = given(who, q, l->first_lent, l->first_size), *second = given(who, q, l->second_lent, l->second_size);
+    const void *rows = l->rows_lent;
 
     switch (q->op) {
     case AREA_READ:
@@ -261,6 +268,12 @@ static void call(const calls *who, const question *q, const loan *l, outcome *go
         break;
     case PAYLOAD_WRITE:
         set_written(got, who->payload_write(q->payload.flags, q->payload.m, second, output, q->room));
+        break;
+    case PAYLOAD_REEL:
+        if (q->as_bytes)
+            set_written(got, who->reel_write_bytes(r->flags, r->size, second, l->second_size, output, q->room));
+        else
+            set_written(got, who->reel_write(r->flags, r->size, second, r->n, output, q->room));
         break;
     case FILM_RUN: /* see film_ask */
     case OPERATIONS:
@@ -302,7 +315,7 @@ static bool do_spoil(spoil spoiling, const question *q, const loan *l, const out
 
 static size_t number_count(operation op)
 {
-    static const size_t counts[OPERATIONS] = {7, 3, 3, 9, 3, 3, 23, 3, 4, 3, 0};
+    static const size_t counts[OPERATIONS] = {7, 3, 3, 9, 3, 3, 23, 3, 4, 3, 3, 0};
 
     return counts[op];
 }

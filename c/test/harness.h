@@ -21,13 +21,14 @@ typedef enum operation {
     PACKET_WRITE,
     PAYLOAD_READ,
     PAYLOAD_WRITE,
+    PAYLOAD_REEL,
     FILM_RUN,
     OPERATIONS
 } operation;
 
 enum {
     INPUT_MAX = 70000,  /* bytes of the longest input */
-    OUTPUT_MAX = 40000, /* bytes of the longest lent output */
+    OUTPUT_MAX = 90000, /* bytes of the longest lent output */
     WORDS_MAX = 1000,   /* words of the longest packet input or output */
     FILM_NUMBERS = 3,   /* numbers of one answer of film: number, place, m */
     FILM_BYTES = CAPTIONS_FILM_UNITS * sizeof(captions_access_unit), /* bytes of the output of one call of film */
@@ -48,6 +49,8 @@ typedef struct question {
     ga94_value ga94;
     packet_value packet;
     payload_value payload;
+    reel_value reel;
+    bool as_bytes; /* by which call a reel is written: over bytes, or over structs */
     film_run film;
     size_t room; /* elements of a writer's output */
 } question;
@@ -62,7 +65,7 @@ typedef struct outcome {
     const char *damage;                   /* what became of memory that was not to be stored to; null where nothing did */
 } outcome;
 
-/* The twelve calls of the library or of the model. */
+/* The fourteen calls of the library or of the model. */
 typedef struct calls {
     captions_unit (*area_read)(const uint8_t *, size_t, captions_record *);
     captions_written (*unit_write)(uint32_t, uint32_t, size_t, size_t, const captions_record *, uint8_t *, size_t);
@@ -77,6 +80,8 @@ typedef struct calls {
     captions_written (*packet_write)(uint32_t, const captions_slot *, const captions_row *, uint16_t *, size_t);
     captions_payload (*payload_read)(const uint8_t *, size_t, captions_access_unit *);
     captions_written (*payload_write)(uint32_t, size_t, const captions_access_unit *, uint8_t *, size_t);
+    captions_written (*reel_write)(uint32_t, size_t, const captions_access_unit *, size_t, uint8_t *, size_t);
+    captions_written (*reel_write_bytes)(uint32_t, size_t, const uint8_t *, size_t, uint8_t *, size_t);
     captions_film_sent (*film_picture)(captions_film *, uint32_t, uint32_t, uint32_t, uint32_t, uint32_t, size_t, size_t,
                                        const captions_record *, captions_access_unit *);
     captions_film_sent (*film_close)(captions_film *, captions_access_unit *);

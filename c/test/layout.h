@@ -9,7 +9,10 @@
 
 #include "captions.h"
 
-/* The values of RULES: what a unit of either kind, a packet and a payload are written from, and what a run of film is given. */
+/*
+ * The values of RULES: what a unit of either kind, a packet, a payload and a reel of them are written from, and what a run of
+ * film is given.
+ */
 typedef struct unit_value {
     uint32_t reserved;
     uint32_t vbi_data_flag;
@@ -39,6 +42,17 @@ typedef struct payload_value {
     size_t m;
     captions_access_unit units[CAPTIONS_ACCESS_UNITS];
 } payload_value;
+
+/* A run of access units, and how many of them a payload gets. A run that is told by bytes can end within a unit. */
+enum { REEL_UNITS_MAX = 14000 }; /* as payloads they take more bytes than 16 bits count */
+
+typedef struct reel_value {
+    uint32_t flags;
+    size_t size;
+    size_t n;
+    size_t stray; /* how many bytes stand behind the last whole unit: 0 to 6 */
+    captions_access_unit units[REEL_UNITS_MAX + 1]; /* the one behind the run has the stray bytes */
+} reel_value;
 
 /*
  * A run of film: calls to one state, which is all zero at first. A caller may also put bytes of its own into the state before a

@@ -1,5 +1,5 @@
 /*
- * model.h: the twelve calls of captions.h once more, written from documents 01, 02 and 003, the sources of docs/RULES.md.
+ * model.h: the fourteen calls of captions.h once more, written from documents 01, 02 and 003, the sources of docs/RULES.md.
  *
  * The model shares nothing with the library but the types of captions.h. It is meant to be read beside RULES: one check
  * after the other, in the order of checks, bit by bit, and slow.
@@ -38,6 +38,15 @@ captions_written model_packet_write(uint32_t counter, const captions_slot *slots
 captions_payload model_payload_read(const uint8_t *payload, size_t len, captions_access_unit *units);
 
 captions_written model_payload_write(uint32_t flags, size_t m, const captions_access_unit *units, uint8_t *out, size_t room);
+
+/* What writing refuses a payload for: 15 or 14, and 0 where it can be written. */
+uint8_t model_judge_payload(uint32_t flags, size_t m, const captions_access_unit *units, size_t room);
+
+captions_written model_reel_write(uint32_t flags, size_t size, const captions_access_unit *units, size_t n, uint8_t *out,
+                                  size_t room);
+
+captions_written model_reel_write_bytes(uint32_t flags, size_t size, const uint8_t *units, size_t len, uint8_t *out,
+                                        size_t room);
 
 captions_film_sent model_film_picture(captions_film *film, uint32_t top_field_first, uint32_t repeat_first_field,
                                       uint32_t line_offset, uint32_t reserved, uint32_t vbi_data_flag, size_t n, size_t z,

@@ -260,17 +260,23 @@ captions_payload model_payload_read(const uint8_t *payload, size_t len, captions
     return answer;
 }
 
+uint8_t model_judge_payload(uint32_t flags, size_t m, const captions_access_unit *units, size_t room)
+{
+    if (flags > 255 || m > CAPTIONS_ACCESS_UNITS)
+        return 15;
+    for (size_t i = 0; i < m; i++)
+        if (units[i].cc_valid_1 > 1 || units[i].cc_valid_2 > 1 || units[i].padding > 63)
+            return 15;
+    return 1 + 5 * m > room ? 14 : 0;
+}
+
 captions_written model_payload_write(uint32_t flags, size_t m, const captions_access_unit *units, uint8_t *out, size_t room)
 {
     payload_value value = {.flags = flags, .m = m};
+    uint8_t number = model_judge_payload(flags, m, units, room);
 
-    if (flags > 255 || m > CAPTIONS_ACCESS_UNITS)
-        return refused(15);
-    for (size_t i = 0; i < m; i++)
-        if (units[i].cc_valid_1 > 1 || units[i].cc_valid_2 > 1 || units[i].padding > 63)
-            return refused(15);
-    if (1 + 5 * m > room)
-        return refused(14);
+    if (number != 0)
+        return refused(number);
     memcpy(value.units, units, m * sizeof *units);
     return (captions_written){.len = layout_payload(&value, out)};
 }

@@ -24,5 +24,6 @@ void spoil_unit(dice *d, unit_value *value);
 void spoil_ga94(dice *d, ga94_value *value);
 void spoil_packet(dice *d, packet_value *value);
 void spoil_payload(dice *d, payload_value *value);
+void spoil_access_unit(dice *d, captions_access_unit *unit);
 
 #endif

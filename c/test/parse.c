@@ -68,7 +68,29 @@ static void payload_fields(cursor *c, listing how, payload_value *to)
     to->flags = (uint32_t)number_field(c, "flags", UINT32_MAX);
     to->m = number_field(c, "m", SIZE_MAX);
     field(c, "units");
-    need_items(c, how, to->m, CAPTIONS_ACCESS_UNITS, take_unit_list(c, to->units));
+    need_items(c, how, to->m, CAPTIONS_ACCESS_UNITS, take_unit_list(c, to->units, CAPTIONS_ACCESS_UNITS));
+}
+
+/* ` stray=` with 1 to 6 bytes, which no file has: a run that is told by bytes and ends within a unit. */
+static void stray_field(cursor *c, reel_value *to)
+{
+    to->stray = 0;
+    if (strncmp(c->at, " stray=", 7) != 0)
+        return;
+    field(c, "stray");
+    to->stray = take_bytes(c, (uint8_t *)&to->units[to->n], sizeof *to->units - 1);
+}
+
+static void reel_fields(cursor *c, reel_value *to)
+{
+    to->flags = (uint32_t)number_field(c, "flags", UINT32_MAX);
+    to->size = number_field(c, "size", SIZE_MAX);
+    field(c, "units");
+    to->n = take_unit_list(c, to->units, REEL_UNITS_MAX);
+    if (to->n > REEL_UNITS_MAX)
+        c->bad = true;
+    else
+        stray_field(c, to);
 }
 
 static void input_field(cursor *c, question *q)
@@ -92,12 +114,16 @@ static void question_fields(cursor *c, question *q)
         packet_fields(c, &q->packet);
     if (q->op == PAYLOAD_WRITE)
         payload_fields(c, MORE_ALLOWED, &q->payload);
+    if (q->op == PAYLOAD_REEL) {
+        reel_fields(c, &q->reel);
+        q->as_bytes = q->reel.stray > 0;
+    }
     if (q->op == FILM_RUN) {
         field(c, "calls");
         take_film_calls(c, &q->film);
     }
     if (is_writer(q->op))
-        q->room = number_field(c, "room", OUTPUT_MAX / 2);
+        q->room = number_field(c, "room", OUTPUT_MAX / element_bytes(q->op));
     if (*c->at != '\0')
         c->bad = true;
 }
@@ -280,12 +306,12 @@ static parsed skipped(vector_line *to, const char *why)
 }
 
 /*
- * ` STATE ` behind the operation: `1-5`, the rules with requests 1 to 5. By others the same input may have another answer.
+ * ` STATE ` behind the operation: `1-6`, the rules with requests 1 to 6. By others the same input may have another answer.
  * Gives the TAG, or null.
  */
 static const char *behind_state(const char *at)
 {
-    static const char state[] = " 1-5 ";
+    static const char state[] = " 1-6 ";
 
     return strncmp(at, state, strlen(state)) == 0 ? at + strlen(state) : NULL;
 }

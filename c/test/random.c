@@ -4,9 +4,9 @@
  *     random [COUNT [SEED [FIRST]]]
  *
  * The status is 1 where an answer or a round trip differs, fewer than a third of an operation's cases are accepted, a refusal
- * that an operation has arose at too few places, or data groups or something of film were met too seldom. Case i depends on
- * SEED and i alone: `random 1 SEED i` asks it again and shows it, and demands of it only that nothing differs. A case of film
- * is a run; in the tables its calls are counted.
+ * that an operation has arose at too few places, or data groups, or something of reels or of film, were met too seldom. Case i
+ * depends on SEED and i alone: `random 1 SEED i` asks it again and shows it, and demands of it only that nothing differs. A
+ * case of film is a run; in the tables its calls are counted.
  */
 #include <stdio.h>
 #include <stdlib.h>
@@ -15,6 +15,7 @@
 #include "cases.h"
 #include "film_notes.h"
 #include "groups.h"
+#include "reel_notes.h"
 #include "show.h"
 #include "trips.h"
 
@@ -22,9 +23,10 @@ enum { REFUSALS = REFUSAL_MAX + 1, SHOWN_MAX = 5, SWEEP = 65536, PLACES = 2048 }
 
 /*
  * What replacing refuses for the area's sake has a row of its own, since 1, 7, 8, 9 and 16 can come from the value too. Film's
- * pictures are in the row of runs, its closings in one of their own.
+ * pictures are in the row of runs, its closings in one of their own. A reel over structs is in the row of reels, one over bytes
+ * in its own.
  */
-enum { ROW_REPLACE_AREA = OPERATIONS, ROW_GA94_REPLACE_AREA, ROW_FILM_CLOSE, ROWS };
+enum { ROW_REPLACE_AREA = OPERATIONS, ROW_GA94_REPLACE_AREA, ROW_REEL_BYTES, ROW_FILM_CLOSE, ROWS };
 
 typedef struct row {
     unsigned long cases, numbers[REFUSALS], differs, trips, trips_differ;
@@ -61,6 +63,8 @@ static row *row_of(void)
         return &rows[ROW_REPLACE_AREA];
     if (q.op == GA94_REPLACE && model_calls.ga94_read(q.bytes, q.len, ga94_records).refusal.number != 0)
         return &rows[ROW_GA94_REPLACE_AREA];
+    if (q.op == PAYLOAD_REEL && q.as_bytes)
+        return &rows[ROW_REEL_BYTES];
     return &rows[q.op];
 }
 
@@ -103,6 +107,8 @@ static void note_case(row *r)
     if (q.op != FILM_RUN) {
         note_answer(r, by_model.numbers);
         note_groups(&q, &by_model, r == &rows[ROW_REPLACE_AREA]);
+        if (q.op == PAYLOAD_REEL)
+            note_reel(&q, &by_model);
         return;
     }
     for (size_t i = 0; i < q.film.count; i++)
@@ -122,7 +128,7 @@ static void run_case(void)
     if (differs != NULL) {
         r->differs++;
         show_case(differs);
-    } else if (by_library.numbers[0] == 0 || q.op == FILM_RUN) {
+    } else if (by_library.numbers[0] == 0 || q.op == PAYLOAD_REEL || q.op == FILM_RUN) {
         differs = round_trip(&q, &by_library, &r->trips);
         if (differs != NULL) {
             r->trips_differ++;
@@ -137,6 +143,8 @@ static const char *row_name(int i)
 {
     if (i == ROW_FILM_CLOSE)
         return "  closings";
+    if (i == ROW_REEL_BYTES)
+        return "  as bytes";
     return i >= OPERATIONS ? "  area refused" : operation_names[i];
 }
 
@@ -158,6 +166,8 @@ static const uint8_t places_wanted[ROWS][REFUSALS] = {
     [PACKET_WRITE] = {[7] = 1, [14] = 1, [15] = 1},
     [PAYLOAD_READ] = {[1] = 4, [2] = 1, [13] = 50},
     [PAYLOAD_WRITE] = {[14] = 1, [15] = 1},
+    [PAYLOAD_REEL] = {[14] = 1, [15] = 1},
+    [ROW_REEL_BYTES] = {[14] = 1, [15] = 1},
     [FILM_RUN] = {[7] = 1, [8] = 1, [9] = 1, [15] = 1, [21] = 1, [22] = 1},
     [ROW_FILM_CLOSE] = {[15] = 1},
 };
@@ -205,7 +215,7 @@ static bool enough_accepted(int i)
         cases += rows[ROW_REPLACE_AREA].cases;
     if (i == GA94_REPLACE)
         cases += rows[ROW_GA94_REPLACE_AREA].cases;
-    if ((i < OPERATIONS || i == ROW_FILM_CLOSE) && (accepted == 0 || accepted < cases / 3)) {
+    if ((i < OPERATIONS || i == ROW_REEL_BYTES || i == ROW_FILM_CLOSE) && (accepted == 0 || accepted < cases / 3)) {
         printf("%s: %lu of %lu cases accepted are fewer than a third\n", row_name(i), accepted, cases);
         return false;
     }
@@ -214,9 +224,10 @@ static bool enough_accepted(int i)
 
 /* ---- The tables ---- */
 
-static const int order[ROWS] = {AREA_READ,    UNIT_WRITE,   AREA_REPLACE,          ROW_REPLACE_AREA, GA94_READ,
-                                GA94_WRITE,   GA94_REPLACE, ROW_GA94_REPLACE_AREA, PACKET_READ,      PACKET_WRITE,
-                                PAYLOAD_READ, PAYLOAD_WRITE, FILM_RUN,              ROW_FILM_CLOSE};
+static const int order[ROWS] = {AREA_READ,    UNIT_WRITE,    AREA_REPLACE,          ROW_REPLACE_AREA, GA94_READ,
+                                GA94_WRITE,   GA94_REPLACE,  ROW_GA94_REPLACE_AREA, PACKET_READ,      PACKET_WRITE,
+                                PAYLOAD_READ, PAYLOAD_WRITE, PAYLOAD_REEL,          ROW_REEL_BYTES,   FILM_RUN,
+                                ROW_FILM_CLOSE};
 
 static void print_heads(void)
 {
@@ -267,8 +278,10 @@ static bool report(bool whole)
     print_numbers();
     print_places();
     print_groups();
+    print_reels();
     print_film();
     good = !whole || enough_groups();
+    good = (!whole || enough_reels()) && good;
     good = (!whole || enough_film()) && good;
     for (int i = 0; i < ROWS; i++) {
         if (whole) {

@@ -64,13 +64,30 @@ static void show_packet(const packet_value *p)
     }
 }
 
+static void show_access_units(const captions_access_unit *units, size_t count)
+{
+    if (count == 0)
+        putchar('-');
+    for (size_t i = 0; i < count; i++) {
+        const captions_access_unit *u = &units[i];
+        printf("%s%u.%u.%u.%02X%02X%02X%02X", i > 0 ? "," : "", u->cc_valid_1, u->cc_valid_2, u->padding, u->field1_data1,
+               u->field1_data2, u->field2_data1, u->field2_data2);
+    }
+}
+
 static void show_payload(const payload_value *p)
 {
     printf(" flags=%u m=%zu units=", p->flags, p->m);
-    for (size_t i = 0; i < CAPTIONS_ACCESS_UNITS; i++) {
-        const captions_access_unit *u = &p->units[i];
-        printf("%s%u.%u.%u.%02X%02X%02X%02X", i > 0 ? "," : "", u->cc_valid_1, u->cc_valid_2, u->padding, u->field1_data1,
-               u->field1_data2, u->field2_data1, u->field2_data2);
+    show_access_units(p->units, CAPTIONS_ACCESS_UNITS);
+}
+
+static void show_reel(const reel_value *r)
+{
+    printf(" flags=%u size=%zu units=", r->flags, r->size);
+    show_access_units(r->units, r->n);
+    if (r->stray > 0) {
+        printf(" stray=");
+        show_bytes((const uint8_t *)&r->units[r->n], r->stray);
     }
 }
 
@@ -97,7 +114,7 @@ static void show_film(const film_run *run)
 
 void show_question(const question *q, const char *tag)
 {
-    printf("%s 1-5 %s", operation_names[q->op], tag);
+    printf("%s 1-6 %s%s", operation_names[q->op], tag, q->op == PAYLOAD_REEL && q->as_bytes ? "-as-bytes" : "");
     if (takes_input(q->op)) {
         printf(" in=");
         if (q->op == PACKET_READ)
@@ -113,6 +130,8 @@ void show_question(const question *q, const char *tag)
         show_packet(&q->packet);
     if (q->op == PAYLOAD_WRITE)
         show_payload(&q->payload);
+    if (q->op == PAYLOAD_REEL)
+        show_reel(&q->reel);
     if (q->op == FILM_RUN)
         show_film(&q->film);
     if (is_writer(q->op))

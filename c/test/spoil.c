@@ -226,7 +226,7 @@ void spoil_packet(dice *d, packet_value *value)
 
 /* ---- Payloads ---- */
 
-static void spoil_access_unit(dice *d, captions_access_unit *unit)
+void spoil_access_unit(dice *d, captions_access_unit *unit)
 {
     switch (below(d, 3)) {
     case 0:

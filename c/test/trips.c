@@ -5,6 +5,7 @@
 
 #include "film_trips.h"
 #include "model_area.h"
+#include "reel_trips.h"
 
 static question back;
 static outcome expected, answer;
@@ -312,7 +313,7 @@ const char *round_trip(const question *q, const outcome *got, unsigned long *mad
 {
     static const char *(*const trips[OPERATIONS])(const question *, const outcome *, unsigned long *) = {
         after_area_read,   after_unit,         after_replace,      after_area_read,     after_unit, after_replace,
-        after_packet_read, after_packet_write, after_payload_read, after_payload_write, film_trip};
+        after_packet_read, after_packet_write, after_payload_read, after_payload_write, reel_trip,  film_trip};
 
     return trips[q->op](q, got, made);
 }
