@@ -6,6 +6,7 @@ mod atsc;
 mod frames;
 mod packet;
 mod payload;
+mod reels;
 
 pub use area::captions_area_read;
 pub use area::captions_area_replace;
@@ -19,6 +20,7 @@ pub use packet::captions_packet_read;
 pub use packet::captions_packet_write;
 pub use payload::captions_payload_read;
 pub use payload::captions_payload_write;
+pub use reels::captions_reel_write_bytes;
 use refusal::Refusal;
 
 // What `captions_area_read` answers, in the layout of `captions_unit` in the header.
