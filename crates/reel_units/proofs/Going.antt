@@ -7,8 +7,8 @@ use native.Mathlib.Numerals.{add-one}
 use mathlib.Core.Path.{_≡_, _∙_, ap, ap₂, sym, refl, subst}
 use mathlib.Core.Bool.{Bool, true, false, true≢false}
 use mathlib.Core.List.{List, [], _∷_, _++_, append-assoc, append-nil}
-use borrow.Author.Tests.{le-ltb, eqb-false}
-use lib.Dec.{eqb, ltb}
+use borrow.Author.Tests.{le-ltb}
+use lib.Dec.{ltb}
 use lib.ListN.{length, drop, getD, length-append, drop-of-length-le}
 use lib.Seq.{drop-cons}
 use Rattle.lists.specs.Each.{Each}
@@ -19,35 +19,23 @@ use Rattle.refusal.specs.declared.Verdict.{Verdict}
 use Rattle.refusal.specs.declared.Verdict.the-variants.{Accepted, Refused}
 use Rattle.refusal.specs.declared.Reason.{Reason}
 use Rattle.refusal.specs.declared.Reason.the-variants.{NoRoom, Unholdable}
-use Rattle.refusal.specs.declared.Excess.the-variants.{FlagsByte, PayloadSize}
+use Rattle.refusal.specs.declared.Excess.the-variants.{FlagsByte}
 use Rattle.refusal.specs.declared.Item.{Item}
 use Rattle.refusal.specs.declared.Item.the-variants.{Whole}
 use Rattle.refusal.specs.declared.Refusal.{Refusal}
 use Rattle.refusal.specs.Checks.{refuseIf, andThen}
 use Rattle.refusal.specs.Numbers.{refusalOf}
 use Rattle.refusal.specs.Answers.{Wrote, countedOf, leftOf}
-use Rattle.refusal.proofs.Checks.{accepted-andThen, accepted-within, accepted-refuseIf}
+use Rattle.refusal.proofs.Checks.{accepted-andThen}
 use Rattle.line21.specs.declared.AccessUnit.{AccessUnit}
 use Rattle.line21.specs.Value.{blank}
 use Rattle.line21.specs.Writing.{unitVerdict}
 use Rattle.reel.specs.Writing.{reel, reelLayout, reelVerdict, sizeVerdict}
+use Rattle.reel.proofs.Judging.{accepted-size}
 use Rattle.reel.proofs.UnitByUnit.{layFrom, judgeFrom, roomVerdict, layout-unit-by-unit, verdict-unit-by-unit, accepted-passed}
 use Rattle.reel_units.specs.declared.State.{State}
 use Rattle.reel_units.specs.Inside.{stoppedAt, begunAs, beginVerdict, begun, onward, endedAs, judgedTo, judgedAs, besideVerdict, judgedBy, piece, storedBy, turnedAs, turned, leftAs, leftBy, Steady, Storable, Ready, toldBy, answerOf, restAfter}
 use Rattle.reel_units.proofs.Steps.{lay-next, length-piece, few-bytes, judge-next}
-
--- a payload has 1 to 291 units
-pub accepted-size : (size : ℕ) → sizeVerdict size ≡ Accepted → (1 ≤ size) × (size ≤ 291)
-unfolding sizeVerdict
-accepted-size size e =
-    let one = accepted-andThen (refuseIf (eqb size 0) (Unholdable PayloadSize) Whole) _ e in
-    let two = accepted-andThen (refuseIf (ltb 291 size) (Unholdable PayloadSize) Whole) _ (one .1) in
-    let some = eqb-false size 0 (accepted-refuseIf (eqb size 0) _ _ (one .0)) in
-    (positive size some, accepted-within 291 size _ _ (two .0))
-  where
-    positive : (n : ℕ) → (n ≡ 0 → ⊥) → 1 ≤ n
-    positive zero h = absurd (h refl)
-    positive (suc n) h = omega arith
 
 -- how many turns are left: those of judging are followed by as many as there are units
 abbrev waiting : Bool → ℕ → ℕ

@@ -2,7 +2,6 @@
 //
 // Normative references: docs/RULES.md, "Reel" and "Order of checks"; document 004, 3.2.1, Tables 1 and 2.
 ghost use mathlib.Core.Path.{_≡_};
-ghost use mathlib.Core.Bool.{true};
 ghost use Prim.Native.Nat.{_+_, _≤_};
 ghost use lib.ListN.{length};
 ghost use Rattle.lists.specs.Room.{overAt};
