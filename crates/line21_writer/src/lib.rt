@@ -13,13 +13,13 @@ ghost use Rattle.line21.specs.Value.{held};
 ghost use Rattle.line21.specs.Layout.{layout, layoutAccessUnit};
 ghost use Rattle.line21.specs.Writing.{unitVerdict, valueVerdict, Writes};
 ghost use Rattle.line21.specs.Lent.{payloadIn};
-pub use plain::write_plain;
-pub use plain::write_reel_plain;
-pub use reels::write_reel;
 use line21::AccessUnit;
 use line21::LENT_UNITS;
 use line21::Payload;
 use line21::UNIT_BYTES;
+pub use plain::write_plain;
+pub use plain::write_reel_plain;
+pub use reels::write_reel;
 use refusal::Written;
 
 // Writes a payload at the front of out.

@@ -39,12 +39,7 @@ struct State {
 
 // Writes the run at the front of out, size units to a payload. A number that the flags byte cannot hold is refused, not
 // cut.
-pub fn write_units(
-    flags: u32,
-    size: usize,
-    units: &[AccessUnit],
-    out: &mut [u8],
-) -> Written
+pub fn write_units(flags: u32, size: usize, units: &[AccessUnit], out: &mut [u8]) -> Written
     ensures { λ r. ⌜ ReelWrites flags size (now (units .entry)) (now (out .entry)) r (now (out .exit)) ⌝ }
 {
     let mut s = begin(flags, size, units.len());

@@ -167,8 +167,8 @@ returns c =
     let all : at .loop .k ≡ start at .args .m = omega arith in (
       sym (length-layout-held (p (start at)) (places (now (start at .args .units))) (writable (start at) .few)),
       at .loop .inv .1
-    ∙ ap (λ (k : ℕ). over (front flags (now (start at .args .units)) k) (set out 0 flags)) all
-    ∙ ap (λ (rest : List ℕ). laid ++ rest) (drop-set-lt (length laid) out 0 flags (omega arith)),
+          ∙ ap (λ (k : ℕ). over (front flags (now (start at .args .units)) k) (set out 0 flags)) all
+          ∙ ap (λ (rest : List ℕ). laid ++ rest) (drop-set-lt (length laid) out 0 flags (omega arith)),
     )
 
 pub write-judged-spec : {M : Type 1} → statement M
