@@ -4,10 +4,11 @@
 -- `captions_unit_write` (`Writes`), `captions_area_replace` (`Replaces`) and, for GA94, `captions_ga94_read`
 -- (`Ga94Reads`), `captions_ga94_write` and `captions_ga94_replace`; those of `subtitling` for `captions_packet_read`
 -- and `captions_packet_write`; those of `line21` for `captions_payload_read` and, by `as-written`, for
--- `captions_payload_write`; those of `film_lent` for `captions_film_picture` (`PictureInto`) and `captions_film_close`
--- (`CloseInto`). Here stands what the boundary adds and, for the calls of the carriages, of plain numbers and lent
--- bytes: when each succeeds, both round trips, and that two answers are equal. When a value fits is said in
--- specs/Arguments.
+-- `captions_payload_write`; those of `reel`, by `as-run`, for `captions_reel_write_bytes`, and for `captions_reel_write`
+-- (`ReelWrites` of `reel_units`, whose page has what the boundary adds to it); those of `film_lent` for
+-- `captions_film_picture` (`PictureInto`) and `captions_film_close` (`CloseInto`). Here stands what the boundary adds
+-- and, for the calls of the carriages, of plain numbers and lent bytes: when each succeeds, both round trips, and that
+-- two answers are equal. When a value fits is said in specs/Arguments.
 -- How to read it: docs/NOTATION.md.
 -- Assumes nothing.
 use Prim.Native.Nat.{ℕ, _*_, _≤_, _<_}
@@ -51,13 +52,15 @@ use Rattle.film_lent.specs.Lent.{PictureInto, CloseInto}
 use Rattle.captions.specs.declared.UnitHead.{UnitHead}
 use Rattle.captions.specs.declared.Ga94Head.{Ga94Head}
 use Rattle.captions.specs.Calls.{AreaReads, numbersIn, ga94HeadIn, Ga94Reads, packetIn}
-use Rattle.line21_writer.specs.Calls.{PayloadWrites}
-use Rattle.captions.specs.Arguments.{plain, passed, ga94Passed, Fits, FitsIn, slotBytes, FitsPacket, FitsPayload}
+use Rattle.line21_writer.specs.Calls.{PayloadWrites, RunWrites}
+use Rattle.reel.specs.Lent.{WritesRun}
+use Rattle.captions.specs.Arguments.{plain, passed, ga94Passed, Fits, FitsIn, slotBytes, FitsPacket, FitsPayload, FitsRun}
 use Rattle.captions.proofs.Numbers as numbers
 use Rattle.captions.proofs.Refusing as refusing
 use Rattle.captions.proofs.Succeeding as succeeding
 use Rattle.captions.proofs.BothWays as both-ways
 use Rattle.captions.proofs.Ga94 as atsc
+use Rattle.captions.proofs.Runs as reels
 use Rattle.captions.proofs.Determined as determined
 
 -- NUMBERS
@@ -96,6 +99,17 @@ pub flags-refused : (flags m : ℕ) (lent out : List ℕ) (r : Written) (exit : 
     → PayloadWrites flags m lent out r exit → 255 < flags
     → (r ≡ record { refusal = refused 15 0; len = 0 }) × (exit ≡ out)
 flags-refused = refusing.flags-refused
+
+-- The same of a reel: flags that a byte holds have the promise of its writer, and all theorems of `reel`,
+pub as-run : (flags size : ℕ) (s out : List ℕ) (r : Written) (exit : List ℕ)
+    → RunWrites flags size s out r exit → flags < 256 → WritesRun flags size s out r exit
+as-run = reels.as-run
+
+-- and larger ones are refused with 15.
+pub reel-flags-refused : (flags size : ℕ) (s out : List ℕ) (r : Written) (exit : List ℕ)
+    → RunWrites flags size s out r exit → 255 < flags
+    → (r ≡ record { refusal = refused 15 0; len = 0 }) × (exit ≡ out)
+reel-flags-refused = reels.reel-flags-refused
 
 -- ACCEPTED EXACTLY WHEN
 
@@ -148,6 +162,10 @@ packet-write-exactly = succeeding.packet-write-exactly
 pub payload-write-exactly : (flags m : ℕ) (sent out : List ℕ) (r : Written) (exit : List ℕ)
     → PayloadWrites flags m sent out r exit → r .refusal .number ≡ 0 ↔ FitsPayload flags m sent out
 payload-write-exactly = succeeding.payload-write-exactly
+
+pub reel-bytes-exactly : (flags size : ℕ) (s out : List ℕ) (r : Written) (exit : List ℕ)
+    → RunWrites flags size s out r exit → r .refusal .number ≡ 0 ↔ FitsRun flags size s out
+reel-bytes-exactly = reels.reel-bytes-exactly
 
 -- BOTH WAYS
 
@@ -310,6 +328,11 @@ pub payload-write-determined : (flags m : ℕ) (lent out : List ℕ) (a : Writte
     → (b : Written) (end : List ℕ) → PayloadWrites flags m lent out a exit → PayloadWrites flags m lent out b end
     → (a ≡ b) × (exit ≡ end)
 payload-write-determined = determined.payload-write-determined
+
+pub reel-bytes-determined : (flags size : ℕ) (s out : List ℕ) (a : Written) (exit : List ℕ)
+    → (b : Written) (end : List ℕ) → RunWrites flags size s out a exit → RunWrites flags size s out b end
+    → (a ≡ b) × (exit ≡ end)
+reel-bytes-determined = reels.reel-bytes-determined
 
 pub film-picture-determined : (film : List ℕ) (top repeat line : ℕ) (v : Numbers) (records lent : List ℕ)
     → (a : film-lent.Head) (exit end : List ℕ) (b : film-lent.Head) (out fin : List ℕ)

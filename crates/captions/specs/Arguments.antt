@@ -1,8 +1,9 @@
 -- What the arguments of a write call tell, and when they fit: what the theorems of the calls speak of.
-use Prim.Native.Nat.{ℕ, _≤_}
+use Prim.Native.Nat.{ℕ, _%_, _≤_, _<_}
 use mathlib.Core.Path.{_≡_}
 use mathlib.Core.List.{List, [], _∷_}
 use lib.ListN.{length}
+use Rattle.lists.specs.Each.{Each}
 use Rattle.kind.specs.declared.Kind.{Kind}
 use Rattle.scte20.specs.declared.Numbers.{Numbers}
 use Rattle.ga94.specs.declared.Numbers as ga94
@@ -17,7 +18,8 @@ use Rattle.sdp.specs.Value as sdp
 use Rattle.subtitling.specs.Layout as packet
 use Rattle.line21.specs.Value as line21
 use Rattle.line21.specs.Layout as payload
-use Rattle.line21.specs.Lent.{payloadIn}
+use Rattle.line21.specs.Lent.{payloadIn, runIn}
+use Rattle.reel.specs.Writing.{reel, reelLayout}
 use Rattle.captions.specs.declared.UnitHead.{UnitHead}
 use Rattle.captions.specs.declared.Ga94Head.{Ga94Head}
 use Rattle.captions.specs.Calls.{numbersIn, ga94NumbersIn}
@@ -74,3 +76,16 @@ FitsPayload flags m sent out =
     line21.LegalPayload (payloadIn flags m sent)
     × (length (payload.layout (line21.held (payloadIn flags m sent))) ≤ 1456)
     × (length (payload.layout (line21.held (payloadIn flags m sent))) ≤ length out)
+
+-- THE REEL
+
+-- flags, a size and the bytes of a run: they are whole units, the size is a payload's, the units are legal, and all
+-- payloads fit the buffer
+abbrev pub FitsRun : ℕ → ℕ → List ℕ → List ℕ → Type 0
+FitsRun flags size s out =
+    (flags < 256)
+    × (length s % 7 ≡ 0)
+    × (1 ≤ size)
+    × (size ≤ 291)
+    × Each line21.LegalAccessUnit (runIn s)
+    × (length (reelLayout (reel flags size (runIn s))) ≤ length out)

@@ -20,6 +20,7 @@ pub use packet::captions_packet_read;
 pub use packet::captions_packet_write;
 pub use payload::captions_payload_read;
 pub use payload::captions_payload_write;
+pub use reels::captions_reel_write;
 pub use reels::captions_reel_write_bytes;
 use refusal::Refusal;
 

@@ -4,6 +4,7 @@ mod packet_reading;
 mod packet_writing;
 mod payload_reading;
 mod payload_writing;
+mod reel_writing;
 
 ghost use Prim.Native.Nat.{_<_};
 use vectors::Kind;
@@ -24,11 +25,12 @@ enum Operation {
     PacketWrite,
     PayloadRead,
     PayloadWrite,
+    PayloadReel,
     Unknown,
 }
 
 // The places of the operations among the tallies.
-const OPERATIONS: usize = 5;
+const OPERATIONS: usize = 6;
 
 struct Tallies {
     ran: [Tally; OPERATIONS],
@@ -43,20 +45,22 @@ fn main() {
     vectors::print_tally(b"packet write", ran[1]);
     vectors::print_tally(b"payload read", ran[2]);
     vectors::print_tally(b"payload write", ran[3]);
-    vectors::print_tally(b"not known", ran[4]);
+    vectors::print_tally(b"payload reel", ran[4]);
+    vectors::print_tally(b"not known", ran[5]);
     let wrong = tallies.wrong;
     vectors::print_wrong(wrong);
 }
 
 fn place(operation: Operation) -> usize
-    ensures { λ r. ⌜ r < 5 ⌝ }
+    ensures { λ r. ⌜ r < 6 ⌝ }
 {
     match operation {
         Operation::PacketRead => 0,
         Operation::PacketWrite => 1,
         Operation::PayloadRead => 2,
         Operation::PayloadWrite => 3,
-        Operation::Unknown => 4,
+        Operation::PayloadReel => 4,
+        Operation::Unknown => 5,
     }
 }
 
@@ -119,6 +123,9 @@ fn operation_of(vector: &[u8]) -> Operation {
     if check::same(name, b"payload-write") {
         return Operation::PayloadWrite;
     }
+    if check::same(name, b"payload-reel") {
+        return Operation::PayloadReel;
+    }
     Operation::Unknown
 }
 
@@ -147,6 +154,7 @@ fn compared(operation: Operation, input: &[u8], expected: &[u8]) -> Outcome {
         Operation::PacketWrite => packet_writing::outcome(input, expected),
         Operation::PayloadRead => payload_reading::outcome(input, expected),
         Operation::PayloadWrite => payload_writing::outcome(input, expected),
+        Operation::PayloadReel => reel_writing::outcome(input, expected),
         Operation::Unknown => Outcome::Unreadable,
     }
 }

@@ -24,6 +24,7 @@ pub const LENT_UNIT: usize = 7;
 pub const LENT_UNITS: usize = 2037;
 
 // One access unit (004, Table 2). A field's data bytes are carried whatever its flag says.
+#[repr(C)]
 pub struct AccessUnit {
     pub cc_valid_1: u8,
     pub cc_valid_2: u8,

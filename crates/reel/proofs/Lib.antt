@@ -1,5 +1,6 @@
 pub mod Cutting
 pub mod Judging
+pub mod UnitByUnit
 pub mod Writing
 pub mod Single
 pub mod Back
