@@ -4,8 +4,8 @@
 -- `captions_unit_write` (`Writes`), `captions_area_replace` (`Replaces`) and, for GA94, `captions_ga94_read`
 -- (`Ga94Reads`), `captions_ga94_write` and `captions_ga94_replace`; those of `subtitling` for `captions_packet_read`
 -- and `captions_packet_write`; those of `line21` for `captions_payload_read` and, by `as-written`, for
--- `captions_payload_write`; those of `reel`, by `as-run`, for `captions_reel_write_bytes`, and for `captions_reel_write`
--- (`ReelWrites` of `reel_units`, whose page has what the boundary adds to it); those of `film_lent` for
+-- `captions_payload_write`; those of `reel`, by `as-run`, for `captions_reel_write_bytes`, and, by `as-reel` of
+-- `reel_units`' page, for `captions_reel_write` (`ReelWrites`); those of `film_lent` for
 -- `captions_film_picture` (`PictureInto`) and `captions_film_close` (`CloseInto`). Here stands what the boundary adds
 -- and, for the calls of the carriages, of plain numbers and lent bytes: when each succeeds, both round trips, and that
 -- two answers are equal. When a value fits is said in specs/Arguments.
@@ -54,7 +54,8 @@ use Rattle.captions.specs.declared.Ga94Head.{Ga94Head}
 use Rattle.captions.specs.Calls.{AreaReads, numbersIn, ga94HeadIn, Ga94Reads, packetIn}
 use Rattle.line21_writer.specs.Calls.{PayloadWrites, RunWrites}
 use Rattle.reel.specs.Lent.{WritesRun}
-use Rattle.captions.specs.Arguments.{plain, passed, ga94Passed, Fits, FitsIn, slotBytes, FitsPacket, FitsPayload, FitsRun}
+use Rattle.captions.specs.Arguments.{plain, passed, ga94Passed, Fits, FitsIn}
+use Rattle.captions.specs.Arguments.{slotBytes, FitsPacket, FitsPayload, FitsRun}
 use Rattle.captions.proofs.Numbers as numbers
 use Rattle.captions.proofs.Refusing as refusing
 use Rattle.captions.proofs.Succeeding as succeeding

@@ -109,9 +109,9 @@ refused-untouched = writing.refused-untouched
 
 -- ONE BY ONE
 
--- The call equals single calls that write the payloads one by one, each into the rest of the output: the refusal is that
--- of the first that is refused; without one, so are the length and the output. Where the single calls would have stored
--- payloads before the refusal, the call has stored nothing.
+-- The call equals single calls that write the payloads one by one, each into the rest of the output: the refusal is
+-- that of the first that is refused; without one, so are the length and the output. Where the single calls would have
+-- stored payloads before the refusal, the call has stored nothing.
 pub as-one-by-one : (flags size : ℕ) (us : List AccessUnit) (out : List ℕ) (r : Written) (exit : List ℕ)
     → WritesReel flags size us out r exit → 1 ≤ size → size ≤ 291
     → (refusal : Refusal) (len : ℕ) (end : List ℕ) → OneByOne (reel flags size us) out refusal len end
@@ -126,9 +126,9 @@ pub can-be-made : (flags size : ℕ) (us : List AccessUnit) (out : List ℕ) →
     → (refusal : Refusal) × (len : ℕ) × (end : List ℕ) × OneByOne (reel flags size us) out refusal len end
 can-be-made = single.can-be-made
 
--- Where the payloads before it are let through, a payload that its own writer refuses decides, with the number that this
--- writer gives it; what stands behind it is not looked at. So an output too short for payload 1 is told before a unit of
--- payload 2 that is not legal.
+-- Where the payloads before it are let through, a payload that its own writer refuses decides, with the number that
+-- this writer gives it; what stands behind it is not looked at. So an output too short for payload 1 is told before a
+-- unit of payload 2 that is not legal.
 pub first-refused : (flags size : ℕ) (us : List AccessUnit) (out : List ℕ) (r : Written) (exit : List ℕ)
     → WritesReel flags size us out r exit → 1 ≤ size → size ≤ 291
     → (before : List Line21) (v : Line21) (behind : List Line21) → reel flags size us ≡ before ++ (v ∷ behind)
