@@ -1,6 +1,6 @@
 -- The calls that write a reel: when each succeeds, what flags that no byte holds come to, and its one answer.
 -- Assumes nothing.
-use Prim.Native.Nat.{ℕ, _%_, _≤_, _<_}
+use Prim.Native.Nat.{ℕ, _%_, _<_}
 use native.Mathlib.Omega.{arith}
 use mathlib.Core.Path.{_≡_, ap, refl}
 use mathlib.Core.Logic.{_↔_, ⊎-elim}

@@ -13,7 +13,7 @@ use Rattle.refusal.specs.declared.Written.{Written}
 use Rattle.refusal.specs.Answers.{accepted}
 use Rattle.line21.specs.declared.AccessUnit.{AccessUnit}
 use Rattle.line21.specs.declared.Answer.{Answer}
-use Rattle.line21.specs.Value.{Line21, LegalAccessUnit, Legal, stored, held}
+use Rattle.line21.specs.Value.{LegalAccessUnit, Legal, stored, held}
 use Rattle.line21.specs.Layout.{layout, layoutAccessUnit, layoutAccessUnits}
 use Rattle.line21.specs.Reading.{Reads}
 use Rattle.line21.proofs.Answers.{stored-units}

@@ -3,10 +3,10 @@
 use Prim.Native.Nat.{ℕ, zero, suc, _+_, _-_, _*_, _≤_, _<_, min}
 use native.Mathlib.Omega.{arith}
 use native.Mathlib.Nat.{mul-zero, mul-suc}
-use mathlib.Core.Path.{_≡_, _∙_, ap, ap₂, sym, subst, refl}
+use mathlib.Core.Path.{_≡_, _∙_, ap, ap₂, sym, refl}
 use mathlib.Core.List.{List, [], _∷_, _++_}
 use lib.ListN.{length, take, drop, length-append, length-take, length-drop, take-append-drop}
-use lib.Seq.{take-nil, drop-nil, take-at, drop-at, drop-drop, length-take-le}
+use lib.Seq.{take-nil, drop-nil, take-at, drop-at, drop-drop}
 use Rattle.lists.specs.Each.{Each}
 use Rattle.lists.proofs.Each.{each-append, append-each}
 use Rattle.reel.specs.Cut.{pieces, cut, joined, Sized}

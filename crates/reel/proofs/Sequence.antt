@@ -21,7 +21,6 @@ use Rattle.refusal.proofs.Sequence.{first-append}
 use Rattle.line21.specs.declared.AccessUnit.{AccessUnit}
 use Rattle.line21.specs.Value.{Line21, stored}
 use Rattle.line21.specs.Layout.{layout}
-use Rattle.line21.specs.Writing.{valueVerdict}
 use Rattle.line21.specs.Order.{writingChecks}
 use Rattle.line21.proofs.Sequence.{writing-order}
 use Rattle.line21.proofs.Unplaced.{value-unplaced}

@@ -3,10 +3,10 @@
 use Prim.Native.Nat.{ℕ, _+_, _-_, _≤_, _<_}
 use native.Mathlib.Omega.{arith}
 use mathlib.Core.Path.{_≡_, _∙_, ap, ap₂, sym, subst, refl}
-use mathlib.Core.List.{List, [], _∷_, _++_, map}
+use mathlib.Core.List.{List, [], _∷_, _++_}
 use lib.ListN.{length, take, drop, replicate, length-append, length-drop, length-replicate}
 use Rattle.lists.specs.Each.{Each}
-use Rattle.lists.specs.Room.{filled, over}
+use Rattle.lists.specs.Room.{over}
 use Rattle.lists.proofs.Each.{each-append, each-replicate, each-map, each-both}
 use Rattle.lists.proofs.Lay.{take-over, drop-over, over-over}
 use Rattle.refusal.specs.declared.Refusal.{Refusal}
@@ -24,7 +24,7 @@ use Rattle.line21.specs.Layout.{layout}
 use Rattle.line21.specs.Writing.{valueVerdict, Writes}
 use Rattle.line21.proofs.Answers.{stored-held}
 use Rattle.reel.specs.Cut.{cut}
-use Rattle.reel.specs.Writing.{reel, reelLayout, sizeVerdict, reelVerdict, WritesReel}
+use Rattle.reel.specs.Writing.{reel, reelLayout, reelVerdict, WritesReel}
 use Rattle.reel.specs.OneByOne.{OneByOne, done, stop, more}
 use Rattle.reel.proofs.Cutting.{cut-joined, joined-each}
 use Rattle.reel.proofs.Judging.{size-accepted}

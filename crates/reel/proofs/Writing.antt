@@ -9,7 +9,6 @@ use lib.ListN.{length, drop, length-append, length-drop}
 use Rattle.lists.specs.Each.{Each}
 use Rattle.lists.specs.Room.{over}
 use Rattle.lists.proofs.Each.{each-map}
-use Rattle.refusal.specs.declared.Refusal.{Refusal}
 use Rattle.refusal.specs.declared.Verdict.{Verdict}
 use Rattle.refusal.specs.declared.Verdict.the-variants.{Accepted}
 use Rattle.refusal.specs.declared.Written.{Written}
@@ -19,13 +18,13 @@ use Rattle.refusal.specs.Answers.{refused, written}
 use Rattle.refusal.proofs.Checks.{accepted-andThen, andThen-accepted, andThen-refused, accepted-each, each-accepted}
 use Rattle.refusal.proofs.Outputs.{wrote-refusal, wrote-accepted, accepted-wrote, success-left, refusal-left}
 use Rattle.line21.specs.declared.AccessUnit.{AccessUnit}
-use Rattle.line21.specs.Value.{Line21, LegalAccessUnit, Legal, stored, held}
+use Rattle.line21.specs.Value.{Line21, LegalAccessUnit, stored}
 use Rattle.line21.specs.Layout.{layout}
 use Rattle.line21.specs.Writing.{unitVerdict, unitsVerdict, valueVerdict, Writes}
 use Rattle.line21.proofs.Answers.{stored-units, stored-held}
 use Rattle.line21.proofs.Layouts.{length-layoutUnits}
 use Rattle.line21.proofs.Numbers.{accepted-value, value-accepted, units-accepted, accepted-units}
-use Rattle.reel.specs.Cut.{cut, joined, Sized}
+use Rattle.reel.specs.Cut.{cut, joined}
 use Rattle.reel.specs.Writing.{payload, reel, reelLayout, sizeVerdict, reelVerdict, WritesReel}
 use Rattle.reel.proofs.Cutting.{cut-joined, cut-sized, sized-few, sized-count, each-joined, joined-each}
 use Rattle.reel.proofs.Judging.{accepted-size, size-accepted, size-15}

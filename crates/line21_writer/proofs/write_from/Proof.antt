@@ -18,7 +18,7 @@ use Rattle.line21.specs.Value.{Typed, held}
 use Rattle.line21.specs.Layout.{layout}
 use Rattle.line21.specs.Writing.{valueVerdict}
 use Rattle.line21.specs.Lent.{accessUnitsIn, payloadIn}
-use Rattle.line21.proofs.Numbers.{Writable, accepted-value, length-layout-held}
+use Rattle.line21.proofs.Numbers.{Writable, accepted-value}
 use Rattle.line21.proofs.LentUnits.{typed-in, verdict-flags}
 use Rattle.line21_judge.proofs.Lent.{lent-array}
 use Rattle.line21_writer.proofs.write_from.Statement.{statement}

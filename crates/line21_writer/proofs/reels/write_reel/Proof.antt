@@ -11,9 +11,8 @@ use lib.ListN.{length}
 use Rattle.lists.specs.Bytes.{Bytes}
 use Rattle.lists.proofs.Each.{each-of}
 use Rattle.refusal.specs.declared.Refusal.{Refusal}
-use Rattle.refusal.specs.declared.Verdict.{Verdict}
 use Rattle.refusal.specs.Numbers.{refusalOf}
-use Rattle.refusal.specs.Answers.{refused, Wrote}
+use Rattle.refusal.specs.Answers.{Wrote}
 use Rattle.refusal.proofs.Acceptance.{told-accepted}
 use Rattle.refusal.proofs.Outputs.{wrote-nothing, wrote-laid}
 use Rattle.line21.specs.Lent.{runIn}
