@@ -1,5 +1,5 @@
 -- Writing with a flags byte that is told by a number of any size: before all else 15 for one that no byte holds. The C
--- interface passes numbers so (RULES, "C interface").
+-- interface passes numbers so (RULES, "Calls from C").
 use Prim.Native.Nat.{ℕ, _<_}
 use mathlib.Core.List.{List, []}
 use Rattle.refusal.specs.declared.Verdict.the-variants.{Refused}

@@ -1,7 +1,7 @@
 // Writing with the flags byte as a number of any size, as the C interface passes it. One that no byte holds is refused,
 // not cut.
 //
-// Normative references: docs/RULES.md, "C interface".
+// Normative references: docs/RULES.md, "Calls from C".
 ghost use mathlib.Core.Path.{_≡_};
 ghost use mathlib.Core.List.{[]};
 ghost use Rattle.refusal.specs.declared.Verdict.the-variants.{Refused};

@@ -9,7 +9,7 @@
 -- `WritesRun` is the same of a run that is lent as bytes, the promise of `write_reel` (line21_writer). So each theorem
 -- speaks of every call.
 -- Assumes nothing.
-use Prim.Native.Nat.{ℕ, _+_, _*_, _%_, _≤_, _<_}
+use Prim.Native.Nat.{ℕ, _+_, _-_, _*_, _%_, _≤_, _<_}
 use mathlib.Core.Path.{_≡_}
 use mathlib.Core.Logic.{_↔_}
 use mathlib.Core.List.{List, [], _∷_, _++_}
@@ -17,6 +17,7 @@ use lib.ListN.{length, take, drop}
 use Rattle.lists.specs.Each.{Each}
 use Rattle.lists.specs.Room.{over}
 use Rattle.refusal.specs.declared.Refusal.{Refusal}
+use Rattle.refusal.specs.declared.Verdict.{Verdict}
 use Rattle.refusal.specs.declared.Verdict.the-variants.{Accepted}
 use Rattle.refusal.specs.declared.Written.{Written}
 use Rattle.refusal.specs.Checks.{first}
@@ -24,12 +25,13 @@ use Rattle.refusal.specs.Numbers.{refusalOf}
 use Rattle.refusal.specs.Answers.{refused, written}
 use Rattle.line21.specs.declared.AccessUnit.{AccessUnit}
 use Rattle.line21.specs.Value.{Line21, ByteUnit, LegalAccessUnit, stored}
-use Rattle.line21.specs.Writing.{Writes}
+use Rattle.line21.specs.Writing.{unitVerdict, Writes}
 use Rattle.line21.specs.Lent.{accessUnitsBytes, runIn}
+use Rattle.line21_judge.specs.Judging.{lentVerdict}
 use Rattle.reel.specs.Cut.{cut, joined, Sized}
-use Rattle.reel.specs.Writing.{reel, reelLayout, reelVerdict, callVerdict, WritesReel}
+use Rattle.reel.specs.Writing.{reel, reelLayout, sizeVerdict, reelVerdict, callVerdict, WritesReel}
 use Rattle.reel.specs.OneByOne.{OneByOne, ReadOneByOne}
-use Rattle.reel.specs.Lent.{WritesRun}
+use Rattle.reel.specs.Lent.{runVerdict, WritesRun}
 use Rattle.reel.specs.Order.{reelChecks}
 use Rattle.reel.proofs.Cutting as cutting
 use Rattle.reel.proofs.Writing as writing
@@ -176,3 +178,22 @@ reel-determined = runs.reel-determined
 pub run-determined : (flags size : ℕ) (s out : List ℕ) (a : Written) (exit : List ℕ) (b : Written) (end : List ℕ)
     → WritesRun flags size s out a exit → WritesRun flags size s out b end → (a ≡ b) × (exit ≡ end)
 run-determined = runs.run-determined
+
+-- And so are two verdicts of the functions that judge: the size and a run of bytes here, a payload's units in
+-- line21_judge; and the smaller of two numbers.
+pub judge-size-determined : (size : ℕ) (a b : Verdict) → a ≡ sizeVerdict size → b ≡ sizeVerdict size → a ≡ b
+judge-size-determined = runs.judge-size-determined
+
+pub judge-reel-determined : (size : ℕ) (s : List ℕ) (room : ℕ) (a b : Verdict)
+    → a ≡ runVerdict 0 size s room → b ≡ runVerdict 0 size s room → a ≡ b
+judge-reel-determined = runs.judge-reel-determined
+
+pub judge-value-determined : (m : ℕ) (s : List ℕ) (room : ℕ) (a b : Verdict)
+    → a ≡ lentVerdict m s room → b ≡ lentVerdict m s room → a ≡ b
+judge-value-determined = runs.judge-value-determined
+
+pub judge-unit-determined : (u : AccessUnit) (a b : Verdict) → a ≡ unitVerdict u → b ≡ unitVerdict u → a ≡ b
+judge-unit-determined = runs.judge-unit-determined
+
+pub least-determined : (a b r q : ℕ) → r ≡ a - (a - b) → q ≡ a - (a - b) → r ≡ q
+least-determined = runs.least-determined
