@@ -31,13 +31,14 @@ fn put_reel(flags: u8, size: usize, units: &[u8], out: &mut [u8]) -> usize
     ensures { λ r. ⌜ r ≡ length (reelLayout (reel flags size (runIn (now (units .entry))))) ⌝ }
     ensures { λ _. ⌜ now (out .exit) ≡ over (reelLayout (reel flags size (runIn (now (units .entry))))) (now (out .entry)) ⌝ }
 {
-    let n = units.len() / LENT_UNIT;
     let mut at = 0;
     let mut i = 0;
-    while i < n {
-        let m = reel::least(size, n - i);
+    let mut left = units.len() / LENT_UNIT;
+    while 0 < left {
+        let m = reel::least(size, left);
         at += write_judged(flags, m, &units[LENT_UNIT * i..], &mut out[at..]);
         i += m;
+        left -= m;
     }
     at
 }

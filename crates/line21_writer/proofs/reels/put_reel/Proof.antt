@@ -36,10 +36,10 @@ record Placed (flags size : ℕ) (s begun out : List ℕ) (at i : ℕ) : Type 0 
   rest : reelVerdict (reel flags size (drop i (runIn s))) (length begun - at) ≡ Accepted
 
 abbrev Inv-loop : tie.InvT-loop
-Inv-loop flags size units out₀ n at₀ i₀ out at i = Placed flags size units out₀ out at i
+Inv-loop flags size units out₀ at₀ i₀ left₀ out at i left = (i + left ≡ length units / 7) × Placed flags size units out₀ out at i
 
 abbrev μ-loop : tie.MeasureT-loop
-μ-loop flags size units out₀ n at₀ i₀ out at i = n - i
+μ-loop flags size units out₀ at₀ i₀ left₀ out at i left = left
 
 kept : (flags size : ℕ) (s begun out : List ℕ) (at i : ℕ) → Placed flags size s begun out at i → length out ≡ length begun
 kept flags size s begun out at i p = ap length (p .stands) ∙ length-over (p .front) begun (omega (arith, p .long, p .fits))
@@ -114,23 +114,24 @@ start c = c .before .before .before
 
 loop-holds : tie.Need-loop-holds Inv-loop μ-loop
 loop-holds c =
-    record {
-      inside = omega arith;
-      front = [];
-      long = refl;
-      fits = omega arith;
-      stands = refl;
-      whole = refl;
-      rest =
-          let start = c .before .before in
-          let all : length (now (start .args .out)) - 0 ≡ length (now (start .args .out)) = omega arith in
-          ap (reelVerdict (reel (start .args .flags) (start .args .size) (runIn (now (start .args .units))))) all ∙ judged-whole start .each;
-    }
+    let start = c .before .before in
+    let all : length (now (start .args .out)) - 0 ≡ length (now (start .args .out)) = omega arith in (
+      omega arith,
+      record {
+        inside = omega arith;
+        front = [];
+        long = refl;
+        fits = omega arith;
+        stands = refl;
+        whole = refl;
+        rest = ap (reelVerdict (reel (start .args .flags) (start .args .size) (runIn (now (start .args .units))))) all ∙ judged-whole start .each;
+      },
+    )
 
 -- what the loop knows at its head
 module _ (c : tie.At-loop Inv-loop μ-loop) where
   same : length (c .loop .out) ≡ length (now (start c .args .out))
-  same = kept _ _ _ _ _ _ _ (c .loop .inv)
+  same = kept _ _ _ _ _ _ _ (c .loop .inv .1)
 
 -- and once the next payload's units are counted
 module _ (c : tie.After-least Inv-loop μ-loop) where
@@ -138,10 +139,10 @@ module _ (c : tie.After-least Inv-loop μ-loop) where
   head = c .before .before
 
   below : head .loop .i < length (now (start head .args .units)) / 7
-  below = omega (arith, c .before .loop-test .taken, judged-whole (start head) .some)
+  below = omega (arith, c .before .loop-test .taken, head .loop .inv .0, judged-whole (start head) .some)
 
-sub-least : tie.Need-sub-least Inv-loop μ-loop
-sub-least c = omega (arith, c .loop-test .taken)
+  next : c .least .result ≡ least (start head .args .size) (length (now (start head .args .units)) / 7 - head .loop .i)
+  next = omega (arith, c .least .ensures, head .loop .inv .0)
 
 mul-write-judged : tie.Need-mul-write-judged Inv-loop μ-loop
 mul-write-judged c = omega (arith, below c)
@@ -156,10 +157,10 @@ part-write-judged-end : tie.Need-part-write-judged-end Inv-loop μ-loop
 part-write-judged-end c = omega arith
 
 sub-write-judged-2 : tie.Need-sub-write-judged-2 Inv-loop μ-loop
-sub-write-judged-2 c = omega (arith, same (head (c .before)), head (c .before) .loop .inv .fits)
+sub-write-judged-2 c = omega (arith, same (head (c .before)), head (c .before) .loop .inv .1 .fits)
 
 part-write-judged-start-2 : tie.Need-part-write-judged-start-2 Inv-loop μ-loop
-part-write-judged-start-2 c = omega (arith, same (head (c .before)), head (c .before) .loop .inv .fits)
+part-write-judged-start-2 c = omega (arith, same (head (c .before)), head (c .before) .loop .inv .1 .fits)
 
 part-write-judged-end-2 : tie.Need-part-write-judged-end-2 Inv-loop μ-loop
 part-write-judged-end-2 c = omega arith
@@ -168,28 +169,42 @@ write-judged-requires : tie.Need-write-judged-requires Inv-loop μ-loop
 write-judged-requires c κs =
     let counted = c .before .before in
     let at = head counted in
-    asked _ _ _ _ _ _ _ _ (judged-whole (start at)) (at .loop .inv) (below counted) (counted .least .ensures)
+    asked _ _ _ _ _ _ _ _ (judged-whole (start at)) (at .loop .inv .1) (below counted) (next counted)
 
 -- what the loop knows at the turn's end
-again : tie.Need-loop-again Inv-loop μ-loop
-again c =
-    let call = c .before .before in
-    let counted = call .before .before .before in
-    let at = head counted in
-    turned _ _ _ _ _ _ _ _ (judged-whole (start at)) (at .loop .inv) (below counted) (counted .least .ensures) (call .write-judged .last .1 .1 .1 .0) (call .write-judged .result)
-    (call .write-judged .ensures .0)
-    (call .write-judged .ensures .1)
+module _ (c : tie.After-slice-known2 Inv-loop μ-loop) where
+  abbrev call : tie.After-write-judged Inv-loop μ-loop
+  call = c .before .before
+
+  abbrev counted : tie.After-least Inv-loop μ-loop
+  counted = call .before .before .before
+
+  abbrev begun : tie.At-loop Inv-loop μ-loop
+  begun = head counted
+
+  placed : Placed (start begun .args .flags) (start begun .args .size) (now (start begun .args .units)) (now (start begun .args .out))
+      (putMid (begun .loop .at) (length (begun .loop .out) - begun .loop .at) (begun .loop .out) (call .write-judged .last .1 .1 .1 .0))
+      (begun .loop .at + call .write-judged .result)
+      (begun .loop .i + counted .least .result)
+  placed =
+      turned _ _ _ _ _ _ _ _ (judged-whole (start begun)) (begun .loop .inv .1) (below counted) (next counted) (call .write-judged .last .1 .1 .1 .0) (call .write-judged .result)
+      (call .write-judged .ensures .0)
+      (call .write-judged .ensures .1)
 
 add-at : tie.Need-add-at Inv-loop μ-loop
-add-at c = omega (arith, again c .fits)
+add-at c = omega (arith, placed c .fits)
 
 add-i : tie.Need-add-i Inv-loop μ-loop
-add-i c = omega (arith, again c .inside)
+add-i c = omega (arith, placed c .inside)
+
+sub-left : tie.Need-sub-left Inv-loop μ-loop
+sub-left c = omega (arith, counted c .least .ensures)
 
 loop-less : tie.Need-loop-less Inv-loop μ-loop
-loop-less c =
-    let counted = c .before .before .before .before .before in
-    omega (arith, below counted, counted .least .ensures, judged-whole (start (head counted)) .some)
+loop-less c = omega (arith, counted c .before .loop-test .taken, counted c .least .ensures, judged-whole (start (begun c)) .some)
+
+loop-again : tie.Need-loop-again Inv-loop μ-loop
+loop-again c = (omega (arith, counted c .least .ensures, begun c .loop .inv .0), placed c)
 
 same-length : tie.Need-same-length Inv-loop μ-loop
 same-length c = same (c .before)
@@ -199,8 +214,8 @@ returns c =
     let at = c .before in
     let from = start at in
     let judged = judged-whole from in
-    let p = at .loop .inv in
-    let none = none-left (from .args .flags) (from .args .size) (judged .some) (judged .few) (now (from .args .units)) (at .loop .i) (omega (arith, c .loop-test .left)) in
+    let p = at .loop .inv .1 in
+    let none = none-left (from .args .flags) (from .args .size) (judged .some) (judged .few) (now (from .args .units)) (at .loop .i) (omega (arith, c .loop-test .left, at .loop .inv .0)) in
     let all = p .whole ∙ ap (λ (vs : List Line21). p .front ++ reelLayout vs) none ∙ append-nil (p .front) in
     (sym (p .long) ∙ ap length (sym all), p .stands ∙ ap (λ (bytes : List ℕ). over bytes (now (from .args .out))) (sym all))
 
@@ -211,7 +226,6 @@ put-reel-spec =
     Inv-loop
     μ-loop
     loop-holds
-    sub-least
     (λ c κs. search needs)
     mul-write-judged
     sub-write-judged
@@ -223,7 +237,8 @@ put-reel-spec =
     write-judged-requires
     add-at
     add-i
+    sub-left
     loop-less
-    again
+    loop-again
     same-length
     returns)
