@@ -1,6 +1,6 @@
 pub mod Steps
 pub mod Going
-pub mod Again
+pub mod Lending
 pub mod Rows
 pub mod Calling
 pub mod Theorems

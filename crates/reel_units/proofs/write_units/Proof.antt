@@ -1,4 +1,4 @@
--- `reel_units::write_units` meets its contract: a walk of its MIR, by hand, since the borrow checker covers no slice of structs. A turn looks into the slice for the unit that is next, and lends the output again to `turn` for a lifetime of the call (`Again.antt`).
+-- `reel_units::write_units` meets its contract: a walk of its MIR, by hand, since the borrow checker covers no slice of structs. A turn looks into the slice for the unit that is next, and lends the output again to `turn` for a lifetime of the call (`Lending.antt`).
 -- All that the proof knows of `begin`, `turn` and `told` is that each meets its contract. What holds between two turns is `Going.antt`'s `Going`.
 -- Assumes nothing.
 use mathlib.Core.Path.{_≡_, refl, sym, ap, subst, subst₂, _∙_}
@@ -63,7 +63,7 @@ use Rattle.reel_units.specs.Calls.{ReelWrites}
 use Rattle.reel_units.specs.Inside.{begun, turned, leftBy, Ready, answerOf}
 use Rattle.reel_units.proofs.State as T
 use Rattle.reel_units.proofs.State.Laws as T′
-use Rattle.reel_units.proofs.Again.{LentAgain, lends-again, comes-back}
+use Rattle.reel_units.proofs.Lending.{Waiting, lend, have-back}
 use Rattle.reel_units.proofs.Rows.{each-known}
 use Rattle.reel_units.proofs.Going.{Going, turnsLeft, going-start, inside, going-on, going-ready, going-end}
 use Rattle.reel_units.proofs.Calling.{wrote-reel}
@@ -320,8 +320,8 @@ module _ {M : Type 1} (𝓤 : URA M) (H : Heap 𝓤) (A : Atoms 𝓤) (W : Given
         assigns ! (addr ! (from ! (fld ! refl (hop ! (look-in ! 18 (sub ! 0 refl (whole !))) (stop !))))) (from ! (stop !)) (init ! 4 refl (tt, tt)) $
         assigns ! (agg ! (and-then ! (load ! (from ! (stop !)) (look ! 4 refl)) (and-then ! (load ! (from ! (fld ! refl (stop !))) (look-in ! 18 (sub ! 1 refl (whole !)))) (no-more !)))) (from ! (stop !)) (init ! 2 refl (tt, (tt, (record { fits = room₁ .0 }, tt)))) $
         lft-new ! tt (λ ν. rewrite ! 32 (λ (m : ℕ). ‵ (MutSlice (named 1) κ₁ u8 .own (x₁ γ₁ (x .output)) (sliceVal (b₁, o₁) m ∷ []))) (sym (x .long)) refl $ move ! (32 ∷ 29 ∷ []) $
-        use2 W (later (some (λ (δ : GName). ‵ (MutSlice (named 0) (ν ∷ []) u8 .own (x₁ δ (x .output)) (sliceVal (b₁, o₁) (length (x .output)) ∷ [])) ⊛ ‵ (LentAgain u8 κ₁ (ν ∷ []) q₁ γ₁ b₁ o₁ δ (x .output)))))
-        (lends-again u8 κ₁ (ν ∷ []) q₁ γ₁ b₁ o₁ 𝓤 H A W (named 1) (named 0) (x .output)) $ await ! tt $ pick ! (λ δ. split ! $
+        use2 W (later (some (λ (δ : GName). ‵ (MutSlice (named 0) (ν ∷ []) u8 .own (x₁ δ (x .output)) (sliceVal (b₁, o₁) (length (x .output)) ∷ [])) ⊛ ‵ (Waiting κ₁ (ν ∷ []) q₁ γ₁ b₁ o₁ δ (x .output)))))
+        (lend κ₁ (ν ∷ []) q₁ γ₁ b₁ o₁ 𝓤 H A W (named 1) (named 0) (x .output)) $ await ! tt $ pick ! (λ δ. split ! $
         rewrite ! 0 (λ (m : ℕ). ‵ (MutSlice (named 0) (ν ∷ []) u8 .own (x₁ δ (x .output)) (sliceVal (b₁, o₁) m ∷ []))) (x .long) refl $ move ! (2 ∷ 0 ∷ []) $
         use2 W (raw (Turn 𝓤 H A mem run .pre (to-turn (x .state) (next x more) (x .output) ν δ))) (goes-turn (x .state) (next x more) (x .output) ν δ (set-up x more) (x .is) g) $
         calls-at-last ! fm (Turn 𝓤 H A mem run) known-turn (to-turn (x .state) (next x more) (x .output) ν δ) (and-then ! (load ! (from ! (stop !)) (look ! 18 refl)) (and-then ! (load ! (from ! (stop !)) (look ! 8 refl)) (and-then ! (load ! (from ! (stop !)) (look ! 4 refl)) (no-more !)))) (λ w.
@@ -334,7 +334,7 @@ module _ {M : Type 1} (𝓤 : URA M) (H : Heap 𝓤) (A : Atoms 𝓤) (W : Given
         -- the lifetime is ended, and the output comes back at that list
         split ! $ lft-end ! tt $ move ! (0 ∷ 4 ∷ 2 ∷ []) $
         use3 W (later (‵ (MutSlice (named 1) κ₁ u8 .own (x₁ γ₁ (ws .1 .1 .0)) (sliceVal (b₁, o₁) (length (x .output)) ∷ [])) ⊛ ‵ (flft κ₁ q₁)))
-        (comes-back u8 κ₁ (ν ∷ []) q₁ γ₁ b₁ o₁ 𝓤 H A W (named 1) (named 0) (x .output) δ (ws .1 .1 .0) (subst (Room u8) (sym (x .long)) room₁) l) $ await ! tt $ split ! $
+        (have-back κ₁ (ν ∷ []) q₁ γ₁ b₁ o₁ 𝓤 H A W (named 1) (named 0) (x .output) δ (ws .1 .1 .0) (subst (Room u8) (sym (x .long)) room₁) l) $ await ! tt $ split ! $
         rewrite ! 0 (λ (m : ℕ). ‵ (MutSlice (named 1) κ₁ u8 .own (x₁ γ₁ (ws .1 .1 .0)) (sliceVal (b₁, o₁) m ∷ []))) (x .long) refl $
         -- [what `out` owns; its token; …; the token of `units`; its borrow; the locals; …]
         land-last ! (from ! (stop !)) (store ! 20 refl (LL.lawful T.the-type T′.the-laws 𝓤 H A W .typed r _ is .0)) $
