@@ -4,9 +4,11 @@
 -- Assumes nothing.
 use Prim.Native.Nat.{ℕ, _<_, min}
 use mathlib.Core.Path.{_≡_}
-use mathlib.Core.List.{List}
+use mathlib.Core.List.{List, map}
+use lib.ListN.{length, take}
+use Rattle.lists.specs.Room.{over}
 use Rattle.bits.specs.Bits.{reversed}
-use Rattle.bits.specs.Table.{Reverses}
+use Rattle.bits.specs.Table.{Reverses, found}
 use Rattle.bits.specs.Peek.{peekOf, firstSet, leadingOf}
 use Rattle.bits.proofs.Turn as turn
 use Rattle.bits.proofs.Determined as determined
@@ -24,6 +26,11 @@ reverse-determined = determined.reverse-determined
 
 pub reversed-bytes-determined : (a b : List ℕ) → Reverses a → Reverses b → a ≡ b
 reversed-bytes-determined = determined.reversed-bytes-determined
+
+pub look-up-determined : (s table out exit end : List ℕ)
+    → exit ≡ over (take (length out) (map (found table) s)) out
+    → end ≡ over (take (length out) (map (found table) s)) out → exit ≡ end
+look-up-determined = determined.look-up-determined
 
 pub first-set-determined : (s : List ℕ) (from a b : ℕ) → a ≡ firstSet s from → b ≡ firstSet s from → a ≡ b
 first-set-determined = determined.first-set-determined

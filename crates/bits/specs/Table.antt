@@ -9,3 +9,7 @@ use Rattle.bits.specs.Bits.{reversed}
 pub record Reverses (table : List ℕ) : Type 0 where
   pub whole : length table ≡ 256
   pub entry : (b : ℕ) → b < 256 → getD table b 0 ≡ reversed b
+
+-- what a table has for a byte
+abbrev pub found : List ℕ → ℕ → ℕ
+found table b = getD table b 0

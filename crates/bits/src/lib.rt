@@ -1,10 +1,11 @@
 // Bits in lent bytes, most significant first (docs/RULES.md, "Picture area").
 ghost use mathlib.Core.Path.{_≡_};
 ghost use Prim.Native.Nat.{_*_, _<_, min};
-ghost use mathlib.Core.List.{[], _∷_};
-ghost use lib.ListN.{getD};
+ghost use mathlib.Core.List.{[], _∷_, map};
+ghost use lib.ListN.{length, getD, take};
+ghost use Rattle.lists.specs.Room.{over};
 ghost use Rattle.bits.specs.Bits.{num, bitsOf, reversed};
-ghost use Rattle.bits.specs.Table.{Reverses};
+ghost use Rattle.bits.specs.Table.{Reverses, found};
 ghost use Rattle.bits.specs.Peek.{peekOf, firstSet, leadingOf};
 ghost use Rattle.bits.specs.Inside.{Clear};
 
@@ -318,6 +319,20 @@ pub fn reversed_bytes() -> [u8; 256]
     ensures { λ r. ⌜ Reverses r ⌝ }
 {
     REVERSED
+}
+
+// Stores each byte of s as a table has it over the front of out, as many of them as there is room for.
+pub fn look_up(s: &[u8], table: &[u8; 256], out: &mut [u8])
+    ensures { λ _. ⌜ now (out .exit) ≡ over (take (length (now (out .entry))) (map (found (now (table .entry))) (now (s .entry)))) (now (out .entry)) ⌝ }
+{
+    let n = if s.len() < out.len() { s.len() } else { out.len() };
+    let mut i = 0;
+    while i < n {
+        let b = s[i];
+        let turned = table[b as usize];
+        out[i] = turned;
+        i += 1;
+    }
 }
 
 // A byte with its bits in the other order.

@@ -2,11 +2,12 @@
 -- Assumes nothing.
 use Prim.Native.Nat.{ℕ, suc, _+_, _-_, _≤_, _<_}
 use native.Mathlib.Omega.{arith}
+use native.Mathlib.Numerals.{add-one}
 use mathlib.Core.Path.{_≡_, _∙_, ap, ap₂, sym}
 use mathlib.Core.List.{List, [], _∷_, _++_, append-assoc, append-nil}
 use borrow.Rule.Slice.PartMut.{putMid}
 use lib.ListN.{length, getD, take, drop, set, replicate, length-append, length-drop, length-replicate, replicate-append-replicate}
-use lib.Seq.{length-take-le, take-at, drop-at, take-length, drop-length, drop-drop, drop-cons, drop-append-add, set-at, drop-set-lt, sets, sets-eq}
+use lib.Seq.{length-take-le, take-suc, take-all, take-at, drop-at, take-length, drop-length, drop-drop, drop-cons, drop-append-add, set-at, drop-set-lt, sets, sets-eq}
 use Rattle.lists.specs.Room.{filled, over, overAt}
 
 module _ {A : Type 0} where
@@ -149,3 +150,18 @@ overAt-overAt {A = A} at front piece out next fits e =
     ∙ ap₂ (λ (h r : List A). h ++ over piece r) (take-at head (drop (length front) rest) next long) (drop-at head (drop (length front) rest) next long)
     ∙ append-assoc (take at out) front (over piece (drop (length front) rest))
     ∙ ap (λ (r : List A). take at out ++ r) (over-over front piece rest)
+
+-- the front of xs laid over an output: it keeps its length,
+module _ {A : Type 0} (xs out : List A) where
+  pub front-length : (i : ℕ) → i ≤ length xs → i ≤ length out → length (over (take i xs) out) ≡ length out
+  front-length i h g = length-over (take i xs) out (omega (arith, length-take-le i xs h))
+
+  -- one more is laid by a store,
+  pub front-next : (i : ℕ) (d : A) → i < length xs → i < length out → set (over (take i xs) out) i (getD xs i d) ≡ over (take (i + 1) xs) out
+  front-next i d h g =
+      let more : take (i + 1) xs ≡ take i xs ++ (getD xs i d ∷ []) = ap (λ (k : ℕ). take k xs) (add-one i) ∙ take-suc xs i d h in
+      store-next (take i xs) out (getD xs i d) i (length-take-le i xs (omega arith)) g ∙ ap (λ (front : List A). over front out) (sym more)
+
+-- and all of xs is the front of any length that is no smaller
+pub front-all : {A : Type 0} (xs : List A) (n k : ℕ) → length xs ≤ n → length xs ≤ k → take n xs ≡ take k xs
+front-all xs n k h g = take-all n xs h ∙ sym (take-all k xs g)

@@ -3,6 +3,7 @@ pub mod Lay
 pub mod Each
 pub mod Sum
 pub mod Part
+pub mod FlatOf
 pub mod Flat
 pub mod Below
 pub mod Determined

@@ -4,9 +4,9 @@ use Prim.Native.Nat.{ℕ, _<_}
 use native.Mathlib.Omega.{arith}
 use mathlib.Core.Path.{_≡_, _∙_, ap, sym, refl}
 use Rattle.refusal.specs.declared.Reason.{Reason}
-use Rattle.refusal.specs.declared.Reason.the-variants.{TooLong, NoStart, StartCode, SecondUnit, Ends, Unfixed, FieldNumberZero, DescriptorLine, FieldFalls, LineDoesNotRise, FifthPriority, SampledVideo, WordRange, WordParity, SdpChecksum, Checksum, Unfit, NoRoom, Unholdable, AdditionalData, NotShown, OtherLine}
+use Rattle.refusal.specs.declared.Reason.the-variants.{TooLong, NoStart, StartCode, SecondUnit, Ends, Unfixed, FieldNumberZero, DescriptorLine, FieldFalls, LineDoesNotRise, FifthPriority, SampledVideo, WordRange, WordParity, SdpChecksum, Checksum, Unfit, NoRoom, Unholdable, AdditionalData, NotShown, OtherLine, UnknownUnit, SurplusUnit, UnitLine}
 use Rattle.refusal.specs.declared.Fixed.{Fixed}
-use Rattle.refusal.specs.declared.Fixed.the-variants.{Marker, Alignment, Stuffing, Identifier, FormatCode, RunIn, FramingCode, Footer}
+use Rattle.refusal.specs.declared.Fixed.the-variants.{Marker, Alignment, Stuffing, Identifier, FormatCode, RunIn, FramingCode, Footer, UnitReserved, UnitFraming}
 use Rattle.refusal.specs.declared.Verdict.{Verdict}
 use Rattle.refusal.specs.declared.Verdict.the-variants.{Accepted, Refused}
 use Rattle.refusal.specs.declared.Refusal.{Refusal}
@@ -22,6 +22,8 @@ fixed-not-zero Alignment = omega arith
 fixed-not-zero Stuffing = omega arith
 fixed-not-zero RunIn = omega arith
 fixed-not-zero FramingCode = omega arith
+fixed-not-zero UnitReserved = omega arith
+fixed-not-zero UnitFraming = omega arith
 
 number-not-zero : (reason : Reason) → 0 < numberOf reason
 number-not-zero TooLong = omega arith
@@ -46,6 +48,9 @@ number-not-zero (Unholdable which) = omega arith
 number-not-zero AdditionalData = omega arith
 number-not-zero NotShown = omega arith
 number-not-zero OtherLine = omega arith
+number-not-zero UnknownUnit = omega arith
+number-not-zero SurplusUnit = omega arith
+number-not-zero UnitLine = omega arith
 
 pub told-accepted : (verdict : Verdict) → refusalOf verdict .number ≡ 0 → verdict ≡ Accepted
 told-accepted Accepted e = refl

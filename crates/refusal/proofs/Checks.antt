@@ -57,6 +57,15 @@ pub each-accepted : {A : Type 0} (check : A → Verdict) (xs : List A) → Each 
 each-accepted check [] h = refl
 each-accepted check (x ∷ xs) h = andThen-accepted (check x) (first (map check xs)) (h .0) (each-accepted check xs (h .1))
 
+-- and a list of checks where each does
+pub accepted-all : (checks : List Verdict) → first checks ≡ Accepted → Each (λ (v : Verdict). v ≡ Accepted) checks
+accepted-all [] e = tt
+accepted-all (check ∷ checks) e = let both = accepted-andThen check (first checks) e in (both .0, accepted-all checks (both .1))
+
+pub all-accepted : (checks : List Verdict) → Each (λ (v : Verdict). v ≡ Accepted) checks → first checks ≡ Accepted
+all-accepted [] h = refl
+all-accepted (check ∷ checks) h = andThen-accepted check (first checks) (h .0) (all-accepted checks (h .1))
+
 -- nothing after it: the check decides
 pub andThen-last : (check : Verdict) → andThen check Accepted ≡ check
 andThen-last Accepted = refl

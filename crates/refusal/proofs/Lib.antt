@@ -1,4 +1,5 @@
 pub mod Checks
+pub mod Lines
 pub mod Sequence
 pub mod Acceptance
 pub mod Outputs

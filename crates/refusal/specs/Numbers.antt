@@ -3,11 +3,11 @@
 -- number are a reminder; RULES says when it is given.
 use Prim.Native.Nat.{ℕ}
 use Rattle.refusal.specs.declared.Reason.{Reason}
-use Rattle.refusal.specs.declared.Reason.the-variants.{TooLong, NoStart, StartCode, SecondUnit, Ends, Unfixed, FieldNumberZero, DescriptorLine, FieldFalls, LineDoesNotRise, FifthPriority, SampledVideo, WordRange, WordParity, SdpChecksum, Checksum, Unfit, NoRoom, Unholdable, AdditionalData, NotShown, OtherLine}
+use Rattle.refusal.specs.declared.Reason.the-variants.{TooLong, NoStart, StartCode, SecondUnit, Ends, Unfixed, FieldNumberZero, DescriptorLine, FieldFalls, LineDoesNotRise, FifthPriority, SampledVideo, WordRange, WordParity, SdpChecksum, Checksum, Unfit, NoRoom, Unholdable, AdditionalData, NotShown, OtherLine, UnknownUnit, SurplusUnit, UnitLine}
 use Rattle.refusal.specs.declared.Fixed.{Fixed}
-use Rattle.refusal.specs.declared.Fixed.the-variants.{Marker, Alignment, Stuffing, Identifier, FormatCode, RunIn, FramingCode, Footer}
+use Rattle.refusal.specs.declared.Fixed.the-variants.{Marker, Alignment, Stuffing, Identifier, FormatCode, RunIn, FramingCode, Footer, UnitReserved, UnitFraming}
 use Rattle.refusal.specs.declared.Item.{Item}
-use Rattle.refusal.specs.declared.Item.the-variants.{Whole, Bit, Body, Word, Length}
+use Rattle.refusal.specs.declared.Item.the-variants.{Whole, Bit, Body, Word, Byte, Length}
 use Rattle.refusal.specs.declared.Verdict.{Verdict}
 use Rattle.refusal.specs.declared.Verdict.the-variants.{Accepted, Refused}
 use Rattle.refusal.specs.declared.Refusal.{Refusal}
@@ -17,6 +17,8 @@ abbrev pub fixedNumber : Fixed → ℕ
 fixedNumber Identifier = 6
 fixedNumber FormatCode = 6
 fixedNumber Footer = 6
+fixedNumber UnitReserved = 6
+fixedNumber UnitFraming = 6
 fixedNumber Marker = 18
 fixedNumber Alignment = 19
 fixedNumber Stuffing = 19
@@ -40,6 +42,7 @@ numberOf (Unfixed which) = fixedNumber which
 numberOf FieldNumberZero = 7
 -- no such line
 numberOf DescriptorLine = 7
+numberOf UnitLine = 7
 -- out of order
 numberOf FieldFalls = 8
 numberOf LineDoesNotRise = 8
@@ -66,14 +69,19 @@ numberOf AdditionalData = 16
 numberOf NotShown = 21
 -- not on the line that is carried
 numberOf OtherLine = 22
+-- neither teletext nor stuffing
+numberOf UnknownUnit = 23
+-- a 32nd unit
+numberOf SurplusUnit = 24
 
--- in an area, for what failed in a unit's body, the bit of the area; in a packet the word; the length where that is at
--- fault. A value that is written has no place, and neither has a body that stands in no area
+-- in an area, for what failed in a unit's body, the bit of the area; in a packet the word; in a data field the byte; the
+-- length where that is at fault. A value that is written has no place, and neither has a body that stands in no area
 abbrev pub placeOf : Item → ℕ
 placeOf Whole = 0
 placeOf (Bit bit) = 0
 placeOf (Body unit bit) = bit
 placeOf (Word w) = w
+placeOf (Byte b) = b
 placeOf (Length n) = n
 
 -- an accepted answer has number and place 0

@@ -17,6 +17,9 @@ pub enum Fixed {
     RunIn,
     FramingCode,
     Footer,
+    // The two reserved bits of a data unit, and its framing code.
+    UnitReserved,
+    UnitFraming,
 }
 
 // Which length or count does not fit.
@@ -29,6 +32,8 @@ pub enum Misfit {
     Structures,
     // A payload's length is not one byte and whole access units.
     PayloadLength,
+    // A data unit's length is not that of teletext.
+    UnitLength,
 }
 
 // Which number its layout cannot hold.
@@ -66,6 +71,9 @@ pub enum Excess {
     PayloadSize,
     // A reel's run that ends within an access unit.
     RunLength,
+    DataIdentifier,
+    DataUnitId,
+    FieldParity,
 }
 
 // Why a check refused: finer than the numbers of RULES, since two reasons may share one.
@@ -95,6 +103,12 @@ pub enum Reason {
     NotShown,
     // A record on another line than film's caller set.
     OtherLine,
+    // A data_unit_id of neither teletext nor stuffing.
+    UnknownUnit,
+    // A unit behind the 31st of a data field.
+    SurplusUnit,
+    // A line_offset that no data unit may have.
+    UnitLine,
 }
 
 // What failed: the item's place, in its carriage's own measure.
@@ -108,6 +122,8 @@ pub enum Item {
     Body { unit: usize, bit: usize },
     // In a packet: the word.
     Word(usize),
+    // In a data field: the byte at which the failing item begins.
+    Byte(usize),
     // The length of the input.
     Length(usize),
 }
@@ -164,6 +180,9 @@ pub fn number(reason: Reason) -> u8
         Reason::AdditionalData => 16,
         Reason::NotShown => 21,
         Reason::OtherLine => 22,
+        Reason::UnknownUnit => 23,
+        Reason::SurplusUnit => 24,
+        Reason::UnitLine => 7,
     }
 }
 
@@ -180,6 +199,8 @@ fn fixed_number(which: Fixed) -> u8
         Fixed::Stuffing => 19,
         Fixed::RunIn => 20,
         Fixed::FramingCode => 20,
+        Fixed::UnitReserved => 6,
+        Fixed::UnitFraming => 6,
     }
 }
 
@@ -191,6 +212,7 @@ pub fn place(item: Item) -> usize
         Item::Bit(_) => 0,
         Item::Body { unit: _, bit } => bit,
         Item::Word(word) => word,
+        Item::Byte(byte) => byte,
         Item::Length(length) => length,
     }
 }

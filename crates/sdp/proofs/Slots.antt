@@ -13,36 +13,20 @@ use Rattle.lists.specs.Bytes.{Bytes}
 use Rattle.refusal.specs.declared.Verdict.the-variants.{Accepted}
 use Rattle.refusal.specs.declared.Item.{Item}
 use Rattle.refusal.specs.declared.Item.the-variants.{Word}
-use Rattle.refusal.proofs.Checks.{accepted-refuseIf, andThen-accepted}
+use Rattle.refusal.proofs.Checks.{accepted-refuseIf, refuseIf-accepted, andThen-accepted}
+use Rattle.refusal.proofs.Lines.{not-outside, among-inside}
 use Rattle.sdp.specs.Value.{SlotRow, descriptor, emptySlot, LegalLine, FullSlot, LegalSlot}
 use Rattle.sdp.specs.Layout.{descriptorsOf}
 use Rattle.sdp.specs.User.{lineVerdict, descriptorsVerdict, markOf, slotOf}
 
-or-false-both : (a b : Bool) → (a || b) ≡ false → (a ≡ false) × (b ≡ false)
-or-false-both true b e = absurd (true≢false e)
-or-false-both false b e = (refl, e)
-
 -- the check of a line lets through exactly 0 and 6 to 22
 pub accepted-line : (item : Item) (l : ℕ) → lineVerdict item l ≡ Accepted → LegalLine l
 unfolding lineVerdict
-accepted-line item zero e = inl refl
-accepted-line item (suc m) e =
-    let some : 0 < suc m = omega arith in
-    let both : (ltb (suc m) 6 || ltb 22 (suc m)) ≡ false =
-    sym (ap (λ (b : Bool). b && (ltb (suc m) 6 || ltb 22 (suc m))) (lt-ltb 0 (suc m) some)) ∙ accepted-refuseIf _ _ _ e in
-    let each = or-false-both (ltb (suc m) 6) (ltb 22 (suc m)) both in
-    inr (ltb-false (suc m) 6 (each .0), ltb-false 22 (suc m) (each .1))
-
-line-none : (item : Item) (l : ℕ) → l ≡ 0 → lineVerdict item l ≡ Accepted
-unfolding lineVerdict
-line-none item l e = let none : l ≤ 0 = omega arith in simp (le-ltb 0 l none)
-
-line-some : (item : Item) (l : ℕ) → (6 ≤ l) × (l ≤ 22) → lineVerdict item l ≡ Accepted
-unfolding lineVerdict
-line-some item l h = simp (le-ltb l 6 (h .0), le-ltb 22 l (h .1), and-false)
+accepted-line item l e = not-outside 6 l (accepted-refuseIf _ _ _ e)
 
 pub line-accepted : (item : Item) (l : ℕ) → LegalLine l → lineVerdict item l ≡ Accepted
-line-accepted item l h = ⊎-elim (line-none item l) (line-some item l) h
+unfolding lineVerdict
+line-accepted item l h = refuseIf-accepted _ _ _ (among-inside 6 l h)
 
 pub legal-below : (l : ℕ) → LegalLine l → l < 32
 legal-below l h = ⊎-elim (λ e. omega arith) (λ w. omega (arith, w .1)) h
