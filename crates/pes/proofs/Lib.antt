@@ -1,3 +1,4 @@
 pub mod Unit
 pub mod Units
 pub mod Field
+pub mod Lending

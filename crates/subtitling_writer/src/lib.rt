@@ -47,6 +47,15 @@ pub fn write_from(p: Packet, rows: &[[u8; ROW_BYTES]; SLOTS], out: &mut [u16]) -
     }
 }
 
+// Judges a value that would be written to an output of so many words.
+pub fn judge(p: Packet, rows: &[[u8; ROW_BYTES]; SLOTS], room: usize) -> Verdict
+    ensures { λ _. ⌜ Typed p (now (rows .entry)) ⌝ }
+    ensures { λ r. ⌜ r ≡ valueVerdict (held p (now (rows .entry))) room ⌝ }
+{
+    by_types(p, *rows);
+    judge_value(p, rows, room)
+}
+
 // What the types say, told of a lent array too. It does nothing.
 fn by_types(p: Packet, rows: [[u8; ROW_BYTES]; SLOTS])
     ensures { λ _. ⌜ Typed p rows ⌝ }

@@ -1,0 +1,114 @@
+-- Units as bytes in a lent array: what is laid is told again, and an array of bytes tells units as its type has them.
+-- Assumes nothing.
+use Prim.Native.Nat.{ℕ, suc, _+_, _*_, _≤_, _<_}
+use native.Mathlib.Omega.{arith}
+use mathlib.Core.Path.{_≡_, _∙_, ap, ap₂, sym, subst, refl}
+use mathlib.Core.Bool.{Bool, true, false}
+use mathlib.Core.List.{List, [], _∷_, _++_, map}
+use borrow.Author.Tests.{ne-eqb, eqb-true, eqb-false}
+use lib.Dec.{eqb}
+use lib.ListN.{length, getD, take, drop, length-map, length-drop}
+use lib.Seq.{length-take-le, take-at}
+use Rattle.lists.specs.Each.{Each}
+use Rattle.lists.specs.Bytes.{Bytes}
+use Rattle.lists.specs.Room.{filled}
+use Rattle.lists.specs.Flat.{taken}
+use Rattle.lists.proofs.Each.{each-of, each-take, each-drop, each-map, each-at}
+use Rattle.lists.proofs.FlatOf.{length-taken, getD-taken, flat-whole, flat-filled, taken-flat}
+use Rattle.bits.specs.Bits.{reversed}
+use Rattle.pes.specs.Value.{DataUnit, teletext, stuffing, Told, TypedUnit, Typed, LegalUnit, blank, stored, held}
+use Rattle.pes.specs.Reading.{unitOf, readUnit}
+use Rattle.pes.specs.Lent.{unitBytes, unitsBytes, toldUnit, unitIn, unitsIn, fieldIn}
+use Rattle.pes.proofs.Unit.{Sized, legal-sized}
+
+-- ONE UNIT
+
+pub length-lent : (x : DataUnit) → Sized x → length (unitBytes x) ≡ 45
+length-lent (teletext t) h = omega arith
+length-lent (stuffing bytes) h = omega arith
+
+pub typed-sized : (x : DataUnit) → TypedUnit x → Sized x
+typed-sized (teletext t) h = h .places
+typed-sized (stuffing bytes) h = h .places
+
+in-back : (x : DataUnit) (rest : List ℕ) → TypedUnit x → unitIn (unitBytes x ++ rest) ≡ x
+unfolding unitIn
+in-back (teletext t) rest h =
+    ap (λ (k : Bool). toldUnit k (unitBytes (teletext t) ++ rest)) (ne-eqb (t .«data_unit_id») 0xFF (h .other))
+    ∙ ap (λ (row : List ℕ). teletext (record { «data_unit_id» = t .«data_unit_id»; «field_parity» = t .«field_parity»; «line_offset» = t .«line_offset»; row = row }))
+    (take-at (t .row) rest 42 (h .places))
+in-back (stuffing bytes) rest h = ap stuffing (take-at bytes rest 44 (h .places))
+
+-- 45 bytes tell a unit that has them,
+told-same : (k : Bool) (s : List ℕ) → 45 ≤ length s → eqb (getD s 0 0) 0xFF ≡ k → unitBytes (toldUnit k s) ≡ take 45 s
+told-same k [] h e = let f : ⊥ = omega arith in absurd f
+told-same true (a ∷ s) h e = ap (λ (x : ℕ). x ∷ take 44 s) (sym (eqb-true a 0xFF e))
+told-same false (a ∷ []) h e = let f : ⊥ = omega arith in absurd f
+told-same false (a ∷ b ∷ []) h e = let f : ⊥ = omega arith in absurd f
+told-same false (a ∷ b ∷ c ∷ s) h e = refl
+
+in-same : (s : List ℕ) → 45 ≤ length s → unitBytes (unitIn s) ≡ take 45 s
+unfolding unitIn
+in-same s h = told-same (eqb (getD s 0 0) 0xFF) s h refl
+
+-- as its type has it
+told-typed : (k : Bool) (s : List ℕ) → Bytes s → 45 ≤ length s → eqb (getD s 0 0) 0xFF ≡ k → TypedUnit (toldUnit k s)
+told-typed k [] bytes h e = let f : ⊥ = omega arith in absurd f
+told-typed true (a ∷ s) bytes h e = record { places = length-take-le 44 s (omega arith); carried = each-take (λ (x : ℕ). x < 256) 44 s (bytes .1) }
+told-typed false (a ∷ []) bytes h e = let f : ⊥ = omega arith in absurd f
+told-typed false (a ∷ b ∷ []) bytes h e = let f : ⊥ = omega arith in absurd f
+told-typed false (a ∷ b ∷ c ∷ s) bytes h e =
+    record {
+      other = eqb-false a 0xFF e;
+      places = length-take-le 42 s (omega arith);
+      bytes = each-take (λ (x : ℕ). x < 256) 42 s (bytes .1 .1 .1);
+    }
+
+pub in-typed : (s : List ℕ) → Bytes s → 45 ≤ length s → TypedUnit (unitIn s)
+unfolding unitIn
+in-typed s bytes h = told-typed (eqb (getD s 0 0) 0xFF) s bytes h refl
+
+-- and so is what is read, in its size
+read-sized : (k : Bool) (u : List ℕ) → 46 ≤ length u → Sized (unitOf k u)
+read-sized true u h = length-take-le 44 (drop 2 u) (omega (arith, length-drop 2 u))
+read-sized false u h = length-map (take 42 (drop 4 u)) reversed ∙ length-take-le 42 (drop 4 u) (omega (arith, length-drop 4 u))
+
+pub unit-sized : (u : List ℕ) → 46 ≤ length u → Sized (readUnit u)
+unfolding readUnit
+unit-sized u h = read-sized (eqb (getD u 0 0) 0xFF) u h
+
+-- ALL PLACES OF AN ARRAY
+
+pub places : (s : List ℕ) → length (unitsIn s) ≡ 31
+places s = length-taken unitIn 45 31 s
+
+each-typed : (s : List ℕ) → Bytes s → length s ≡ 1395 → Each TypedUnit (unitsIn s)
+each-typed s bytes e =
+    each-of TypedUnit blank (unitsIn s)
+    (λ i below.
+    let place : i < 31 = omega (arith, below, places s) in
+    subst TypedUnit (sym (getD-taken unitIn 45 blank 31 i s place))
+    (in-typed (drop (45 * i) s) (each-drop (λ (x : ℕ). x < 256) (45 * i) s bytes) (omega (arith, length-drop (45 * i) s))))
+
+pub lent-typed : (identifier n : ℕ) (s : List ℕ) → Bytes s → length s ≡ 1395 → Typed (fieldIn identifier n s)
+lent-typed identifier n s bytes e = record { places = places s; units = each-typed s bytes e }
+
+-- units that fill the array are told again
+pub lent-units : (us : List DataUnit) → Each TypedUnit us → length us ≡ 31 → unitsIn (unitsBytes us) ≡ us
+lent-units us h e = flat-whole unitBytes 45 TypedUnit (λ x t. length-lent x (typed-sized x t)) unitIn in-back us h 31 e
+
+pub lent-held : (t : Told) → Typed t → fieldIn (t .«data_identifier») (t .n) (unitsBytes (t .units)) ≡ t
+lent-held t h =
+    ap (λ (us : List DataUnit). record { «data_identifier» = t .«data_identifier»; n = t .n; units = us }) (lent-units (t .units) (h .units) (h .places))
+
+-- room beyond the units is zeros
+pub lent-filled : (us : List DataUnit) → Each Sized us → length us ≤ 31 → unitsBytes (filled us 31 blank) ≡ filled (unitsBytes us) 1395 0
+lent-filled us h few = flat-filled unitBytes 45 Sized length-lent blank refl us h 31 few
+
+-- the first n units of an array, stored again: their bytes, and zeros behind them
+pub lent-front : (identifier n : ℕ) (s : List ℕ) → n ≤ 31 → length s ≡ 1395 → Each Sized (take n (unitsIn s))
+    → unitsBytes (stored (held (fieldIn identifier n s)) .units) ≡ filled (take (45 * n) s) 1395 0
+lent-front identifier n s few e h =
+    let count = length-take-le n (unitsIn s) (omega (arith, places s)) in
+    lent-filled (take n (unitsIn s)) h (omega (arith, count))
+    ∙ ap (λ (front : List ℕ). filled front 1395 0) (taken-flat unitBytes 45 unitIn in-same 31 n s few (omega arith))
