@@ -4,3 +4,4 @@ pub mod Field
 pub mod Lending
 pub mod Judged
 pub mod Answers
+pub mod Writable

@@ -84,5 +84,5 @@ read-into-spec =
     (λ c. omega (arith, accepts c .some))
     (λ c. search needs)
     store-requires
-    (λ c. omega (arith, accepts (c .before .before .before) .some))
+    (λ c. omega (arith, accepts (c .before .before .before .before) .some))
     stores)
