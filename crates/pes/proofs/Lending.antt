@@ -15,10 +15,10 @@ use Rattle.lists.specs.Part.{part}
 use Rattle.lists.specs.Room.{filled, over}
 use Rattle.lists.specs.Flat.{taken}
 use Rattle.lists.proofs.Each.{each-of, each-take, each-drop, each-map, each-at}
-use Rattle.lists.proofs.FlatOf.{length-taken, getD-taken, length-flat, flat-whole, flat-filled, flat-over, taken-flat, taken-each}
+use Rattle.lists.proofs.FlatOf.{length-taken, getD-taken, length-flat, flat-whole, flat-filled, flat-over, taken-take, taken-flat, taken-each}
 use Rattle.bits.specs.Bits.{reversed}
-use Rattle.pes.specs.Value.{DataUnit, teletext, stuffing, Told, TypedUnit, Typed, LegalUnit, blank, stored, held}
-use Rattle.pes.specs.Layout.{layoutUnit, layoutUnits}
+use Rattle.pes.specs.Value.{Teletext, DataUnit, teletext, stuffing, Told, TypedUnit, Typed, LegalUnit, blank, stored, held}
+use Rattle.pes.specs.Layout.{layoutUnit, layoutUnits, layout}
 use Rattle.pes.specs.Reading.{unitOf, readUnit}
 use Rattle.pes.specs.Lent.{unitBytes, unitsBytes, toldUnit, unitIn, unitsIn, fieldIn}
 use Rattle.pes.proofs.Unit.{Sized, length-layout}
@@ -113,15 +113,25 @@ pub length-told : (n : ℕ) (s : List ℕ) → 45 * n ≤ length s → length (l
 length-told n s long =
     length-flat layoutUnit 46 Sized length-layout (taken unitIn 45 n s) (each-told n s long) ∙ ap (λ (k : ℕ). 46 * k) (length-taken unitIn 45 n s)
 
--- the bytes of what is told in the stream, by its kind
-pub told-stuffing : (s : List ℕ) → getD s 0 0 ≡ 0xFF → layoutUnit (unitIn s) ≡ getD s 0 0 ∷ 0x2C ∷ part 1 45 s
+-- what is told, by its kind
+pub in-stuffing : (s : List ℕ) → getD s 0 0 ≡ 0xFF → unitIn s ≡ stuffing (part 1 45 s)
 unfolding unitIn
-told-stuffing s e = ap (λ (k : Bool). layoutUnit (toldUnit k s)) (eq-eqb (getD s 0 0) 0xFF e) ∙ ap (λ (id : ℕ). id ∷ 0x2C ∷ part 1 45 s) (sym e)
+in-stuffing s e = ap (λ (k : Bool). toldUnit k s) (eq-eqb (getD s 0 0) 0xFF e)
+
+abbrev pub teletextIn : List ℕ → Teletext
+teletextIn s = record { «data_unit_id» = getD s 0 0; «field_parity» = getD s 1 0; «line_offset» = getD s 2 0; row = part 3 45 s }
+
+pub in-teletext : (s : List ℕ) → (getD s 0 0 ≡ 0xFF → ⊥) → unitIn s ≡ teletext (teletextIn s)
+unfolding unitIn
+in-teletext s other = ap (λ (k : Bool). toldUnit k s) (ne-eqb (getD s 0 0) 0xFF other)
+
+-- and its bytes in the stream
+pub told-stuffing : (s : List ℕ) → getD s 0 0 ≡ 0xFF → layoutUnit (unitIn s) ≡ getD s 0 0 ∷ 0x2C ∷ part 1 45 s
+told-stuffing s e = ap layoutUnit (in-stuffing s e) ∙ ap (λ (id : ℕ). id ∷ 0x2C ∷ part 1 45 s) (sym e)
 
 pub told-teletext : (s : List ℕ) → (getD s 0 0 ≡ 0xFF → ⊥)
     → layoutUnit (unitIn s) ≡ getD s 0 0 ∷ 0x2C ∷ (192 + 32 * getD s 1 0 + getD s 2 0) ∷ 0xE4 ∷ map reversed (part 3 45 s)
-unfolding unitIn
-told-teletext s other = ap (λ (k : Bool). layoutUnit (toldUnit k s)) (ne-eqb (getD s 0 0) 0xFF other)
+told-teletext s other = ap layoutUnit (in-teletext s other)
 
 -- ALL PLACES OF AN ARRAY
 
@@ -162,3 +172,11 @@ lent-front identifier n s few e h =
     let count = length-take-le n (unitsIn s) (omega (arith, places s)) in
     lent-filled (take n (unitsIn s)) h (omega (arith, count))
     ∙ ap (λ (front : List ℕ). filled front 1395 0) (taken-flat unitBytes 45 unitIn in-same 31 n s few (omega arith))
+
+-- they are those that are taken one by one, and have their bytes in the stream
+pub front-taken : (n : ℕ) (s : List ℕ) → n ≤ 31 → take n (unitsIn s) ≡ taken unitIn 45 n s
+front-taken n s few = taken-take unitIn 45 n 31 s few
+
+pub length-front : (identifier n : ℕ) (s : List ℕ) → n ≤ 31 → length s ≡ 1395 → length (layout (held (fieldIn identifier n s))) ≡ 1 + 46 * n
+length-front identifier n s few e =
+    omega (arith, ap (λ (us : List DataUnit). length (layoutUnits us)) (front-taken n s few), length-told n s (omega arith))
