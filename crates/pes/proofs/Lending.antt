@@ -1,8 +1,9 @@
 -- Units as bytes in a lent array: what is laid is told again, and an array of bytes tells units as its type has them.
 -- Assumes nothing.
-use Prim.Native.Nat.{ℕ, suc, _+_, _*_, _/_, _%_, _≤_, _<_}
+use Prim.Native.Nat.{ℕ, suc, _+_, _-_, _*_, _/_, _%_, _≤_, _<_}
 use native.Mathlib.Omega.{arith}
 use mathlib.Core.Path.{_≡_, _∙_, ap, ap₂, sym, subst, refl}
+use mathlib.Core.Logic.{⊎-elim}
 use mathlib.Core.Bool.{Bool, true, false}
 use mathlib.Core.List.{List, [], _∷_, _++_, map}
 use borrow.Author.Tests.{eq-eqb, ne-eqb, eqb-true, eqb-false}
@@ -14,10 +15,11 @@ use Rattle.lists.specs.Bytes.{Bytes}
 use Rattle.lists.specs.Part.{part}
 use Rattle.lists.specs.Room.{filled, over}
 use Rattle.lists.specs.Flat.{taken}
-use Rattle.lists.proofs.Each.{each-of, each-take, each-drop, each-map, each-at}
+use Rattle.lists.proofs.Each.{each-of, each-take, each-drop, each-map, each-append, each-replicate}
+use Rattle.lists.proofs.Fill.{length-filled}
 use Rattle.lists.proofs.FlatOf.{length-taken, getD-taken, length-flat, flat-whole, flat-filled, flat-over, taken-take, taken-flat, taken-each}
 use Rattle.bits.specs.Bits.{reversed}
-use Rattle.pes.specs.Value.{Teletext, DataUnit, teletext, stuffing, Told, TypedUnit, Typed, LegalUnit, blank, stored, held}
+use Rattle.pes.specs.Value.{Teletext, DataUnit, DataField, teletext, stuffing, LegalUnit, Legal, Told, TypedUnit, Typed, blank, stored, held}
 use Rattle.pes.specs.Layout.{layoutUnit, layoutUnits, layout}
 use Rattle.pes.specs.Reading.{unitOf, readUnit}
 use Rattle.pes.specs.Lent.{unitBytes, unitsBytes, toldUnit, unitIn, unitsIn, fieldIn}
@@ -180,3 +182,20 @@ front-taken n s few = taken-take unitIn 45 n 31 s few
 pub length-front : (identifier n : ℕ) (s : List ℕ) → n ≤ 31 → length s ≡ 1395 → length (layout (held (fieldIn identifier n s))) ≡ 1 + 46 * n
 length-front identifier n s few e =
     omega (arith, ap (λ (us : List DataUnit). length (layoutUnits us)) (front-taken n s few), length-told n s (omega arith))
+
+-- a legal value as it is told is one as the type of a lent array has it
+legal-typed : (x : DataUnit) → LegalUnit x → TypedUnit x
+legal-typed (teletext t) h = record { other = ⊎-elim (λ e f. omega (arith, e, f)) (λ e f. omega (arith, e, f)) (h .id); places = h .places; bytes = h .bytes }
+legal-typed (stuffing bytes) h = h
+
+blank-typed : TypedUnit blank
+blank-typed = record { other = λ e. omega (arith, e); places = refl; bytes = each-replicate (λ (b : ℕ). b < 256) 42 0 (omega arith) }
+
+pub stored-typed : (v : DataField) → Legal v → Typed (stored v)
+stored-typed v h =
+    let us = v .units in
+    let rest = 31 - length us in
+    record {
+      places = length-filled us 31 blank (h .few);
+      units = each-append TypedUnit us (replicate rest blank) (each-map LegalUnit TypedUnit legal-typed us (h .each)) (each-replicate TypedUnit rest blank blank-typed);
+    }
