@@ -5,3 +5,7 @@ pub mod Lending
 pub mod Judged
 pub mod Answers
 pub mod Writable
+pub mod Accepting
+pub mod Writing
+pub mod BothWays
+pub mod Determined
