@@ -17,7 +17,7 @@ use Rattle.lists.specs.Room.{filled, over}
 use Rattle.lists.specs.Flat.{taken}
 use Rattle.lists.proofs.Each.{each-of, each-take, each-drop, each-map, each-append, each-replicate}
 use Rattle.lists.proofs.Fill.{length-filled}
-use Rattle.lists.proofs.FlatOf.{length-taken, getD-taken, length-flat, flat-whole, flat-filled, flat-over, taken-take, taken-flat, taken-each}
+use Rattle.lists.proofs.FlatOf.{length-taken, getD-taken, length-flat, flat-taken, flat-whole, flat-filled, flat-over, taken-take, taken-flat, taken-each}
 use Rattle.bits.specs.Bits.{reversed}
 use Rattle.pes.specs.Value.{Teletext, DataUnit, DataField, teletext, stuffing, LegalUnit, Legal, Told, TypedUnit, Typed, blank, stored, held}
 use Rattle.pes.specs.Layout.{layoutUnit, layoutUnits, layout}
@@ -154,6 +154,10 @@ lent-typed identifier n s bytes e = record { places = places s; units = each-typ
 -- units that fill the array are told again
 pub lent-units : (us : List DataUnit) → Each TypedUnit us → length us ≡ 31 → unitsIn (unitsBytes us) ≡ us
 lent-units us h e = flat-whole unitBytes 45 TypedUnit (λ x t. length-lent x (typed-sized x t)) unitIn in-back us h 31 e
+
+-- and so are those at its front, whatever stands behind them
+pub lent-first : (us : List DataUnit) → Each TypedUnit us → (rest : List ℕ) → taken unitIn 45 (length us) (unitsBytes us ++ rest) ≡ us
+lent-first us h rest = flat-taken unitBytes 45 TypedUnit (λ x t. length-lent x (typed-sized x t)) unitIn in-back us h rest
 
 pub lent-held : (t : Told) → Typed t → fieldIn (t .«data_identifier») (t .n) (unitsBytes (t .units)) ≡ t
 lent-held t h =
