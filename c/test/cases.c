@@ -270,7 +270,7 @@ static operation some_operation(dice *d)
                                       PACKET_READ,  PACKET_READ,  PACKET_WRITE, PACKET_WRITE, PAYLOAD_READ, PAYLOAD_WRITE,
                                       FILM_RUN,     FILM_RUN,     PAYLOAD_REEL, PAYLOAD_REEL, PES_READ,     PES_READ,
                                       PES_READ,     PES_READ,     PES_WRITE,    PES_WRITE,    PES_CONVERT,  PES_CONVERT,
-                                      PES_CONVERT_VALUE, PES_CONVERT_VALUE};
+                                      PES_CONVERT_VALUE,          PES_CONVERT_VALUE};
 
     return often[below(d, sizeof often / sizeof *often)];
 }

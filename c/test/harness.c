@@ -43,8 +43,8 @@ void harness_open(void)
 
 bool is_writer(operation op)
 {
-    return takes_unit(op) || takes_ga94(op) || takes_packet(op) || op == PES_WRITE || op == PES_CONVERT || op == PAYLOAD_WRITE ||
-           op == PAYLOAD_REEL;
+    return takes_unit(op) || takes_ga94(op) || takes_packet(op) || op == PES_WRITE || op == PES_CONVERT ||
+           op == PAYLOAD_WRITE || op == PAYLOAD_REEL;
 }
 
 bool takes_input(operation op)

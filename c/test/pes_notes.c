@@ -13,7 +13,8 @@ typedef enum fault { ID, LENGTH, RESERVED, LINE, FRAMING, FAULTS } fault;
 typedef enum value_fault { VALUE_ID, VALUE_PARITY, VALUE_LINE, OTHER_LINE, VALUE_FAULTS } value_fault;
 
 static const char *const fault_names[FAULTS] = {"id", "length", "reserved bits", "line", "framing code"};
-static const char *const value_names[VALUE_FAULTS] = {"id", "field_parity above 1", "line_offset above 31", "line_offset not legal"};
+static const char *const value_names[VALUE_FAULTS] = {"id", "field_parity above 1", "line_offset above 31",
+                                                      "line_offset not legal"};
 
 /* Where a unit stands: the first of several, the last of 31, and all between. */
 typedef enum position { FIRST, BETWEEN, LAST, POSITIONS } position;

@@ -244,11 +244,10 @@ static bool enough_accepted(int i)
 
 /* ---- The tables ---- */
 
-static const int order[ROWS] = {AREA_READ,    UNIT_WRITE,    AREA_REPLACE,          ROW_REPLACE_AREA, GA94_READ,
-                                GA94_WRITE,   GA94_REPLACE,  ROW_GA94_REPLACE_AREA, PACKET_READ,      PACKET_WRITE,
-                                PES_READ,     PES_WRITE,     PES_CONVERT,           PES_CONVERT_VALUE,
-                                PAYLOAD_READ, PAYLOAD_WRITE, PAYLOAD_REEL,          ROW_REEL_BYTES,   FILM_RUN,
-                                ROW_FILM_CLOSE};
+static const int order[ROWS] = {AREA_READ,     UNIT_WRITE,   AREA_REPLACE,          ROW_REPLACE_AREA,  GA94_READ,
+                                GA94_WRITE,    GA94_REPLACE, ROW_GA94_REPLACE_AREA, PACKET_READ,       PACKET_WRITE,
+                                PES_READ,      PES_WRITE,    PES_CONVERT,           PES_CONVERT_VALUE, PAYLOAD_READ,
+                                PAYLOAD_WRITE, PAYLOAD_REEL, ROW_REEL_BYTES,        FILM_RUN,          ROW_FILM_CLOSE};
 
 static void print_heads(void)
 {
