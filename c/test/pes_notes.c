@@ -281,17 +281,17 @@ static size_t first_wrong(const pes_value *v)
 static void note_wrong_value(const question *q, size_t k)
 {
     const pes_value *v = &q->pes;
-    value_fault fault = fault_of(&v->units[k]);
+    value_fault first = fault_of(&v->units[k]);
     bool bad_line = v->units[k].of.teletext.line_offset <= 31 && !line_is_legal(v->units[k].of.teletext.line_offset);
 
-    note_position(met.wrong_values[fault], k, v->n);
-    met.meetings[ID_AND_LINE] += fault == VALUE_ID && bad_line;
-    met.meetings[PARITY_AND_LINE] += fault == VALUE_PARITY && bad_line;
+    note_position(met.wrong_values[first], k, v->n);
+    met.meetings[ID_AND_LINE] += first == VALUE_ID && bad_line;
+    met.meetings[PARITY_AND_LINE] += first == VALUE_PARITY && bad_line;
     met.meetings[UNIT_AND_ROOM] += q->room < 1 + LAYOUT_DATA_UNIT * v->n;
     for (size_t i = k + 1; i < v->n; i++) {
         value_fault later = fault_of(&v->units[i]);
-        met.meetings[LATER_7] += fault != OTHER_LINE && later == OTHER_LINE;
-        met.meetings[LATER_15] += fault == OTHER_LINE && later < OTHER_LINE;
+        met.meetings[LATER_7] += first != OTHER_LINE && later == OTHER_LINE;
+        met.meetings[LATER_15] += first == OTHER_LINE && later < OTHER_LINE;
     }
 }
 
