@@ -4,9 +4,9 @@
 #include <stdio.h>
 #include <string.h>
 
-#include "model.h"
+#include "convert_notes.h"
 
-enum { PES_LEAST = 20, LINES = 32, PATTERNS = 1 << CAPTIONS_SLOTS, ITEM_BYTES = 4 };
+enum { PES_LEAST = 20, ROW = 4 /* the byte of a unit at which its row begins */ };
 
 /* What can be wrong in a unit, in the order of checks: as it is read, and as a value. */
 typedef enum fault { ID, LENGTH, RESERVED, LINE, FRAMING, FAULTS } fault;
@@ -20,11 +20,6 @@ static const char *const value_names[VALUE_FAULTS] = {"id", "field_parity above 
 typedef enum position { FIRST, BETWEEN, LAST, POSITIONS } position;
 
 static const char *const position_names[POSITIONS] = {"in the first unit of several", "in a unit between", "in the 31st unit"};
-
-/* From words, and from a value. */
-typedef enum way { WORDS, VALUE, WAYS } way;
-
-static const char *const way_names[WAYS] = {"words", "value"};
 
 typedef enum meeting {
     READ_BOTH_KINDS,
@@ -58,10 +53,6 @@ typedef enum meeting {
     UNIT_AND_ROOM,
     SHORT_BY_ONE,
     SHORT_BY_ALL,
-    LINE_6_AND_15,
-    LINE_6_AND_7,
-    LINE_6_AND_COUNTER,
-    LINE_6_AND_PACKET,
     MEETINGS
 } meeting;
 
@@ -97,10 +88,6 @@ static const char *const meeting_names[MEETINGS] = {
     "two faults: a unit, then too short a room",
     "written: too short a room by one byte",
     "written: no room",
-    "value: line 6, and 15 in a later slot",
-    "value: line 6, and a packet's 7 in a later slot",
-    "value: line 6, and a counter above 65,535",
-    "words: line 6, in a packet that is refused",
 };
 
 static struct {
@@ -111,14 +98,9 @@ static struct {
     unsigned long wrong[FAULTS][POSITIONS], wrong_values[VALUE_FAULTS][POSITIONS];
     unsigned long in_one[FAULTS][FAULTS]; /* a fault, and one that comes later in the same unit */
     unsigned long in_two[FAULTS][FAULTS]; /* and one of a later unit */
-    unsigned long patterns[WAYS][PATTERNS]; /* accepted, by which slots are full */
-    unsigned long lines_converted[WAYS][2][LINES];
-    unsigned long dropped[WAYS]; /* accepted, with reserved bits */
-    unsigned long line_6[WAYS][CAPTIONS_SLOTS]; /* by the lowest slot that has it */
-    unsigned long line_6_twice[WAYS], line_6_no_room[WAYS], short_by_one[WAYS], nothing_no_room[WAYS];
 } met;
 
-static bool line_is_legal(unsigned line)
+bool is_legal_line(unsigned line)
 {
     return line == 0 || (line >= 7 && line <= 22);
 }
@@ -169,7 +151,7 @@ static void find_faults(const uint8_t *unit, bool found[FAULTS])
     found[ID] = unit[0] != 0x02 && unit[0] != 0x03 && !stuffing;
     found[LENGTH] = unit[1] != 0x2C;
     found[RESERVED] = !stuffing && unit[2] / 64 != 3;
-    found[LINE] = !stuffing && !line_is_legal(unit[2] % 32);
+    found[LINE] = !stuffing && !is_legal_line(unit[2] % 32);
     found[FRAMING] = !stuffing && unit[3] != 0xE4;
 }
 
@@ -205,7 +187,7 @@ static void note_end(const question *q, size_t place)
     met.meetings[READ_CUT_LENGTH] += item == 1;
     met.meetings[READ_CUT_LINE] += item == 2 && !stuffing;
     met.meetings[READ_CUT_FRAMING] += item == 3;
-    met.meetings[READ_CUT_ROW] += item == ITEM_BYTES;
+    met.meetings[READ_CUT_ROW] += item == ROW;
     met.meetings[READ_CUT_STUFFING] += item == 2 && stuffing;
 }
 
@@ -251,7 +233,7 @@ static value_fault fault_of(const captions_data_unit *unit)
         return VALUE_PARITY;
     if (t->line_offset > 31)
         return VALUE_LINE;
-    return line_is_legal(t->line_offset) ? VALUE_FAULTS : OTHER_LINE;
+    return is_legal_line(t->line_offset) ? VALUE_FAULTS : OTHER_LINE;
 }
 
 static void note_written(const question *q)
@@ -282,7 +264,7 @@ static void note_wrong_value(const question *q, size_t k)
 {
     const pes_value *v = &q->pes;
     value_fault first = fault_of(&v->units[k]);
-    bool bad_line = v->units[k].of.teletext.line_offset <= 31 && !line_is_legal(v->units[k].of.teletext.line_offset);
+    bool bad_line = v->units[k].of.teletext.line_offset <= 31 && !is_legal_line(v->units[k].of.teletext.line_offset);
 
     note_position(met.wrong_values[first], k, v->n);
     met.meetings[ID_AND_LINE] += first == VALUE_ID && bad_line;
@@ -320,93 +302,6 @@ static void note_writing(const question *q, const outcome *got)
         note_wrong_value(q, k);
 }
 
-/* ---- Converting ---- */
-
-static void note_converted(way w, const captions_slot *slots)
-{
-    size_t pattern = 0;
-    bool reserved = false;
-
-    for (size_t i = 0; i < CAPTIONS_SLOTS; i++) {
-        if (slots[i].full == 0)
-            continue;
-        pattern |= (size_t)1 << i;
-        reserved = reserved || slots[i].reserved != 0;
-        met.lines_converted[w][slots[i].field][slots[i].line]++;
-    }
-    met.patterns[w][pattern]++;
-    met.dropped[w] += reserved;
-}
-
-/* A legal packet. */
-static void note_slots(way w, const question *q, const outcome *got, const captions_slot *slots)
-{
-    size_t lowest = CAPTIONS_SLOTS, with = 0, full = 0, len;
-
-    for (size_t i = CAPTIONS_SLOTS; i-- > 0;) {
-        full += slots[i].full;
-        if (slots[i].full == 0 || slots[i].line != 6)
-            continue;
-        lowest = i;
-        with++;
-    }
-    len = 1 + LAYOUT_DATA_UNIT * full;
-    if (lowest < CAPTIONS_SLOTS)
-        met.line_6[w][lowest]++;
-    met.line_6_twice[w] += with > 1;
-    met.line_6_no_room[w] += with > 0 && q->room < len;
-    met.short_by_one[w] += got->numbers[0] == 14 && q->room + 1 == len;
-    met.nothing_no_room[w] += got->numbers[0] == 14 && full == 0;
-    if (got->numbers[0] == 0)
-        note_converted(w, slots);
-}
-
-/* What a packet of slot i alone is refused with. */
-static uint8_t slot_number(const packet_value *v, size_t i)
-{
-    uint16_t words[CAPTIONS_PACKET_WORDS];
-    packet_value alone;
-
-    memset(&alone, 0, sizeof alone);
-    alone.slots[i] = v->slots[i];
-    alone.rows[i] = v->rows[i];
-    return model_packet_write(0, alone.slots, alone.rows, words, CAPTIONS_PACKET_WORDS).refusal.number;
-}
-
-/* A value that is no packet's, with line 6 in a slot before the wrong one. */
-static void note_bad_value(const packet_value *v)
-{
-    bool line_6 = false;
-
-    for (size_t i = 0; i < CAPTIONS_SLOTS; i++) {
-        uint8_t number = slot_number(v, i);
-        met.meetings[LINE_6_AND_15] += line_6 && number == 15;
-        met.meetings[LINE_6_AND_7] += line_6 && number == 7;
-        line_6 = line_6 || (v->slots[i].full == 1 && v->slots[i].line == 6);
-    }
-    met.meetings[LINE_6_AND_COUNTER] += line_6 && v->counter > 65535;
-}
-
-static void note_conversion(const question *q, const outcome *got)
-{
-    captions_row rows[CAPTIONS_SLOTS];
-    uint16_t words[CAPTIONS_PACKET_WORDS];
-    captions_packet packet;
-
-    if (q->op == PES_CONVERT) {
-        packet = model_packet_read(q->words, q->len, rows);
-        if (packet.refusal.number == 0)
-            note_slots(WORDS, q, got, packet.slots);
-        for (size_t i = LAYOUT_DESCRIPTORS; packet.refusal.number != 0 && q->len >= 20 && i < LAYOUT_STRUCTURES; i++)
-            met.meetings[LINE_6_AND_PACKET] += q->words[i] % 32 == 6;
-    } else if (model_packet_write(q->packet.counter, q->packet.slots, q->packet.rows, words, CAPTIONS_PACKET_WORDS)
-                   .refusal.number == 0) {
-        note_slots(VALUE, q, got, q->packet.slots);
-    } else {
-        note_bad_value(&q->packet);
-    }
-}
-
 void note_pes(const question *q, const outcome *by_model)
 {
     if (q->op == PES_READ)
@@ -419,9 +314,7 @@ void note_pes(const question *q, const outcome *by_model)
 
 /* ---- Telling ---- */
 
-typedef void (*teller)(const char *, unsigned long);
-
-static void tell_least(teller with, const char *name, const unsigned long *counts, size_t count)
+void tell_least(teller with, const char *name, const unsigned long *counts, size_t count)
 {
     unsigned long least = counts[0];
 
@@ -431,14 +324,13 @@ static void tell_least(teller with, const char *name, const unsigned long *count
     with(name, least);
 }
 
-/* Of the legal lines, in both fields. */
-static void tell_lines(teller with, const char *name, unsigned long counts[2][LINES])
+void tell_lines(teller with, const char *name, unsigned long counts[2][LINES])
 {
     unsigned long legal[2 * LINES];
     size_t count = 0;
 
     for (size_t i = 0; i < 2 * LINES; i++)
-        if (line_is_legal((unsigned)(i % LINES)))
+        if (is_legal_line((unsigned)(i % LINES)))
             legal[count++] = counts[i / LINES][i % LINES];
     tell_least(with, name, legal, count);
 }
@@ -469,30 +361,6 @@ static void tell_faults(teller with)
         }
 }
 
-static void tell_way(teller with, way w)
-{
-    char name[96];
-
-    snprintf(name, sizeof name, "%s: each pattern of full slots, at least", way_names[w]);
-    tell_least(with, name, met.patterns[w], PATTERNS);
-    snprintf(name, sizeof name, "%s: each line of each field, at least", way_names[w]);
-    tell_lines(with, name, met.lines_converted[w]);
-    snprintf(name, sizeof name, "%s: reserved bits that are dropped", way_names[w]);
-    with(name, met.dropped[w]);
-    for (int i = 0; i < CAPTIONS_SLOTS; i++) {
-        snprintf(name, sizeof name, "%s: line 6, first in slot %d", way_names[w], i);
-        with(name, met.line_6[w][i]);
-    }
-    snprintf(name, sizeof name, "%s: line 6 in two slots", way_names[w]);
-    with(name, met.line_6_twice[w]);
-    snprintf(name, sizeof name, "%s: line 6, and too short a room", way_names[w]);
-    with(name, met.line_6_no_room[w]);
-    snprintf(name, sizeof name, "%s: too short a room by one byte", way_names[w]);
-    with(name, met.short_by_one[w]);
-    snprintf(name, sizeof name, "%s: no full slot, and no room", way_names[w]);
-    with(name, met.nothing_no_room[w]);
-}
-
 /* Calls `with` for each count, under its name. */
 static void each_count(teller with)
 {
@@ -501,8 +369,7 @@ static void each_count(teller with)
     tell_lines(with, "read: each line of each field, at least", met.lines_read);
     tell_lines(with, "written: each line of each field, at least", met.lines_written);
     tell_faults(with);
-    for (int w = 0; w < WAYS; w++)
-        tell_way(with, (way)w);
+    tell_conversions(with);
     for (int i = 0; i < MEETINGS; i++)
         with(meeting_names[i], met.meetings[i]);
 }
