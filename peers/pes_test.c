@@ -10,7 +10,7 @@
 
 #include <libzvbi.h>
 
-enum { MAX_LINES = 80, SHOWN = 6, NOTE_BYTES = 120, END_ROW = 'Z' };
+enum { MAX_LINES = 80, SHOWN = 6, NOTE_BYTES = 120, NOTE_WORDS = 8, END_ROW = 'Z' };
 
 static void fail(const char *what)
 {
@@ -26,8 +26,17 @@ struct answer {
     vbi_sliced lines[MAX_LINES];
     unsigned id[MAX_LINES], field[MAX_LINES];
     bool next;             /* whether the packet behind it came out */
-    char note[NOTE_BYTES]; /* the first message that is no mere trace */
+    char note[NOTE_BYTES]; /* the first message that is no mere trace, its first words */
 };
+
+static void keep_note(struct answer *a, const char *message)
+{
+    size_t words = 0, len = 0;
+    for (; message[len] && len < NOTE_BYTES - 4; len++)
+        if (message[len] == ' ' && ++words == NOTE_WORDS)
+            break;
+    snprintf(a->note, sizeof a->note, "%.*s%s", (int)len, message, message[len] ? " .." : "");
+}
 
 static void take_message(vbi_log_mask level, const char *context, const char *message, void *user)
 {
@@ -41,7 +50,7 @@ static void take_message(vbi_log_mask level, const char *context, const char *me
     if (sscanf(message, "Line %u/", &field) == 1 && a->fields < MAX_LINES)
         a->field[a->fields++] = field;
     if ((level <= VBI_LOG_NOTICE || strstr(message, "(bad)")) && !a->note[0])
-        snprintf(a->note, sizeof a->note, "%s", message);
+        keep_note(a, message);
 }
 
 static vbi_bool take_lines(vbi_dvb_demux *dx, void *user, const vbi_sliced *lines, unsigned n, int64_t pts)
