@@ -123,9 +123,13 @@ static struct packet random_packet(unsigned k)
     for (size_t i = 0; i < CAPTIONS_SLOTS; i++) {
         if (!(k >> i & 1))
             continue;
-        p.slots[i] = (captions_slot){ 1, rising_line(&next[i < second]), (uint8_t)random_below(4), i < second };
-        if (p.slots[i].line == 0 && !p.slots[i].field)
-            p.slots[i].reserved |= 1; /* a descriptor of 0 is an empty slot */
+        captions_slot *s = &p.slots[i];
+        s->full = 1;
+        s->line = rising_line(&next[i < second]);
+        s->reserved = (uint8_t)random_below(4);
+        s->field = i < second;
+        if (s->line == 0 && s->field == 0)
+            s->reserved |= 1; /* a descriptor of 0 is an empty slot */
         random_bytes(p.rows[i].bytes, ROW_BYTES);
     }
     return p;
