@@ -1,9 +1,8 @@
 -- The conversion of a legal value: only a line and the room can refuse it, and what is written reads as its full slots.
 -- Assumes nothing.
 use Prim.Native.Nat.{ℕ, _≤_, _<_}
-use native.Mathlib.Omega.{arith}
-use mathlib.Core.Path.{_≡_, _∙_, ap, ap₂, sym, subst, refl}
-use mathlib.Core.Logic.{_↔_, inl}
+use mathlib.Core.Path.{_≡_, _∙_, ap, ap₂, subst, refl}
+use mathlib.Core.Logic.{_↔_}
 use mathlib.Core.List.{List, [], _∷_}
 use borrow.Author.Tests.{lt-ltb, le-ltb}
 use lib.Dec.{ltb}
@@ -16,7 +15,7 @@ use Rattle.refusal.specs.declared.Verdict.the-variants.{Accepted}
 use Rattle.refusal.specs.declared.Reason.the-variants.{NoRoom}
 use Rattle.refusal.specs.declared.Item.the-variants.{Whole}
 use Rattle.refusal.specs.declared.Written.{Written}
-use Rattle.refusal.specs.Checks.{refuseIf, andThen, first}
+use Rattle.refusal.specs.Checks.{refuseIf, first}
 use Rattle.refusal.specs.Numbers.{refusalOf}
 use Rattle.refusal.specs.Answers.{accepted, refused, written, Wrote}
 use Rattle.refusal.proofs.Checks.{accepted-andThen, andThen-accepted, accepted-within, refuseIf-accepted}

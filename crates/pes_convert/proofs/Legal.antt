@@ -1,9 +1,8 @@
 -- Converting the words of a legal value, and such a value: what is refused, what is left in the output, and how it reads.
 -- Assumes nothing.
-use Prim.Native.Nat.{ℕ, _+_, _*_, _≤_, _<_}
-use native.Mathlib.Omega.{arith}
-use mathlib.Core.Path.{_≡_, _∙_, ap, ap₂, refl}
-use mathlib.Core.List.{List, _∷_}
+use Prim.Native.Nat.{ℕ, _+_, _*_, _<_}
+use mathlib.Core.Path.{_≡_, _∙_, ap}
+use mathlib.Core.List.{List}
 use lib.ListN.{length, getD, take}
 use Rattle.lists.specs.Each.{Each}
 use Rattle.lists.specs.Part.{part}
@@ -12,14 +11,13 @@ use Rattle.refusal.specs.declared.Written.{Written}
 use Rattle.refusal.specs.Answers.{accepted, refused, written}
 use Rattle.sdp.specs.declared.Packet.{Packet}
 use Rattle.sdp.specs.Value.{Sdp, Legal, emptyRow, held}
-use Rattle.sdp.specs.Layout.{descriptorsOf, count}
 use Rattle.subtitling.specs.Layout.{layout as packetLayout}
 use Rattle.pes.specs.declared.Head.{Head}
 use Rattle.pes.specs.Value.{stored}
 use Rattle.pes.specs.Layout.{layout}
 use Rattle.pes.specs.Lent.{unitBytes, unitsBytes, ReadsInto}
 use Rattle.pes_convert.specs.Converting.{slotUnit, fullUnits, converted, Converts, ConvertsValue}
-use Rattle.pes_convert.specs.Order.{LineCarried, Carried}
+use Rattle.pes_convert.specs.Order.{LineCarried}
 use Rattle.pes_convert.proofs.Units.{slot-lent}
 use Rattle.pes_convert.proofs.Lines.{line-6-only}
 use Rattle.pes_convert.proofs.Carrying as carrying

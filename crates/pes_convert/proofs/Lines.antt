@@ -2,10 +2,10 @@
 -- Assumes nothing.
 use Prim.Native.Nat.{ℕ, zero, suc, _≤_, _<_}
 use native.Mathlib.Omega.{arith}
-use mathlib.Core.Path.{_≡_, _∙_, ap, sym, subst, refl}
-use mathlib.Core.Logic.{_⊎_, _↔_, inl, inr, ⊎-elim}
+use mathlib.Core.Path.{_≡_, ap, refl}
+use mathlib.Core.Logic.{_↔_, inl, inr, ⊎-elim}
 use mathlib.Core.List.{List, [], _∷_}
-use lib.ListN.{length, getD}
+use lib.ListN.{getD}
 use Rattle.lists.specs.Each.{Each}
 use Rattle.lists.proofs.Each.{each-of, each-at}
 use Rattle.refusal.specs.declared.Refusal.{Refusal}
@@ -13,7 +13,7 @@ use Rattle.refusal.specs.declared.Verdict.{Verdict}
 use Rattle.refusal.specs.declared.Verdict.the-variants.{Accepted}
 use Rattle.refusal.specs.declared.Reason.the-variants.{UnitLine}
 use Rattle.refusal.specs.declared.Item.the-variants.{Whole}
-use Rattle.refusal.specs.Checks.{andThen, first}
+use Rattle.refusal.specs.Checks.{first}
 use Rattle.refusal.specs.Answers.{refused}
 use Rattle.refusal.proofs.Checks.{accepted-andThen, andThen-accepted}
 use Rattle.refusal.proofs.Lines.{outside}
@@ -25,7 +25,6 @@ use Rattle.pes.specs.Reading.{lineVerdict}
 use Rattle.pes.proofs.Unit.{accepted-line, line-accepted}
 use Rattle.pes_convert.specs.Converting.{ifFull, linesChecks}
 use Rattle.pes_convert.specs.Order.{LineCarried}
-use Rattle.pes_convert.proofs.Full.{if-empty, if-full}
 
 check-line : (l : ℕ) → lineCheck Whole l ≡ Accepted → LegalLine l
 unfolding lineVerdict

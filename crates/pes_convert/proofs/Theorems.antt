@@ -36,11 +36,11 @@ use Rattle.subtitling.specs.Writing.{Writes}
 use Rattle.subtitling.specs.Order.{readingChecks, writingChecks}
 use Rattle.pes.specs.declared.Head.{Head}
 use Rattle.pes.specs.Value as field
-use Rattle.pes.specs.Value.{DataUnit, blank, stored}
+use Rattle.pes.specs.Value.{blank, stored}
 use Rattle.pes.specs.Layout.{layout}
 use Rattle.pes.specs.Lent.{unitsBytes, ReadsInto}
 use Rattle.pes.specs.Places.{unitAt}
-use Rattle.pes_convert.specs.Converting.{slotUnit, fullUnits, converted, convertVerdict, ownVerdict}
+use Rattle.pes_convert.specs.Converting.{slotUnit, fullUnits, converted, convertVerdict}
 use Rattle.pes_convert.specs.Converting.{Converts, ConvertsValue}
 use Rattle.pes_convert.specs.Order.{convertChecks, LineCarried, Carried, unreserved}
 use Rattle.pes_convert.proofs.Full as full

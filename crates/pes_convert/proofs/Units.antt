@@ -10,12 +10,9 @@ use lib.Seq.{drop-drop, take-at}
 use Rattle.lists.specs.Each.{Each}
 use Rattle.lists.specs.Part.{part}
 use Rattle.lists.specs.Sum.{sum}
-use Rattle.lists.specs.Flat.{flat}
 use Rattle.lists.proofs.Each.{each-at, each-map, each-both}
 use Rattle.lists.proofs.FlatOf.{length-flat, flat-append, flat-at}
-use Rattle.refusal.specs.declared.Verdict.{Verdict}
 use Rattle.refusal.specs.declared.Item.the-variants.{Whole}
-use Rattle.bits.specs.Bits.{reversed}
 use Rattle.sdp.specs.Value.{SlotRow, Sdp, Legal, LegalSlot, descriptor, emptyRow}
 use Rattle.sdp.specs.Layout.{descriptorsOf, count}
 use Rattle.pes.specs.Value.{DataUnit, LegalUnit, Legal as LegalField, blank, stored}
@@ -23,12 +20,11 @@ use Rattle.pes.specs.Layout.{layoutUnit, layoutUnits, layout}
 use Rattle.pes.specs.Order.{lineCheck}
 use Rattle.pes.specs.Lent.{unitBytes, unitsBytes}
 use Rattle.pes.specs.Places.{unitAt}
-use Rattle.pes.proofs.Unit.{Sized, legal-sized, length-layout}
-use Rattle.pes.proofs.Field.{length-field}
+use Rattle.pes.proofs.Unit.{Sized, length-layout}
 use Rattle.pes.proofs.Lending.{length-lent}
 use Rattle.pes_convert.specs.Converting.{slotUnit, ifFull, fullUnits, converted, linesChecks}
 use Rattle.pes_convert.specs.Order.{LineCarried, unreserved}
-use Rattle.pes_convert.proofs.Full.{if-full, full-none, full-one, full-append, full-most, full-each}
+use Rattle.pes_convert.proofs.Full.{if-full, full-one, full-most, full-each}
 
 -- ONE SLOT
 

@@ -1,10 +1,10 @@
 -- `convert_value`: the same of a packet's value, and that it answers as `convert` does to its words.
 -- Assumes nothing.
-use Prim.Native.Nat.{ℕ, _+_, _*_, _≤_, _<_}
+use Prim.Native.Nat.{ℕ, _≤_}
 use native.Mathlib.Omega.{arith}
 use mathlib.Core.Path.{_≡_, _∙_, ap, sym, subst, refl}
-use mathlib.Core.Logic.{_⊎_, _↔_, inl, inr, ⊎-elim}
-use mathlib.Core.List.{List, [], _∷_}
+use mathlib.Core.Logic.{_⊎_, _↔_, ⊎-elim}
+use mathlib.Core.List.{List}
 use lib.Dec.{ltb}
 use lib.ListN.{length}
 use Rattle.refusal.specs.declared.Refusal.{Refusal}
@@ -21,12 +21,12 @@ use Rattle.refusal.proofs.Checks.{refused-not-accepted, fit-accepted}
 use Rattle.refusal.proofs.Gives.{Unplaced, refused-unplaced}
 use Rattle.refusal.proofs.Outputs.{wrote-refusal, wrote-accepted, refusal-left, wrote-determined}
 use Rattle.sdp.specs.declared.Packet.{Packet}
-use Rattle.sdp.specs.Value.{Sdp, Legal, Typed, held}
+use Rattle.sdp.specs.Value.{Legal, Typed, held}
 use Rattle.sdp.specs.SlotVerdict.{slotsVerdict}
 use Rattle.sdp.proofs.Numbers.{checked-legal}
 use Rattle.subtitling.specs.declared.Answer.{Answer}
 use Rattle.subtitling.specs.Layout.{layout as packetLayout}
-use Rattle.subtitling.specs.Reading.{packetVerdict, valueOf, ReadsInto}
+use Rattle.subtitling.specs.Reading.{valueOf, ReadsInto}
 use Rattle.subtitling.specs.Writing.{valueVerdict, Writes}
 use Rattle.subtitling.specs.Order.{writingChecks}
 use Rattle.subtitling.proofs.Numbers.{accepted-value}

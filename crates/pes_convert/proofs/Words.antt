@@ -1,12 +1,11 @@
 -- `convert`: when it succeeds, what it refuses with, and that what has no place in a data field does not matter to it.
 -- Assumes nothing.
-use Prim.Native.Nat.{ℕ, _≤_, _<_}
+use Prim.Native.Nat.{ℕ}
 use mathlib.Core.Path.{_≡_, _∙_, ap, ap₂, sym, subst, subst₂, refl}
 use mathlib.Core.Logic.{_⊎_, _↔_, inl, inr, ⊎-elim}
 use mathlib.Core.List.{List, [], _∷_, _++_, map}
 use lib.Dec.{ltb}
-use lib.ListN.{length, take}
-use Rattle.lists.specs.Room.{over}
+use lib.ListN.{length}
 use Rattle.refusal.specs.declared.Refusal.{Refusal}
 use Rattle.refusal.specs.declared.Verdict.{Verdict}
 use Rattle.refusal.specs.declared.Verdict.the-variants.{Accepted, Refused}
@@ -20,7 +19,7 @@ use Rattle.refusal.proofs.Checks.{accepted-andThen, refused-not-accepted}
 use Rattle.refusal.proofs.Sequence.{first-append}
 use Rattle.refusal.proofs.Gives.{Gives, refuseIf-gives, andThen-gives, gives-as}
 use Rattle.refusal.proofs.Outputs.{wrote-refusal, wrote-accepted, refusal-left, wrote-determined}
-use Rattle.sdp.specs.Value.{SlotRow, Sdp, Legal}
+use Rattle.sdp.specs.Value.{Sdp, Legal}
 use Rattle.subtitling.specs.declared.Answer.{Answer}
 use Rattle.subtitling.specs.Layout.{layout as packetLayout}
 use Rattle.subtitling.specs.Reading.{packetVerdict, valueOf, Reads}
@@ -30,7 +29,7 @@ use Rattle.subtitling.proofs.Sequence.{reading-order}
 use Rattle.pes.specs.Value.{DataField}
 use Rattle.pes.specs.Layout.{layout}
 use Rattle.pes_convert.specs.Converting.{converted, linesChecks, convertVerdict, Converts}
-use Rattle.pes_convert.specs.Order.{convertChecks, LineCarried, Carried, unreserved}
+use Rattle.pes_convert.specs.Order.{convertChecks, Carried, unreserved}
 use Rattle.pes_convert.proofs.Packets.{packet-decides}
 use Rattle.pes_convert.proofs.Units.{same-lines, same-converted}
 use Rattle.pes_convert.proofs.Lines.{Is7, lines-gives}
