@@ -7,5 +7,7 @@ pub mod Answers
 pub mod Writable
 pub mod Accepting
 pub mod Writing
+pub mod Placed
 pub mod BothWays
 pub mod Determined
+pub mod Theorems

@@ -69,8 +69,8 @@ module _ (t : Told) (out : List ℕ) (r : Written) (exit : List ℕ) (writes : W
   pub writes-exactly : r .refusal .number ≡ 0 ↔ (LegalTold t × (length laid ≤ length out))
   writes-exactly = (
     λ e.
-    let h = accepted-value t (length out) (wrote-accepted verdict laid out r exit (writes .wrote) e) in
-    (writable-legal t (length out) (writes .typed) h, h .fits),
+        let h = accepted-value t (length out) (wrote-accepted verdict laid out r exit (writes .wrote) e) in
+        (writable-legal t (length out) (writes .typed) h, h .fits),
     λ w. accepted-wrote verdict laid out r exit (writes .wrote) (value-accepted t (length out) (legal-writable t (length out) (w .0) (w .1))),
   )
 
