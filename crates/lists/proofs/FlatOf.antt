@@ -180,3 +180,19 @@ module _ {A : Type 0} (bytes : A → List ℕ) (width : ℕ) (from : List ℕ �
       ap₂ (λ (a b : List ℕ). a ++ b) (same s here) (taken-flat k n (drop width s) (omega arith) rest)
       ∙ sym (take-add width (width * n) s)
       ∙ ap (λ (m : ℕ). take m s) far
+
+-- what holds of each record that is taken from bytes enough holds of all
+module _ {A : Type 0} (from : List ℕ → A) (width : ℕ) (P : A → Type 0) (right : (s : List ℕ) → width ≤ length s → P (from s)) where
+  pub taken-each : (n : ℕ) (s : List ℕ) → width * n ≤ length s → Each P (taken from width n s)
+  taken-each zero s long = tt
+  taken-each (suc n) s long =
+      let far : width + width * n ≡ width * suc n = omega (arith, mul-suc width n) in
+      (right s (omega arith), taken-each n (drop width s) (omega (arith, length-drop width s)))
+
+-- records taken from bytes and laid as others: one more is laid behind them
+pub taken-flat-more : {A : Type 0} (bytes : A → List ℕ) (from : List ℕ → A) (width i : ℕ) (s : List ℕ)
+    → flat bytes (taken from width (i + 1) s) ≡ flat bytes (taken from width i s) ++ bytes (from (drop (width * i) s))
+taken-flat-more bytes from width i s =
+    ap (λ (k : ℕ). flat bytes (taken from width k s)) (add-one i)
+    ∙ ap (flat bytes) (taken-more from width i s)
+    ∙ flat-more bytes (taken from width i s) (from (drop (width * i) s))

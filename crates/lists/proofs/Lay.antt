@@ -88,6 +88,15 @@ laid-more front piece out xs part a e long laid =
     ap (λ (ys : List _). putMid a (length ys - a) ys part) e
     ∙ over-more front piece out part a long (laid ∙ ap (λ (ys : List _). over piece (take (length ys - a) (drop a ys))) e)
 
+-- the same of a piece that is stored as far as there is room, and has it
+pub laid-fitting : {A : Type 0} (front piece out xs part : List A) (a : ℕ) → xs ≡ over front out → length front ≡ a → a + length piece ≤ length xs
+    → part ≡ over (take (length (take (length xs - a) (drop a xs))) piece) (take (length xs - a) (drop a xs))
+    → putMid a (length xs - a) xs part ≡ over (front ++ piece) out
+laid-fitting front piece out xs part a e long fits laid =
+    let rest = take (length xs - a) (drop a xs) in
+    let room : length piece ≤ length rest = omega (arith, ap length (rest-whole xs a) ∙ length-drop a xs) in
+    laid-more front piece out xs part a e long (laid ∙ ap (λ (p : List _). over p rest) (take-all (length rest) piece room))
+
 -- the part from a on has what is left
 pub length-rest : {A : Type 0} (xs : List A) (a : ℕ) → length (take (length xs - a) (drop a xs)) ≡ length xs - a
 length-rest xs a = ap length (rest-whole xs a) ∙ length-drop a xs

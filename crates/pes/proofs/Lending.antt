@@ -1,25 +1,27 @@
 -- Units as bytes in a lent array: what is laid is told again, and an array of bytes tells units as its type has them.
 -- Assumes nothing.
-use Prim.Native.Nat.{ℕ, suc, _+_, _*_, _≤_, _<_}
+use Prim.Native.Nat.{ℕ, suc, _+_, _*_, _/_, _%_, _≤_, _<_}
 use native.Mathlib.Omega.{arith}
 use mathlib.Core.Path.{_≡_, _∙_, ap, ap₂, sym, subst, refl}
 use mathlib.Core.Bool.{Bool, true, false}
 use mathlib.Core.List.{List, [], _∷_, _++_, map}
-use borrow.Author.Tests.{ne-eqb, eqb-true, eqb-false}
+use borrow.Author.Tests.{eq-eqb, ne-eqb, eqb-true, eqb-false}
 use lib.Dec.{eqb}
-use lib.ListN.{length, getD, take, drop, length-map, length-drop}
+use lib.ListN.{length, getD, take, drop, replicate, length-map, length-drop}
 use lib.Seq.{length-take-le, take-at}
 use Rattle.lists.specs.Each.{Each}
 use Rattle.lists.specs.Bytes.{Bytes}
-use Rattle.lists.specs.Room.{filled}
+use Rattle.lists.specs.Part.{part}
+use Rattle.lists.specs.Room.{filled, over}
 use Rattle.lists.specs.Flat.{taken}
 use Rattle.lists.proofs.Each.{each-of, each-take, each-drop, each-map, each-at}
-use Rattle.lists.proofs.FlatOf.{length-taken, getD-taken, flat-whole, flat-filled, taken-flat}
+use Rattle.lists.proofs.FlatOf.{length-taken, getD-taken, length-flat, flat-whole, flat-filled, flat-over, taken-flat, taken-each}
 use Rattle.bits.specs.Bits.{reversed}
 use Rattle.pes.specs.Value.{DataUnit, teletext, stuffing, Told, TypedUnit, Typed, LegalUnit, blank, stored, held}
+use Rattle.pes.specs.Layout.{layoutUnit, layoutUnits}
 use Rattle.pes.specs.Reading.{unitOf, readUnit}
 use Rattle.pes.specs.Lent.{unitBytes, unitsBytes, toldUnit, unitIn, unitsIn, fieldIn}
-use Rattle.pes.proofs.Unit.{Sized, legal-sized}
+use Rattle.pes.proofs.Unit.{Sized, length-layout}
 
 -- ONE UNIT
 
@@ -77,6 +79,50 @@ pub unit-sized : (u : List ℕ) → 46 ≤ length u → Sized (readUnit u)
 unfolding readUnit
 unit-sized u h = read-sized (eqb (getD u 0 0) 0xFF) u h
 
+-- the bytes of what is read, by its kind
+pub read-stuffing : (u : List ℕ) → getD u 0 0 ≡ 0xFF → unitBytes (readUnit u) ≡ getD u 0 0 ∷ part 2 46 u
+unfolding readUnit
+read-stuffing u e = ap (λ (k : Bool). unitBytes (unitOf k u)) (eq-eqb (getD u 0 0) 0xFF e) ∙ ap (λ (id : ℕ). id ∷ part 2 46 u) (sym e)
+
+pub read-teletext : (u : List ℕ) → (getD u 0 0 ≡ 0xFF → ⊥)
+    → unitBytes (readUnit u) ≡ getD u 0 0 ∷ getD u 2 0 / 32 % 2 ∷ getD u 2 0 % 32 ∷ map reversed (part 4 46 u)
+unfolding readUnit
+read-teletext u other = ap (λ (k : Bool). unitBytes (unitOf k u)) (ne-eqb (getD u 0 0) 0xFF other)
+
+-- units that are read, laid one behind the other
+pub each-read : (n : ℕ) (s : List ℕ) → 46 * n ≤ length s → Each Sized (taken readUnit 46 n s)
+each-read n s long = taken-each readUnit 46 Sized unit-sized n s long
+
+pub length-read : (n : ℕ) (s : List ℕ) → 46 * n ≤ length s → length (unitsBytes (taken readUnit 46 n s)) ≡ 45 * n
+length-read n s long =
+    length-flat unitBytes 45 Sized length-lent (taken readUnit 46 n s) (each-read n s long) ∙ ap (λ (k : ℕ). 45 * k) (length-taken readUnit 46 n s)
+
+-- and units that are told, as the stream has them
+told-sized : (k : Bool) (s : List ℕ) → 45 ≤ length s → Sized (toldUnit k s)
+told-sized true s h = length-take-le 44 (drop 1 s) (omega (arith, length-drop 1 s))
+told-sized false s h = length-take-le 42 (drop 3 s) (omega (arith, length-drop 3 s))
+
+pub in-sized : (s : List ℕ) → 45 ≤ length s → Sized (unitIn s)
+unfolding unitIn
+in-sized s h = told-sized (eqb (getD s 0 0) 0xFF) s h
+
+pub each-told : (n : ℕ) (s : List ℕ) → 45 * n ≤ length s → Each Sized (taken unitIn 45 n s)
+each-told n s long = taken-each unitIn 45 Sized in-sized n s long
+
+pub length-told : (n : ℕ) (s : List ℕ) → 45 * n ≤ length s → length (layoutUnits (taken unitIn 45 n s)) ≡ 46 * n
+length-told n s long =
+    length-flat layoutUnit 46 Sized length-layout (taken unitIn 45 n s) (each-told n s long) ∙ ap (λ (k : ℕ). 46 * k) (length-taken unitIn 45 n s)
+
+-- the bytes of what is told in the stream, by its kind
+pub told-stuffing : (s : List ℕ) → getD s 0 0 ≡ 0xFF → layoutUnit (unitIn s) ≡ getD s 0 0 ∷ 0x2C ∷ part 1 45 s
+unfolding unitIn
+told-stuffing s e = ap (λ (k : Bool). layoutUnit (toldUnit k s)) (eq-eqb (getD s 0 0) 0xFF e) ∙ ap (λ (id : ℕ). id ∷ 0x2C ∷ part 1 45 s) (sym e)
+
+pub told-teletext : (s : List ℕ) → (getD s 0 0 ≡ 0xFF → ⊥)
+    → layoutUnit (unitIn s) ≡ getD s 0 0 ∷ 0x2C ∷ (192 + 32 * getD s 1 0 + getD s 2 0) ∷ 0xE4 ∷ map reversed (part 3 45 s)
+unfolding unitIn
+told-teletext s other = ap (λ (k : Bool). layoutUnit (toldUnit k s)) (ne-eqb (getD s 0 0) 0xFF other)
+
 -- ALL PLACES OF AN ARRAY
 
 pub places : (s : List ℕ) → length (unitsIn s) ≡ 31
@@ -104,6 +150,10 @@ lent-held t h =
 -- room beyond the units is zeros
 pub lent-filled : (us : List DataUnit) → Each Sized us → length us ≤ 31 → unitsBytes (filled us 31 blank) ≡ filled (unitsBytes us) 1395 0
 lent-filled us h few = flat-filled unitBytes 45 Sized length-lent blank refl us h 31 few
+
+-- units laid over an array of zeros
+pub lent-over : (us : List DataUnit) → Each Sized us → length us ≤ 31 → over (unitsBytes us) (replicate 1395 0) ≡ unitsBytes (filled us 31 blank)
+lent-over us h few = flat-over unitBytes 45 Sized length-lent blank refl us h 31 few
 
 -- the first n units of an array, stored again: their bytes, and zeros behind them
 pub lent-front : (identifier n : ℕ) (s : List ℕ) → n ≤ 31 → length s ≡ 1395 → Each Sized (take n (unitsIn s))
