@@ -1,22 +1,22 @@
-// A data field's value in an input: data_identifier (4 bytes), n (4), then 31 units of 45 bytes.
-use crate::writing;
+// A data field's value in an input, behind the room: data_identifier (4 bytes), n (4), then 31 units of 45 bytes.
+use crate::bytes;
 use pes::LENT_UNITS;
 use refusal::Written;
 
-// Before the units.
-const HEAD: usize = 8;
+// Where the units begin.
+const UNITS: usize = 12;
 
-pub(crate) const BYTES: usize = HEAD + LENT_UNITS;
+pub(crate) const END: usize = UNITS + LENT_UNITS;
 
-pub(crate) fn write(given: &[u8], out: &mut [u8]) -> Written {
-    let data_identifier = vectors::long(given, 0);
-    let n = vectors::long(given, 4) as usize;
-    let units = units_of(given);
+pub(crate) fn write(input: &[u8], out: &mut [u8]) -> Written {
+    let data_identifier = vectors::long(input, 4);
+    let n = vectors::long(input, 8) as usize;
+    let units = units_of(input);
     pes_writer::write_from(data_identifier, n, &units, out)
 }
 
-fn units_of(given: &[u8]) -> [u8; LENT_UNITS] {
+fn units_of(input: &[u8]) -> [u8; LENT_UNITS] {
     let mut units = [0u8; LENT_UNITS];
-    writing::take(given, HEAD, &mut units);
+    bytes::take(input, UNITS, &mut units);
     units
 }

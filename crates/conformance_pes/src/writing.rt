@@ -1,7 +1,7 @@
 // The vectors of writing a data field, and of converting a packet into one. INPUT is room (4 bytes), then what the call is given. EXPECTED is number (1),
 // place (4), len (4), then what the call writes. Behind that the output must hold what it held before.
 ghost use mathlib.Core.Path.{_≡_};
-ghost use Prim.Native.Nat.{_≤_, _<_};
+ghost use Prim.Native.Nat.{_≤_};
 ghost use lib.ListN.{length};
 use crate::ROOM;
 use crate::comparing;
@@ -11,9 +11,6 @@ use crate::packet_words;
 use refusal::Written;
 use vectors::Outcome;
 use vectors::judged;
-
-// Before what the call is given.
-const FRONT: usize = 4;
 
 // Before the output in an answer.
 const HEAD: usize = 9;
@@ -26,10 +23,7 @@ pub(crate) enum Call {
 }
 
 pub(crate) fn outcome(call: Call, input: &[u8], expected: &[u8]) -> Outcome {
-    if input.len() < FRONT {
-        return Outcome::Unreadable;
-    }
-    if !is_readable(call, input.len() - FRONT) {
+    if !is_readable(call, input.len()) {
         return Outcome::Unreadable;
     }
     let room = vectors::number(input);
@@ -39,21 +33,15 @@ pub(crate) fn outcome(call: Call, input: &[u8], expected: &[u8]) -> Outcome {
     let end = HEAD + room;
     let before = unanswered();
     let mut answer = before;
-    judged(agrees(
-        call,
-        &input[FRONT..],
-        expected,
-        &before[..end],
-        &mut answer[..end],
-    ))
+    judged(agrees(call, input, expected, &before[..end], &mut answer[..end]))
 }
 
-// Whether a call can be given so many bytes.
+// Whether an input has as many bytes as the call needs.
 fn is_readable(call: Call, n: usize) -> bool {
     match call {
         Call::Convert => packet_words::is_readable(n),
-        Call::ConvertValue => n == packet_value::BYTES,
-        Call::Write => n == field_value::BYTES,
+        Call::ConvertValue => n == packet_value::END,
+        Call::Write => n == field_value::END,
     }
 }
 
@@ -65,31 +53,20 @@ fn unanswered() -> [u8; ROOM] {
 }
 
 // The output is a part of the answer's room, and nothing else of that room is lent.
-fn agrees(call: Call, given: &[u8], expected: &[u8], before: &[u8], answer: &mut [u8]) -> bool
+fn agrees(call: Call, input: &[u8], expected: &[u8], before: &[u8], answer: &mut [u8]) -> bool
     requires { ⌜ 9 ≤ length (now answer) ⌝ }
     requires { ⌜ length (now before) ≡ length (now answer) ⌝ }
 {
-    let written = written_by(call, given, &mut answer[HEAD..]);
+    let written = written_by(call, input, &mut answer[HEAD..]);
     vectors::put_refusal(answer, written.refusal);
     vectors::put_number(answer, 5, written.len);
     comparing::holds(before, answer, expected)
 }
 
-fn written_by(call: Call, given: &[u8], out: &mut [u8]) -> Written {
+fn written_by(call: Call, input: &[u8], out: &mut [u8]) -> Written {
     match call {
-        Call::Convert => packet_words::convert(given, out),
-        Call::ConvertValue => packet_value::convert(given, out),
-        Call::Write => field_value::write(given, out),
-    }
-}
-
-// Fills an array with the bytes from an index on. Missing ones are zero.
-pub(crate) fn take(given: &[u8], at: usize, out: &mut [u8])
-    requires { ⌜ at < 4096 ⌝ }
-{
-    let mut i = 0;
-    while i < out.len() {
-        out[i] = vectors::byte(given, at + i);
-        i += 1;
+        Call::Convert => packet_words::convert(input, out),
+        Call::ConvertValue => packet_value::convert(input, out),
+        Call::Write => field_value::write(input, out),
     }
 }

@@ -5,10 +5,10 @@ use Rattle.conformance_pes.proofs.packet_words.words_of.Statement.{stat
 use Rattle.conformance_pes.proofs.packet_words.words_of.Tie as tie
 
 abbrev Inv-loop : tie.InvT-loop
-Inv-loop given n words₀ i₀ words i = i ≤ n
+Inv-loop input n words₀ i₀ words i = i ≤ n
 
 abbrev μ-loop : tie.MeasureT-loop
-μ-loop given n words₀ i₀ words i = n - i
+μ-loop input n words₀ i₀ words i = n - i
 
 pub words-of-spec : {M : Type 1} → statement M
 words-of-spec =
@@ -16,6 +16,7 @@ words-of-spec =
     (tie.spec
     Inv-loop
     μ-loop
+    (λ c. search needs)
     (λ c. search needs)
     (λ c. search needs)
     (λ c κs. search needs)
