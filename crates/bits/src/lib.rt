@@ -325,7 +325,11 @@ pub fn reversed_bytes() -> [u8; 256]
 pub fn look_up(s: &[u8], table: &[u8; 256], out: &mut [u8])
     ensures { λ _. ⌜ now (out .exit) ≡ over (take (length (now (out .entry))) (map (found (now (table .entry))) (now (s .entry)))) (now (out .entry)) ⌝ }
 {
-    let n = if s.len() < out.len() { s.len() } else { out.len() };
+    let n = if s.len() < out.len() {
+        s.len()
+    } else {
+        out.len()
+    };
     let mut i = 0;
     while i < n {
         let b = s[i];

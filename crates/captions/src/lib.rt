@@ -1,8 +1,9 @@
-// The C interface (c/captions.h): read, write and replace, over plain numbers and lent memory. Each function hands on to its carriage's own.
+// The C interface (c/captions.h): read, write, replace and convert, over plain numbers and lent memory. Each function hands on to its carriage's own.
 //
 // Normative references: docs/RULES.md.
 mod area;
 mod atsc;
+mod dvb;
 mod frames;
 mod packet;
 mod payload;
@@ -14,6 +15,10 @@ pub use area::captions_unit_write;
 pub use atsc::captions_ga94_read;
 pub use atsc::captions_ga94_replace;
 pub use atsc::captions_ga94_write;
+pub use dvb::captions_pes_convert;
+pub use dvb::captions_pes_convert_value;
+pub use dvb::captions_pes_read;
+pub use dvb::captions_pes_write;
 pub use frames::captions_film_close;
 pub use frames::captions_film_picture;
 pub use packet::captions_packet_read;

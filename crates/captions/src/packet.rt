@@ -16,7 +16,7 @@ use subtitling::Answer;
 // A slot's numbers as four bytes, one for each number of a `Slot` and in its order.
 const LENT_SLOT: usize = 4;
 
-const LENT_SLOTS: usize = 20;
+pub(crate) const LENT_SLOTS: usize = 20;
 
 // Reads a packet, its rows into a lent array.
 #[no_mangle]
@@ -39,7 +39,7 @@ pub extern "C" fn captions_packet_write(
     subtitling_writer::write_from(packet_of(counter, slots), rows, out)
 }
 
-fn packet_of(counter: u32, bytes: &[u8]) -> Packet
+pub(crate) fn packet_of(counter: u32, bytes: &[u8]) -> Packet
     requires { ⌜ length (now bytes) ≡ 20 ⌝ }
     ensures { λ r. ⌜ r ≡ packetIn counter (now (bytes .entry)) ⌝ }
 {

@@ -29,7 +29,11 @@ pub fn clear(out: &mut [u8])
 pub fn copy(s: &[u8], out: &mut [u8])
     ensures { λ _. ⌜ now (out .exit) ≡ over (take (length (now (out .entry))) (now (s .entry))) (now (out .entry)) ⌝ }
 {
-    let n = if s.len() < out.len() { s.len() } else { out.len() };
+    let n = if s.len() < out.len() {
+        s.len()
+    } else {
+        out.len()
+    };
     let mut i = 0;
     while i < n {
         out[i] = s[i];

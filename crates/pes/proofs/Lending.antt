@@ -1,8 +1,9 @@
 -- Units as bytes in a lent array: what is laid is told again, and an array of bytes tells units as its type has them.
 -- Assumes nothing.
-use Prim.Native.Nat.{ℕ, suc, _+_, _*_, _/_, _%_, _≤_, _<_}
+use Prim.Native.Nat.{ℕ, suc, _+_, _-_, _*_, _/_, _%_, _≤_, _<_}
 use native.Mathlib.Omega.{arith}
 use mathlib.Core.Path.{_≡_, _∙_, ap, ap₂, sym, subst, refl}
+use mathlib.Core.Logic.{⊎-elim}
 use mathlib.Core.Bool.{Bool, true, false}
 use mathlib.Core.List.{List, [], _∷_, _++_, map}
 use borrow.Author.Tests.{eq-eqb, ne-eqb, eqb-true, eqb-false}
@@ -14,11 +15,12 @@ use Rattle.lists.specs.Bytes.{Bytes}
 use Rattle.lists.specs.Part.{part}
 use Rattle.lists.specs.Room.{filled, over}
 use Rattle.lists.specs.Flat.{taken}
-use Rattle.lists.proofs.Each.{each-of, each-take, each-drop, each-map, each-at}
-use Rattle.lists.proofs.FlatOf.{length-taken, getD-taken, length-flat, flat-whole, flat-filled, flat-over, taken-flat, taken-each}
+use Rattle.lists.proofs.Each.{each-of, each-take, each-drop, each-map, each-append, each-replicate}
+use Rattle.lists.proofs.Fill.{length-filled}
+use Rattle.lists.proofs.FlatOf.{length-taken, getD-taken, length-flat, flat-taken, flat-whole, flat-filled, flat-over, taken-take, taken-flat, taken-each}
 use Rattle.bits.specs.Bits.{reversed}
-use Rattle.pes.specs.Value.{DataUnit, teletext, stuffing, Told, TypedUnit, Typed, LegalUnit, blank, stored, held}
-use Rattle.pes.specs.Layout.{layoutUnit, layoutUnits}
+use Rattle.pes.specs.Value.{Teletext, DataUnit, DataField, teletext, stuffing, LegalUnit, Legal, Told, TypedUnit, Typed, blank, stored, held}
+use Rattle.pes.specs.Layout.{layoutUnit, layoutUnits, layout}
 use Rattle.pes.specs.Reading.{unitOf, readUnit}
 use Rattle.pes.specs.Lent.{unitBytes, unitsBytes, toldUnit, unitIn, unitsIn, fieldIn}
 use Rattle.pes.proofs.Unit.{Sized, length-layout}
@@ -113,15 +115,25 @@ pub length-told : (n : ℕ) (s : List ℕ) → 45 * n ≤ length s → length (l
 length-told n s long =
     length-flat layoutUnit 46 Sized length-layout (taken unitIn 45 n s) (each-told n s long) ∙ ap (λ (k : ℕ). 46 * k) (length-taken unitIn 45 n s)
 
--- the bytes of what is told in the stream, by its kind
-pub told-stuffing : (s : List ℕ) → getD s 0 0 ≡ 0xFF → layoutUnit (unitIn s) ≡ getD s 0 0 ∷ 0x2C ∷ part 1 45 s
+-- what is told, by its kind
+pub in-stuffing : (s : List ℕ) → getD s 0 0 ≡ 0xFF → unitIn s ≡ stuffing (part 1 45 s)
 unfolding unitIn
-told-stuffing s e = ap (λ (k : Bool). layoutUnit (toldUnit k s)) (eq-eqb (getD s 0 0) 0xFF e) ∙ ap (λ (id : ℕ). id ∷ 0x2C ∷ part 1 45 s) (sym e)
+in-stuffing s e = ap (λ (k : Bool). toldUnit k s) (eq-eqb (getD s 0 0) 0xFF e)
+
+abbrev pub teletextIn : List ℕ → Teletext
+teletextIn s = record { «data_unit_id» = getD s 0 0; «field_parity» = getD s 1 0; «line_offset» = getD s 2 0; row = part 3 45 s }
+
+pub in-teletext : (s : List ℕ) → (getD s 0 0 ≡ 0xFF → ⊥) → unitIn s ≡ teletext (teletextIn s)
+unfolding unitIn
+in-teletext s other = ap (λ (k : Bool). toldUnit k s) (ne-eqb (getD s 0 0) 0xFF other)
+
+-- and its bytes in the stream
+pub told-stuffing : (s : List ℕ) → getD s 0 0 ≡ 0xFF → layoutUnit (unitIn s) ≡ getD s 0 0 ∷ 0x2C ∷ part 1 45 s
+told-stuffing s e = ap layoutUnit (in-stuffing s e) ∙ ap (λ (id : ℕ). id ∷ 0x2C ∷ part 1 45 s) (sym e)
 
 pub told-teletext : (s : List ℕ) → (getD s 0 0 ≡ 0xFF → ⊥)
     → layoutUnit (unitIn s) ≡ getD s 0 0 ∷ 0x2C ∷ (192 + 32 * getD s 1 0 + getD s 2 0) ∷ 0xE4 ∷ map reversed (part 3 45 s)
-unfolding unitIn
-told-teletext s other = ap (λ (k : Bool). layoutUnit (toldUnit k s)) (ne-eqb (getD s 0 0) 0xFF other)
+told-teletext s other = ap layoutUnit (in-teletext s other)
 
 -- ALL PLACES OF AN ARRAY
 
@@ -143,6 +155,10 @@ lent-typed identifier n s bytes e = record { places = places s; units = each-typ
 pub lent-units : (us : List DataUnit) → Each TypedUnit us → length us ≡ 31 → unitsIn (unitsBytes us) ≡ us
 lent-units us h e = flat-whole unitBytes 45 TypedUnit (λ x t. length-lent x (typed-sized x t)) unitIn in-back us h 31 e
 
+-- and so are those at its front, whatever stands behind them
+pub lent-first : (us : List DataUnit) → Each TypedUnit us → (rest : List ℕ) → taken unitIn 45 (length us) (unitsBytes us ++ rest) ≡ us
+lent-first us h rest = flat-taken unitBytes 45 TypedUnit (λ x t. length-lent x (typed-sized x t)) unitIn in-back us h rest
+
 pub lent-held : (t : Told) → Typed t → fieldIn (t .«data_identifier») (t .n) (unitsBytes (t .units)) ≡ t
 lent-held t h =
     ap (λ (us : List DataUnit). record { «data_identifier» = t .«data_identifier»; n = t .n; units = us }) (lent-units (t .units) (h .units) (h .places))
@@ -162,3 +178,28 @@ lent-front identifier n s few e h =
     let count = length-take-le n (unitsIn s) (omega (arith, places s)) in
     lent-filled (take n (unitsIn s)) h (omega (arith, count))
     ∙ ap (λ (front : List ℕ). filled front 1395 0) (taken-flat unitBytes 45 unitIn in-same 31 n s few (omega arith))
+
+-- they are those that are taken one by one, and have their bytes in the stream
+pub front-taken : (n : ℕ) (s : List ℕ) → n ≤ 31 → take n (unitsIn s) ≡ taken unitIn 45 n s
+front-taken n s few = taken-take unitIn 45 n 31 s few
+
+pub length-front : (identifier n : ℕ) (s : List ℕ) → n ≤ 31 → length s ≡ 1395 → length (layout (held (fieldIn identifier n s))) ≡ 1 + 46 * n
+length-front identifier n s few e =
+    omega (arith, ap (λ (us : List DataUnit). length (layoutUnits us)) (front-taken n s few), length-told n s (omega arith))
+
+-- a legal value as it is told is one as the type of a lent array has it
+legal-typed : (x : DataUnit) → LegalUnit x → TypedUnit x
+legal-typed (teletext t) h = record { other = ⊎-elim (λ e f. omega (arith, e, f)) (λ e f. omega (arith, e, f)) (h .id); places = h .places; bytes = h .bytes }
+legal-typed (stuffing bytes) h = h
+
+blank-typed : TypedUnit blank
+blank-typed = record { other = λ e. omega (arith, e); places = refl; bytes = each-replicate (λ (b : ℕ). b < 256) 42 0 (omega arith) }
+
+pub stored-typed : (v : DataField) → Legal v → Typed (stored v)
+stored-typed v h =
+    let us = v .units in
+    let rest = 31 - length us in
+    record {
+      places = length-filled us 31 blank (h .few);
+      units = each-append TypedUnit us (replicate rest blank) (each-map LegalUnit TypedUnit legal-typed us (h .each)) (each-replicate TypedUnit rest blank blank-typed);
+    }

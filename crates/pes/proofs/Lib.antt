@@ -5,3 +5,9 @@ pub mod Lending
 pub mod Judged
 pub mod Answers
 pub mod Writable
+pub mod Accepting
+pub mod Writing
+pub mod Placed
+pub mod BothWays
+pub mod Determined
+pub mod Theorems

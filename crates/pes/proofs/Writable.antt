@@ -98,13 +98,19 @@ module _ (t : Told) (room : ℕ) where
   abbrev laid : ℕ
   laid = length (layout (held t))
 
-  abbrev parts : List Verdict
-  parts =
+  -- the checks of the value itself, and of the room
+  abbrev pub own : List Verdict
+  own =
       refuseIf (not (eqb (t .«data_identifier» / 16) 1)) (Unholdable DataIdentifier) Whole
       ∷ refuseIf (ltb 31 (t .n)) (Unholdable Count) Whole
       ∷ writtenUnits (held t .units)
-      ∷ refuseIf (ltb room laid) NoRoom Whole
       ∷ []
+
+  abbrev pub roomCheck : Verdict
+  roomCheck = refuseIf (ltb room laid) NoRoom Whole
+
+  abbrev pub parts : List Verdict
+  parts = own ++ (roomCheck ∷ [])
 
   pub value-parts : valueVerdict t room ≡ first parts
   unfolding valueVerdict writtenVerdict
@@ -115,6 +121,9 @@ module _ (t : Told) (room : ℕ) where
       andThen (refuseIf (not (eqb (t .«data_identifier» / 16) 1)) (Unholdable DataIdentifier) Whole)
       (andThen (refuseIf (ltb 31 (t .n)) (Unholdable Count) Whole) v))
       (first-append (eachOf writtenChecks us) last ∙ ap (λ (v : Verdict). andThen v (first last)) (sym (first-each writtenChecks us)))
+
+  pub value-own : valueVerdict t room ≡ andThen (first own) roomCheck
+  value-own = value-parts ∙ first-append own (roomCheck ∷ []) ∙ ap (λ (v : Verdict). andThen (first own) v) (andThen-last roomCheck)
 
   -- what the checks let through
   pub record Writable : Type 0 where
@@ -168,6 +177,16 @@ module _ (t : Told) (room : ℕ) where
     where
       length-held : Typed t → t .n ≤ 31 → length (held t .units) ≡ t .n
       length-held typed few = length-take-le (t .n) (t .units) (omega (arith, typed .places))
+
+  pub own-writable : first own ≡ Accepted → laid ≤ room → Writable
+  own-writable e fits =
+      let each = accepted-all own e in
+      record {
+        identifier = accepted-equal (t .«data_identifier» / 16) 1 _ _ (each .0);
+        few = accepted-within 31 (t .n) _ _ (each .1 .0);
+        units = each .1 .1 .0;
+        fits = fits;
+      }
 
   pub legal-writable : LegalTold t → laid ≤ room → Writable
   legal-writable h fits =

@@ -27,6 +27,16 @@ pub record DataField : Type 0 where
   pub «data_identifier» : ℕ
   pub units : List DataUnit
 
+-- teletext with another row
+abbrev pub withRow : Teletext → List ℕ → Teletext
+withRow t row =
+    record {
+      «data_unit_id» = t .«data_unit_id»;
+      «field_parity» = t .«field_parity»;
+      «line_offset» = t .«line_offset»;
+      row = row;
+    }
+
 -- 02 non-subtitle, 03 subtitle
 abbrev pub TeletextId : ℕ → Type 0
 TeletextId id = (id ≡ 0x02) ⊎ (id ≡ 0x03)

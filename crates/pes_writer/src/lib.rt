@@ -25,7 +25,12 @@ use refusal::Verdict;
 use refusal::Written;
 
 // Writes the data field of data_identifier and the first n of the units in a lent array at the front of out.
-pub fn write_from(data_identifier: u32, n: usize, units: &[u8; LENT_UNITS], out: &mut [u8]) -> Written
+pub fn write_from(
+    data_identifier: u32,
+    n: usize,
+    units: &[u8; LENT_UNITS],
+    out: &mut [u8],
+) -> Written
     ensures { λ r. ⌜ Writes (fieldIn «data_identifier» n (now (units .entry))) (now (out .entry)) r (now (out .exit)) ⌝ }
 {
     lists::known(units);

@@ -6,6 +6,7 @@ use mathlib.Core.Logic.{_⊎_, inl, inr, ⊎-elim}
 use mathlib.Core.Bool.{Bool, true, false}
 use mathlib.Core.List.{List, [], _∷_, map}
 use lib.Dec.{ltb}
+use Rattle.lists.specs.Each.{Each}
 use Rattle.refusal.specs.declared.Reason.{Reason}
 use Rattle.refusal.specs.declared.Reason.the-variants.{TooLong, NoRoom}
 use Rattle.refusal.specs.declared.Item.{Item}
@@ -34,6 +35,10 @@ module _ (P : Refusal → Type 0) where
   pub each-gives : {A : Type 0} (check : A → Verdict) → ((x : A) → Gives (check x)) → (xs : List A) → Gives (first (map check xs))
   each-gives check g [] = inl refl
   each-gives check g (x ∷ xs) = andThen-gives (check x) (first (map check xs)) (g x) (each-gives check g xs)
+
+  pub all-gives : (checks : List Verdict) → Each Gives checks → Gives (first checks)
+  all-gives [] g = inl refl
+  all-gives (check ∷ checks) g = andThen-gives check (first checks) (g .0) (all-gives checks (g .1))
 
   -- where the checks that come first do not accept, theirs is the refusal
   pub refused-gives : (check next : Verdict) → Gives check → (check ≡ Accepted → ⊥) → P (refusalOf (andThen check next))

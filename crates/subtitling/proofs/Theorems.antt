@@ -278,7 +278,8 @@ read-into-written = lent-theorems.read-into-written
 
 -- ONE ANSWER
 
--- For each function, two answers that keep its promise are equal, lent memory too.
+-- For each function, two answers that keep its promise are equal, lent memory too. The first is `judge` of a packet's
+-- words.
 pub judge-determined : (s : List ℕ) (a b : Verdict) → a ≡ packetVerdict s → b ≡ packetVerdict s → a ≡ b
 judge-determined = determined.judge-determined
 
@@ -291,6 +292,11 @@ read-rows-determined = determined.read-rows-determined
 pub read-into-determined : (s : List ℕ) (lent : List (List ℕ)) (a : Answer) (exit : List (List ℕ))
     → (b : Answer) (end : List (List ℕ)) → ReadsInto s lent a exit → ReadsInto s lent b end → (a ≡ b) × (exit ≡ end)
 read-into-determined = determined.read-into-determined
+
+-- And that of `judge` in `subtitling_writer`, of a value and the room for it.
+pub judge-value-determined : (p : Packet) (rows : List (List ℕ)) (room : ℕ) (a b : Verdict)
+    → a ≡ valueVerdict (held p rows) room → b ≡ valueVerdict (held p rows) room → a ≡ b
+judge-value-determined = determined.judge-value-determined
 
 pub write-determined : (p : Packet) (rows : List (List ℕ)) (out : List ℕ) (a : Written) (exit : List ℕ)
     → (b : Written) (end : List ℕ) → Writes p rows out a exit → Writes p rows out b end → (a ≡ b) × (exit ≡ end)

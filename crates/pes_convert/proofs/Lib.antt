@@ -1,0 +1,4 @@
+pub mod Full
+pub mod Judged
+pub mod Stored
+pub mod Packets
