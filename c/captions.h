@@ -1,10 +1,11 @@
 /*
- * captions.h: closed captions and teletext in four carriages, read, written and replaced; and film, from one of them into
- * another.
+ * captions.h: closed captions and teletext in five carriages, read, written and replaced; and teletext and film, from one
+ * of them into another.
  *
  * Picture area       the user data behind an MPEG-2 picture header, with an SCTE 20 caption unit
  * GA94               ATSC caption data in a unit of the same picture area
  * Subtitling packet  RDD 8 (OP-47), as ancillary data words
+ * PES data field     EN 300 472, teletext for DVB; also from a subtitling packet
  * Line 21 payload    the ISMA RTP payload, what follows the RTP header; or a reel, many such payloads at once
  * Film               pictures of two or three fields, with an SCTE 20 caption unit each, into access units of that payload
  *
@@ -63,14 +64,16 @@ enum {
     CAPTIONS_START_CODE = 3,       /* a 00 00 01 with no B2 behind it */
     CAPTIONS_SECOND_UNIT = 4,      /* more than one caption unit in an area, or more than one GA94 unit */
     CAPTIONS_ENDS = 5,             /* the input is over before an item is complete */
-    CAPTIONS_FIXED = 6,            /* a packet's identifier (DID, SDID, 51, 15), format or footer is another */
-    CAPTIONS_FIELD_OR_LINE = 7,    /* a record of field 0; a descriptor of line 1 to 5 or 23 to 31 */
+    CAPTIONS_FIXED = 6,            /* a packet's identifier (DID, SDID, 51, 15), format or footer is another; or a data
+                                      field's data_identifier, the reserved bits or framing code of its teletext */
+    CAPTIONS_FIELD_OR_LINE = 7,    /* a record of field 0; a descriptor of line 1 to 5 or 23 to 31; in a data field, line 1
+                                      to 6 or 23 to 31 */
     CAPTIONS_ORDER = 8,            /* a record of a lower field than the one before, or of the same and no higher line */
     CAPTIONS_FIFTH_PRIORITY = 9,   /* more than four records of priority 0 in a field */
     CAPTIONS_SAMPLED_VIDEO = 10,   /* the count of sampled video is not 0 */
     CAPTIONS_WORD = 11,            /* a word of more than ten bits, or with wrong parity bits */
     CAPTIONS_CHECKSUM = 12,        /* the sum of the user bytes, or CS, does not come out */
-    CAPTIONS_LENGTH = 13,          /* a length that fits nothing: DC, LENGTH, or that of a payload */
+    CAPTIONS_LENGTH = 13,          /* a length that fits nothing: DC, LENGTH, data_unit_length, or that of a payload */
     CAPTIONS_NO_ROOM = 14,         /* the lent output is shorter than the result */
     CAPTIONS_UNHOLDABLE = 15,      /* a number out of range, records under flag 0, 09 or 0A behind 03, a mismarked slot;
                                       a film state that no call leaves; a run of bytes that ends within a unit */
@@ -79,7 +82,9 @@ enum {
     CAPTIONS_ZEROS = 19,           /* a bit of a unit's alignment or stuffing is not 0 */
     CAPTIONS_RUN_IN = 20,          /* a packet's run-in or framing code (55 55 27) is another */
     CAPTIONS_NOT_SHOWN = 21,       /* film: a record of field 3 in a picture that shows two */
-    CAPTIONS_OTHER_LINE = 22       /* film: a record on another line than the one that is carried */
+    CAPTIONS_OTHER_LINE = 22,      /* film: a record on another line than the one that is carried */
+    CAPTIONS_UNKNOWN_UNIT = 23,    /* a data_unit_id that is neither teletext (02, 03) nor stuffing (FF) */
+    CAPTIONS_SURPLUS_UNIT = 24     /* a byte behind the 31st unit of a data field */
 };
 
 /*
@@ -89,13 +94,14 @@ enum {
  *   in a unit's body   the bit of the area at which the item begins, with 19 the first bit that is not 0:
  *                      byte place / 8 of the area, and in it bit place % 8 from the most significant one
  *   in a packet        the word; with 1 and 5 the number of words
+ *   in a data field    the byte at which the item begins
  *   in a payload       the number of bytes
  * With 1 to 4 of an area it is 0, and so where the value to write, the length of the result or the room is refused. In
  * film it is always 0.
  */
 typedef struct captions_refusal {
     uint8_t number; /* see above */
-    size_t place;   /* a bit, a word or a length */
+    size_t place;   /* a bit, a byte, a word or a length */
 } captions_refusal;
 
 /* What a writer answers. */
@@ -273,6 +279,84 @@ captions_packet captions_packet_read(const uint16_t *words, size_t len,
 captions_written captions_packet_write(uint32_t counter, const captions_slot CAPTIONS_ARRAY(slots, CAPTIONS_SLOTS),
                                        const captions_row CAPTIONS_ARRAY(rows, CAPTIONS_SLOTS),
                                        uint16_t *CAPTIONS_STORED out, size_t room);
+
+/* ---- PES data field (EN 300 472, teletext for DVB) ---- */
+
+enum {
+    CAPTIONS_PES_BYTES = 1427, /* the longest data field: 1 + 31 * 46 */
+    CAPTIONS_PES_UNITS = 31    /* the most units that it has */
+};
+
+/* What a unit of teletext holds. */
+typedef struct captions_teletext {
+    uint8_t field_parity; /* 1 odd, the first field of the frame; 0 even, the second: as `field` of a slot */
+    uint8_t line_offset;  /* 0, or 7 to 22 */
+    uint8_t row[CAPTIONS_ROW_BYTES]; /* as a slot's row has them; in the stream each byte has its bits in reverse */
+} captions_teletext;
+
+/* One unit. Its data_unit_id says which of the two it holds. */
+typedef struct captions_data_unit {
+    uint8_t data_unit_id; /* 0x02 or 0x03: teletext; 0xFF: stuffing */
+    union {
+        captions_teletext teletext;
+        uint8_t stuffing[44]; /* as in the stream */
+    } of;
+} captions_data_unit;
+
+/* What captions_pes_read answers. All zero but for the refusal where the call is refused. */
+typedef struct captions_pes {
+    captions_refusal refusal;
+    uint8_t data_identifier; /* 0x10 to 0x1F */
+    size_t n;                /* how many units */
+} captions_pes;
+
+/*
+ * Reads a data field: data_identifier, then units of 46 bytes to the end. There may be none. In which order the lines
+ * come, and how often, is carried and not judged.
+ *
+ * Refuses from left to right, each at the byte at which its item begins, and with 5 where that item is not all there:
+ * 6 (data_identifier); for each unit 24 (31 units stand before it), 23 (data_unit_id), 13 (data_unit_length is not 2C);
+ * for teletext then 6 (a reserved bit is not 1) and 7 (the line), both at one byte, and 6 (the framing code is not E4).
+ * The 42 bytes of a row are one item, and so are the 44 of stuffing. 24 comes before the byte there is looked at.
+ * Lent: all places of `units` are stored to where the call is accepted, the n units first and zeros behind them.
+ */
+captions_pes captions_pes_read(const uint8_t *field, size_t len,
+                               captions_data_unit CAPTIONS_STORED_ARRAY(units, CAPTIONS_PES_UNITS));
+
+/*
+ * Writes a data field at the front of `out`: 1 + 46 n bytes. Of `units` the first n are looked at, and of a unit what
+ * its data_unit_id says that it holds. No number is narrowed: a data_identifier of 272 is refused.
+ *
+ * Refuses with 15 (data_identifier below 16 or above 31; n above 31); for each unit in order, if it is no stuffing, with
+ * 15 (data_unit_id not 02 or 03, field_parity above 1, line_offset above 31), then 7 (line_offset 1 to 6 or 23 to 31);
+ * then with 14. All are at 0.
+ * Lent: the first `len` bytes of `out` are stored to.
+ */
+captions_written captions_pes_write(uint32_t data_identifier, size_t n,
+                                    const captions_data_unit CAPTIONS_ARRAY(units, CAPTIONS_PES_UNITS),
+                                    uint8_t *CAPTIONS_STORED out, size_t room);
+
+/*
+ * Writes a packet's teletext as a data field at the front of `out`: data_identifier 0x10, then a unit for each full slot
+ * in order, with data_unit_id 0x03 and the slot's field, line and row. Counter and reserved bits are dropped, and an empty
+ * slot gives nothing. k full slots give 1 + 46 k bytes, so that 231 are room enough for each packet.
+ *
+ * Refuses as captions_packet_read does, with its places; then with 7 for a full slot of line 6, which a packet may have
+ * and a data field may not; then with 14. The last two are at 0.
+ * Lent: the first `len` bytes of `out` are stored to.
+ */
+captions_written captions_pes_convert(const uint16_t *words, size_t len, uint8_t *CAPTIONS_STORED out, size_t room);
+
+/*
+ * The same from a packet's value, as captions_packet_read gives it and captions_packet_write takes it.
+ *
+ * Refuses as captions_packet_write does but for its 14, over all slots; then with 7 for a full slot of line 6; then with
+ * 14, for the data field. All are at 0.
+ * Lent: as for captions_pes_convert.
+ */
+captions_written captions_pes_convert_value(uint32_t counter, const captions_slot CAPTIONS_ARRAY(slots, CAPTIONS_SLOTS),
+                                            const captions_row CAPTIONS_ARRAY(rows, CAPTIONS_SLOTS),
+                                            uint8_t *CAPTIONS_STORED out, size_t room);
 
 /* ---- Line 21 payload ---- */
 
@@ -477,6 +561,20 @@ CAPTIONS_FIELD(captions_packet, refusal, 0, 16);
 CAPTIONS_FIELD(captions_packet, counter, 16, 4);
 CAPTIONS_FIELD(captions_packet, slots, 20, 20);
 CAPTIONS_SIZE(captions_packet, 40);
+
+CAPTIONS_FIELD(captions_teletext, field_parity, 0, 1);
+CAPTIONS_FIELD(captions_teletext, line_offset, 1, 1);
+CAPTIONS_FIELD(captions_teletext, row, 2, 42);
+CAPTIONS_SIZE(captions_teletext, 44);
+
+CAPTIONS_FIELD(captions_data_unit, data_unit_id, 0, 1);
+CAPTIONS_FIELD(captions_data_unit, of, 1, 44);
+CAPTIONS_SIZE(captions_data_unit, 45);
+
+CAPTIONS_FIELD(captions_pes, refusal, 0, 16);
+CAPTIONS_FIELD(captions_pes, data_identifier, 16, 1);
+CAPTIONS_FIELD(captions_pes, n, 24, 8);
+CAPTIONS_SIZE(captions_pes, 32);
 
 CAPTIONS_FIELD(captions_access_unit, cc_valid_1, 0, 1);
 CAPTIONS_FIELD(captions_access_unit, cc_valid_2, 1, 1);

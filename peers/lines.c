@@ -14,8 +14,10 @@ void print_bytes(const uint8_t *bytes, size_t len)
 {
     if (len == 0)
         printf("-");
-    for (size_t i = 0; i < len; i++)
-        printf("%02X", bytes[i]);
+    for (size_t i = 0; i < len; i++) {
+        putchar("0123456789ABCDEF"[bytes[i] >> 4]);
+        putchar("0123456789ABCDEF"[bytes[i] & 15]);
+    }
 }
 
 const char *next_line(FILE *file)

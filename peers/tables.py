@@ -45,11 +45,12 @@ def rows(tables):
 
 def main():
     sections = observations(open(sys.argv[1]))
-    starts = ["Picture area, SCTE 20", "Picture area, GA94", "Subtitling", "Line 21 payload, taken"]
-    scte20, ga94, packets, payloads = (
+    starts = ["Picture area, SCTE 20", "Picture area, GA94", "Subtitling", "Line 21 payload, taken", "PES data field, read",
+              "PES data field, written"]
+    scte20, ga94, *others = (
         [cases for name, cases in sections.items() if name.startswith(start)] for start in starts)
     ga94 = [without_each(r"CEA-708 closed captions, \d+ bytes", cases) for cases in ga94]
-    table = [row for tables in (scte20, ga94, packets, payloads) for row in rows(tables)]
+    table = [row for tables in (scte20, ga94, *others) for row in rows(tables)]
     if len(sys.argv) < 3:
         print("\n".join(table))
         return

@@ -12,6 +12,7 @@ static union lent {
     captions_record records[CAPTIONS_RECORDS + 2];
     captions_ga94_record ga94[CAPTIONS_RECORDS + 2];
     captions_row rows[CAPTIONS_SLOTS + 1];
+    captions_data_unit data_units[CAPTIONS_PES_UNITS + 1];
     captions_access_unit units[CAPTIONS_ACCESS_UNITS + 2];
 } lent[3];
 
@@ -130,6 +131,39 @@ bool agree_packet_write(const packet_value *v, size_t room)
     captions_written a = plain_calls.packet_write(v->counter, v->slots, v->rows, lent[0].words, room);
     captions_written b = library_calls.packet_write(v->counter, v->slots, v->rows, lent[1].words, room);
     return same_written(a, b) && same_lent(sizeof lent[0].words);
+}
+
+bool agree_pes_read(const pes_input *pes)
+{
+    fill(sizeof lent[0].data_units);
+    captions_pes a = plain_calls.pes_read(pes->bytes, pes->len, lent[0].data_units);
+    captions_pes b = library_calls.pes_read(pes->bytes, pes->len, lent[1].data_units);
+    return same_refusal(a.refusal, b.refusal) && a.data_identifier == b.data_identifier && a.n == b.n &&
+           same_lent(sizeof lent[0].data_units);
+}
+
+bool agree_pes_write(const pes_value *v, size_t room)
+{
+    fill(reach(room));
+    captions_written a = plain_calls.pes_write(v->data_identifier, v->n, v->units, lent[0].bytes, room);
+    captions_written b = library_calls.pes_write(v->data_identifier, v->n, v->units, lent[1].bytes, room);
+    return same_written(a, b) && same_lent(reach(room));
+}
+
+bool agree_pes_convert(const packet_input *packet, size_t room)
+{
+    fill(reach(room));
+    captions_written a = plain_calls.pes_convert(packet->words, packet->len, lent[0].bytes, room);
+    captions_written b = library_calls.pes_convert(packet->words, packet->len, lent[1].bytes, room);
+    return same_written(a, b) && same_lent(reach(room));
+}
+
+bool agree_pes_convert_value(const packet_value *v, size_t room)
+{
+    fill(reach(room));
+    captions_written a = plain_calls.pes_convert_value(v->counter, v->slots, v->rows, lent[0].bytes, room);
+    captions_written b = library_calls.pes_convert_value(v->counter, v->slots, v->rows, lent[1].bytes, room);
+    return same_written(a, b) && same_lent(reach(room));
 }
 
 bool agree_payload_read(const payload_input *payload)
@@ -355,10 +389,14 @@ static void random_packet(packet_input *packet)
     packet->len = below(8) != 0 ? n : nearly(n, CAPTIONS_PACKET_WORDS + 16);
 }
 
-static bool random_packet_write(void)
+/* The value to write as a packet, and to convert. Lines are 6 to 22, and a data field has no line 6. */
+static bool random_packet_value(void)
 {
     packet_value v;
     make_packet(&v, below(6));
+    if (below(2) == 0) {
+        lift_line_6(&v);
+    }
     if (below(3) == 0) {
         mutate(v.slots, sizeof v.slots);
     }
@@ -368,7 +406,62 @@ static bool random_packet_write(void)
     if (below(16) == 0) {
         v.counter += below(3) * 40000;
     }
-    return agree_packet_write(&v, below(2) == 0 ? CAPTIONS_PACKET_WORDS : below(250));
+    return agree_packet_write(&v, below(2) == 0 ? CAPTIONS_PACKET_WORDS : below(250)) &&
+           agree_pes_convert_value(&v, below(3) != 0 ? CAPTIONS_PES_BYTES : below(240));
+}
+
+enum { UNIT_BYTES = 46, UNIT_HEAD = 4 /* the bytes of a unit that are judged */ };
+
+/* Some units become stuffing, of any bytes. */
+static void stuff_some(pes_value *v)
+{
+    for (size_t i = 0; i < v->n; i++) {
+        if (below(5) == 0) {
+            v->units[i].data_unit_id = 0xFF;
+            v->units[i].of.stuffing[0] = odd_byte();
+            v->units[i].of.stuffing[1] = odd_byte();
+        }
+    }
+}
+
+/* The head of a unit is changed more often than its row, which can be any bytes. */
+static void mutate_field(const pes_value *v, pes_input *pes)
+{
+    if (v->n > 0 && below(2) == 0) {
+        mutate(pes->bytes + 1 + UNIT_BYTES * below((uint32_t)v->n), UNIT_HEAD);
+    }
+    if (below(8) == 0) {
+        mutate(pes->bytes, pes->len);
+    }
+    if (below(16) == 0) {
+        pes->bytes[0] = odd_byte();
+    }
+    /* Cut at any byte, or some bytes more. */
+    if (below(4) == 0) {
+        size_t end = pes->len;
+        pes->len = below(2) == 0 ? below((uint32_t)end + 1) : end + below(64);
+        memset(pes->bytes + end, odd_byte(), sizeof pes->bytes - end);
+    }
+}
+
+static bool random_pes(void)
+{
+    static pes_value v;
+    static pes_input pes;
+    make_pes(&v, below(4) == 0 ? 29 + below(3) : below(5));
+    stuff_some(&v);
+    carry_pes(&v, &pes);
+    mutate_field(&v, &pes);
+    bool same = agree_pes_read(&pes);
+    size_t room = below(2) == 0 ? 1 + UNIT_BYTES * v.n : below(CAPTIONS_PES_BYTES + 2);
+    if (below(3) == 0 && v.n > 0) {
+        mutate(&v.units[below((uint32_t)v.n)], UNIT_HEAD);
+    }
+    if (below(12) == 0) {
+        v.data_identifier = below(300);
+        v.n = below(34);
+    }
+    return same && agree_pes_write(&v, room);
 }
 
 static bool random_payload(void)
@@ -447,7 +540,7 @@ bool agree_on_random(size_t inputs)
 {
     static area_input area;
     static packet_input packet;
-    for (size_t i = 0; i < inputs; i += 14) {
+    for (size_t i = 0; i < inputs; i += 18) {
         unit_value v;
         ga94_value g;
         random_area(&area);
@@ -461,7 +554,8 @@ bool agree_on_random(size_t inputs)
         size_t room = below(8) == 0 || v.z > 1000 || g.z > 1000 ? CAPTIONS_AREA_BYTES : below(600);
         if (!agree_area_read(&area) || !agree_unit_write(&v, room) || !agree_area_replace(&area, &v, room) ||
             !agree_ga94_read(&area) || !agree_ga94_write(&g, room) || !agree_ga94_replace(&area, &g, room) ||
-            !agree_packet_read(&packet) || !random_packet_write() || !random_payload() || !random_reel() || !random_film()) {
+            !agree_packet_read(&packet) || !agree_pes_convert(&packet, below(3) != 0 ? CAPTIONS_PES_BYTES : below(240)) ||
+            !random_packet_value() || !random_pes() || !random_payload() || !random_reel() || !random_film()) {
             return false;
         }
     }

@@ -37,6 +37,8 @@ typedef struct sample {
     ga94_value ga94;
     packet_input packet;
     packet_value numbers;
+    pes_input pes;
+    pes_value teletext;
     payload_input payload;
     payload_value access;
     reel_value reel;
@@ -50,12 +52,13 @@ static uint16_t out_words[CAPTIONS_PACKET_WORDS];
 static captions_record out_records[CAPTIONS_RECORDS];
 static captions_ga94_record out_ga94[CAPTIONS_RECORDS];
 static captions_row out_rows[CAPTIONS_SLOTS];
+static captions_data_unit out_data_units[CAPTIONS_PES_UNITS];
 static captions_access_unit out_units[CAPTIONS_ACCESS_UNITS];
 
 /* Every answer goes in here, so that no call is without effect. */
 static volatile uint64_t sink;
 
-/* ---- The fourteen calls, `times` over the samples in turn ---- */
+/* ---- The eighteen calls, `times` over the samples in turn ---- */
 
 static void run_area_read(const calls *c, const sample *samples, size_t times)
 {
@@ -125,6 +128,38 @@ static void run_packet_write(const calls *c, const sample *samples, size_t times
     for (size_t i = 0; i < times; i++) {
         const packet_value *v = &samples[i % SAMPLES].numbers;
         sink += c->packet_write(v->counter, v->slots, v->rows, out_words, CAPTIONS_PACKET_WORDS).len;
+    }
+}
+
+static void run_pes_read(const calls *c, const sample *samples, size_t times)
+{
+    for (size_t i = 0; i < times; i++) {
+        const pes_input *p = &samples[i % SAMPLES].pes;
+        sink += c->pes_read(p->bytes, p->len, out_data_units).n + out_data_units[0].of.teletext.row[0];
+    }
+}
+
+static void run_pes_write(const calls *c, const sample *samples, size_t times)
+{
+    for (size_t i = 0; i < times; i++) {
+        const pes_value *v = &samples[i % SAMPLES].teletext;
+        sink += c->pes_write(v->data_identifier, v->n, v->units, out_bytes, sizeof out_bytes).len;
+    }
+}
+
+static void run_pes_convert(const calls *c, const sample *samples, size_t times)
+{
+    for (size_t i = 0; i < times; i++) {
+        const packet_input *p = &samples[i % SAMPLES].packet;
+        sink += c->pes_convert(p->words, p->len, out_bytes, sizeof out_bytes).len;
+    }
+}
+
+static void run_pes_convert_value(const calls *c, const sample *samples, size_t times)
+{
+    for (size_t i = 0; i < times; i++) {
+        const packet_value *v = &samples[i % SAMPLES].numbers;
+        sink += c->pes_convert_value(v->counter, v->slots, v->rows, out_bytes, sizeof out_bytes).len;
     }
 }
 
@@ -257,6 +292,20 @@ static void packet(sample *s, size_t n)
     carry_packet(&s->numbers, &s->packet);
 }
 
+/* One that a data field can have: without line 6. */
+static void packet_to_convert(sample *s, size_t n)
+{
+    make_packet(&s->numbers, n);
+    lift_line_6(&s->numbers);
+    carry_packet(&s->numbers, &s->packet);
+}
+
+static void data_field(sample *s, size_t n)
+{
+    make_pes(&s->teletext, n);
+    carry_pes(&s->teletext, &s->pes);
+}
+
 static void payload(sample *s, size_t n)
 {
     make_payload(&s->access, n);
@@ -352,6 +401,12 @@ static const row rows[] = {
     {"packet of 20 words: write", &plain_calls, packet, 0, run_packet_write},
     {"packet of 245 words: read", &plain_calls, packet, 5, run_packet_read},
     {"packet of 245 words: write", &plain_calls, packet, 5, run_packet_write},
+    {"data field of 1 unit: read", &plain_calls, data_field, 1, run_pes_read},
+    {"data field of 1 unit: write", &plain_calls, data_field, 1, run_pes_write},
+    {"data field of 31 units: read", &plain_calls, data_field, 31, run_pes_read},
+    {"data field of 31 units: write", &plain_calls, data_field, 31, run_pes_write},
+    {"packet of 245 words into a data field", &plain_calls, packet_to_convert, 5, run_pes_convert},
+    {"packet of 245 words into a data field: value", &plain_calls, packet_to_convert, 5, run_pes_convert_value},
     {"payload of 1 unit: read", &plain_calls, payload, 1, run_payload_read},
     {"payload of 1 unit: write", &plain_calls, payload, 1, run_payload_write},
     {"payload of 291 units: read", &plain_calls, payload, 291, run_payload_read},
@@ -402,6 +457,18 @@ static bool agree_on_sample(const row *r, const sample *s)
     }
     if (r->run == run_packet_write) {
         return agree_packet_write(&s->numbers, CAPTIONS_PACKET_WORDS);
+    }
+    if (r->run == run_pes_read) {
+        return agree_pes_read(&s->pes);
+    }
+    if (r->run == run_pes_write) {
+        return agree_pes_write(&s->teletext, CAPTIONS_AREA_BYTES);
+    }
+    if (r->run == run_pes_convert) {
+        return agree_pes_convert(&s->packet, CAPTIONS_AREA_BYTES);
+    }
+    if (r->run == run_pes_convert_value) {
+        return agree_pes_convert_value(&s->numbers, CAPTIONS_AREA_BYTES);
     }
     if (r->run == run_payload_read) {
         return agree_payload_read(&s->payload);

@@ -6,20 +6,25 @@
 #include <string.h>
 
 const calls plain_calls = {
-    plain_area_read,    plain_unit_write,       plain_area_replace, plain_ga94_read,    plain_ga94_write,
-    plain_ga94_replace, plain_packet_read,      plain_packet_write, plain_payload_read, plain_payload_write,
-    plain_reel_write,   plain_reel_write_bytes, plain_film_picture, plain_film_close,
+    plain_area_read,    plain_unit_write,    plain_area_replace, plain_ga94_read,
+    plain_ga94_write,   plain_ga94_replace,  plain_packet_read,  plain_packet_write,
+    plain_pes_read,     plain_pes_write,     plain_pes_convert,  plain_pes_convert_value,
+    plain_payload_read, plain_payload_write, plain_reel_write,   plain_reel_write_bytes,
+    plain_film_picture, plain_film_close,
 };
 
 const calls memchr_calls = {
-    plain_area_read_memchr, plain_unit_write,       plain_area_replace, plain_ga94_read,    plain_ga94_write,
-    plain_ga94_replace,     plain_packet_read,      plain_packet_write, plain_payload_read, plain_payload_write,
-    plain_reel_write,       plain_reel_write_bytes, plain_film_picture, plain_film_close,
+    plain_area_read_memchr, plain_unit_write,    plain_area_replace, plain_ga94_read,
+    plain_ga94_write,       plain_ga94_replace,  plain_packet_read,  plain_packet_write,
+    plain_pes_read,         plain_pes_write,     plain_pes_convert,  plain_pes_convert_value,
+    plain_payload_read,     plain_payload_write, plain_reel_write,   plain_reel_write_bytes,
+    plain_film_picture,     plain_film_close,
 };
 
 const calls library_calls = {
     captions_area_read,    captions_unit_write,    captions_area_replace, captions_ga94_read,
     captions_ga94_write,   captions_ga94_replace,  captions_packet_read,  captions_packet_write,
+    captions_pes_read,     captions_pes_write,     captions_pes_convert,  captions_pes_convert_value,
     captions_payload_read, captions_payload_write, captions_reel_write,   captions_reel_write_bytes,
     captions_film_picture, captions_film_close,
 };
@@ -94,6 +99,31 @@ void make_packet(packet_value *v, size_t k)
     }
 }
 
+void lift_line_6(packet_value *v)
+{
+    for (size_t i = 0; i < CAPTIONS_SLOTS; i++) {
+        if (v->slots[i].line == 6) {
+            v->slots[i].line = 7;
+        }
+    }
+}
+
+void make_pes(pes_value *v, size_t n)
+{
+    memset(v, 0, sizeof *v);
+    v->data_identifier = 0x10 + below(16);
+    v->n = n;
+    for (size_t i = 0; i < n; i++) {
+        captions_teletext *teletext = &v->units[i].of.teletext;
+        v->units[i].data_unit_id = (uint8_t)(2 + below(2));
+        teletext->field_parity = (uint8_t)below(2);
+        teletext->line_offset = (uint8_t)(7 + below(16));
+        for (size_t j = 0; j < CAPTIONS_ROW_BYTES; j++) {
+            teletext->row[j] = byte();
+        }
+    }
+}
+
 void make_run(captions_access_unit *units, size_t n)
 {
     for (size_t i = 0; i < n; i++) {
@@ -139,6 +169,11 @@ void carry_ga94(const ga94_value *v, area_input *area)
 void carry_packet(const packet_value *v, packet_input *packet)
 {
     packet->len = plain_packet_write(v->counter, v->slots, v->rows, packet->words, CAPTIONS_PACKET_WORDS).len;
+}
+
+void carry_pes(const pes_value *v, pes_input *pes)
+{
+    pes->len = plain_pes_write(v->data_identifier, v->n, v->units, pes->bytes, CAPTIONS_PES_BYTES).len;
 }
 
 void carry_payload(const payload_value *v, payload_input *payload)

@@ -39,6 +39,17 @@ typedef struct packet_input {
     uint16_t words[CAPTIONS_PACKET_WORDS + 16];
 } packet_input;
 
+typedef struct pes_value {
+    uint32_t data_identifier;
+    size_t n;
+    captions_data_unit units[CAPTIONS_PES_UNITS];
+} pes_value;
+
+typedef struct pes_input {
+    size_t len;
+    uint8_t bytes[CAPTIONS_PES_BYTES + 64];
+} pes_input;
+
 typedef struct payload_value {
     uint32_t flags;
     size_t m;
@@ -70,7 +81,7 @@ typedef struct film_value {
     unit_value unit;
 } film_value;
 
-/* The fourteen calls of one program. */
+/* The eighteen calls of one program. */
 typedef struct calls {
     captions_unit (*area_read)(const uint8_t *, size_t, captions_record *);
     captions_written (*unit_write)(uint32_t, uint32_t, size_t, size_t, const captions_record *, uint8_t *, size_t);
@@ -83,6 +94,10 @@ typedef struct calls {
                                      const captions_ga94_record *, uint8_t *, size_t);
     captions_packet (*packet_read)(const uint16_t *, size_t, captions_row *);
     captions_written (*packet_write)(uint32_t, const captions_slot *, const captions_row *, uint16_t *, size_t);
+    captions_pes (*pes_read)(const uint8_t *, size_t, captions_data_unit *);
+    captions_written (*pes_write)(uint32_t, size_t, const captions_data_unit *, uint8_t *, size_t);
+    captions_written (*pes_convert)(const uint16_t *, size_t, uint8_t *, size_t);
+    captions_written (*pes_convert_value)(uint32_t, const captions_slot *, const captions_row *, uint8_t *, size_t);
     captions_payload (*payload_read)(const uint8_t *, size_t, captions_access_unit *);
     captions_written (*payload_write)(uint32_t, size_t, const captions_access_unit *, uint8_t *, size_t);
     captions_written (*reel_write)(uint32_t, size_t, const captions_access_unit *, size_t, uint8_t *, size_t);
@@ -99,13 +114,14 @@ extern const calls library_calls;
 /* A number below n, which is not 0. */
 uint32_t below(uint32_t n);
 
-/* Legal values of n records, k structures, m units. */
+/* Legal values of n records, k structures, n units of teletext, m access units. */
 void make_unit(unit_value *v, size_t n, size_t z);
 void make_ga94(ga94_value *v, size_t n, size_t z);
 void make_packet(packet_value *v, size_t k);
+void make_pes(pes_value *v, size_t n);
 void make_payload(payload_value *v, size_t m);
 
-/* n legal units. */
+/* n legal access units. */
 void make_run(captions_access_unit *units, size_t n);
 
 /* A picture with these flags and records of its first n display fields, before which nothing waits. */
@@ -115,7 +131,11 @@ void make_picture(film_value *v, uint32_t top_field_first, uint32_t repeat_first
 void carry_unit(const unit_value *v, area_input *area);
 void carry_ga94(const ga94_value *v, area_input *area);
 void carry_packet(const packet_value *v, packet_input *packet);
+void carry_pes(const pes_value *v, pes_input *pes);
 void carry_payload(const payload_value *v, payload_input *payload);
+
+/* Lines that a data field may have: line 6 becomes another. */
+void lift_line_6(packet_value *v);
 
 /* Puts a foreign unit with a body of that many bytes behind what stands in the area. Data groups are four bytes each. */
 enum body { RANDOM_BODY, ZERO_BODY, TEXT_BODY, GROUP_BODY, BODIES };

@@ -1,5 +1,6 @@
 /* plain.c: SCTE 20 in a picture area; see plain.h. Sections named in comments are those of docs/RULES.md. */
 #include "plain_records.h"
+#include "plain_reversed.h"
 #include "plain_search.h"
 
 enum {
@@ -12,13 +13,6 @@ enum {
 };
 
 /* ---- Bits ---- */
-
-#define REVERSED2(n) (n), (n) + 2 * 64, (n) + 1 * 64, (n) + 3 * 64
-#define REVERSED4(n) REVERSED2(n), REVERSED2((n) + 2 * 16), REVERSED2((n) + 1 * 16), REVERSED2((n) + 3 * 16)
-#define REVERSED6(n) REVERSED4(n), REVERSED4((n) + 2 * 4), REVERSED4((n) + 1 * 4), REVERSED4((n) + 3 * 4)
-
-/* The data bytes travel least significant bit first ("Picture area"). */
-static const uint8_t reversed[256] = {REVERSED6(0), REVERSED6(2), REVERSED6(1), REVERSED6(3)};
 
 static uint64_t load_be64(const uint8_t *s)
 {
@@ -52,6 +46,7 @@ static size_t item_of(uint8_t number, last before, captions_record r)
     return number == CAPTIONS_ORDER && r.field_number == before.field ? LINE : FIELD;
 }
 
+/* The data bytes travel least significant bit first ("Picture area"). */
 static captions_record record_of(uint32_t construct)
 {
     return (captions_record){

@@ -1,5 +1,5 @@
 /*
- * plain.h: the fourteen calls of captions.h in plain C, to measure the library against.
+ * plain.h: the eighteen calls of captions.h in plain C, to measure the library against.
  *
  * Each does the same work as its namesake: the checks of docs/RULES.md in their order, the same refusals and places,
  * the same answers, and no lent memory changed in a refusal.
@@ -45,6 +45,18 @@ captions_packet plain_packet_read(const uint16_t *words, size_t len,
 captions_written plain_packet_write(uint32_t counter, const captions_slot slots[static CAPTIONS_SLOTS],
                                     const captions_row rows[static CAPTIONS_SLOTS],
                                     uint16_t *out, size_t room);
+
+captions_pes plain_pes_read(const uint8_t *field, size_t len, captions_data_unit units[static CAPTIONS_PES_UNITS]);
+
+captions_written plain_pes_write(uint32_t data_identifier, size_t n,
+                                 const captions_data_unit units[static CAPTIONS_PES_UNITS],
+                                 uint8_t *out, size_t room);
+
+captions_written plain_pes_convert(const uint16_t *words, size_t len, uint8_t *out, size_t room);
+
+captions_written plain_pes_convert_value(uint32_t counter, const captions_slot slots[static CAPTIONS_SLOTS],
+                                         const captions_row rows[static CAPTIONS_SLOTS],
+                                         uint8_t *out, size_t room);
 
 captions_payload plain_payload_read(const uint8_t *payload, size_t len,
                                     captions_access_unit units[static CAPTIONS_ACCESS_UNITS]);

@@ -1,5 +1,5 @@
 /* plain_packet.c: the subtitling packet; see plain.h. Sections named in comments are those of docs/RULES.md. */
-#include "plain.h"
+#include "plain_packet.h"
 
 #include <string.h>
 
@@ -206,6 +206,21 @@ static uint8_t judge_slot(captions_slot slot, const captions_row *row)
     return line_holds(slot.line) ? CAPTIONS_ACCEPTED : CAPTIONS_FIELD_OR_LINE;
 }
 
+uint8_t plain_judge_packet(uint32_t counter, const captions_slot slots[static CAPTIONS_SLOTS],
+                           const captions_row rows[static CAPTIONS_SLOTS])
+{
+    if (counter > 0xFFFF) {
+        return CAPTIONS_UNHOLDABLE;
+    }
+    for (size_t i = 0; i < CAPTIONS_SLOTS; i++) {
+        uint8_t number = judge_slot(slots[i], &rows[i]);
+        if (number != CAPTIONS_ACCEPTED) {
+            return number;
+        }
+    }
+    return CAPTIONS_ACCEPTED;
+}
+
 /* Three fixed words and the row's. Answers their sum. */
 static uint16_t put_structure(const captions_row *restrict row, uint16_t *restrict out)
 {
@@ -225,15 +240,12 @@ captions_written plain_packet_write(uint32_t counter, const captions_slot slots[
                                     const captions_row rows[static CAPTIONS_SLOTS],
                                     uint16_t *out, size_t room)
 {
-    if (counter > 0xFFFF) {
-        return (captions_written){.refusal = {CAPTIONS_UNHOLDABLE, 0}};
+    uint8_t number = plain_judge_packet(counter, slots, rows);
+    if (number != CAPTIONS_ACCEPTED) {
+        return (captions_written){.refusal = {number, 0}};
     }
     size_t len = MIN_WORDS;
     for (size_t i = 0; i < CAPTIONS_SLOTS; i++) {
-        uint8_t number = judge_slot(slots[i], &rows[i]);
-        if (number != CAPTIONS_ACCEPTED) {
-            return (captions_written){.refusal = {number, 0}};
-        }
         len += slots[i].full ? STRUCTURE_WORDS : 0;
     }
     if (len > room) {

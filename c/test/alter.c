@@ -95,6 +95,8 @@ static const char *smallest_answer(operation op)
         return "ok len=0 out=-";
     if (op == AREA_READ || op == GA94_READ)
         return "ok none";
+    if (op == PES_READ)
+        return "ok identifier=16 units=-";
     if (op == PAYLOAD_READ)
         return "ok flags=0 m=0 units=-";
     return "ok counter=0 slots=0.0.0.0.00*42,0.0.0.0.00*42,0.0.0.0.00*42,0.0.0.0.00*42,0.0.0.0.00*42";

@@ -5,14 +5,14 @@
 
 #include "film_cases.h"
 #include "mutate.h"
+#include "pes_cases.h"
 #include "reel_cases.h"
 
 enum { MEANT_LEGAL = 35 };
 
 /* ---- Rooms ---- */
 
-/* Room for `len` elements: exactly, or more, or much more. */
-static size_t enough_room(dice *d, size_t len, size_t most)
+size_t enough_room(dice *d, size_t len, size_t most)
 {
     switch (below(d, 8)) {
     case 0:
@@ -26,7 +26,7 @@ static size_t enough_room(dice *d, size_t len, size_t most)
     }
 }
 
-static size_t any_room(dice *d, size_t len, size_t most)
+size_t any_room(dice *d, size_t len, size_t most)
 {
     size_t room;
 
@@ -268,7 +268,9 @@ static operation some_operation(dice *d)
                                       AREA_REPLACE, UNIT_WRITE,   UNIT_WRITE,   GA94_READ,    GA94_READ,    GA94_READ,
                                       GA94_REPLACE, GA94_REPLACE, GA94_REPLACE, GA94_WRITE,   GA94_WRITE,   PACKET_READ,
                                       PACKET_READ,  PACKET_READ,  PACKET_WRITE, PACKET_WRITE, PAYLOAD_READ, PAYLOAD_WRITE,
-                                      FILM_RUN,     FILM_RUN,     PAYLOAD_REEL, PAYLOAD_REEL};
+                                      FILM_RUN,     FILM_RUN,     PAYLOAD_REEL, PAYLOAD_REEL, PES_READ,     PES_READ,
+                                      PES_READ,     PES_READ,     PES_WRITE,    PES_WRITE,    PES_CONVERT,  PES_CONVERT,
+                                      PES_CONVERT_VALUE,          PES_CONVERT_VALUE};
 
     return often[below(d, sizeof often / sizeof *often)];
 }
@@ -292,6 +294,8 @@ void make_case(dice *d, question *q)
         packet_read_case(d, q, legal);
     else if (q->op == PACKET_WRITE)
         packet_write_case(d, q, legal);
+    else if (q->op == PES_READ || q->op == PES_WRITE || q->op == PES_CONVERT || q->op == PES_CONVERT_VALUE)
+        pes_case(d, q, legal);
     else if (q->op == PAYLOAD_READ)
         payload_read_case(d, q, legal);
     else if (q->op == PAYLOAD_WRITE)

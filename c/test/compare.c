@@ -15,6 +15,7 @@ static const char *number_name(operation op, size_t i)
     static const char *const unit[] = {"present", "reserved", "vbi_data_flag", "n", "z"};
     static const char *const ga94[] = {"present", "process_em_data_flag", "process_cc_data_flag", "additional_data_flag",
                                        "em_data", "n", "z"};
+    static const char *const pes[] = {"data_identifier", "n"};
     static const char *const payload[] = {"flags", "m"};
     static const char *const slot[] = {"full", "line", "reserved", "field"};
     static const char *const film[FILM_NUMBERS] = {"number", "place", "m"};
@@ -29,6 +30,8 @@ static const char *number_name(operation op, size_t i)
         return unit[i - 2];
     if (op == GA94_READ)
         return ga94[i - 2];
+    if (op == PES_READ)
+        return pes[i - 2];
     if (op == PAYLOAD_READ)
         return payload[i - 2];
     return i == 2 ? "counter" : slot[(i - 3) % 4];

@@ -57,7 +57,7 @@ static uint16_t take_hex(cursor *c, unsigned digits)
 /* `*N` behind an item: how often it stands there; 1 without it. More than any input holds is bad, not wide. */
 static size_t take_times(cursor *c)
 {
-    cursor times = {c->at, c->bad, false};
+    cursor times = {c->at, c->bad, false, false};
     size_t value;
 
     if (!take(&times, '*'))
@@ -199,6 +199,48 @@ size_t take_unit_list(cursor *c, captions_access_unit *to, size_t most)
         captions_access_unit unit = take_unit(c);
         for (size_t times = take_times(c); times > 0 && !c->bad; times--, len++)
             if (len < most)
+                to[len] = unit;
+    } while (!c->bad && take(c, ','));
+    return len;
+}
+
+static void take_hex_bytes(cursor *c, uint8_t *to, size_t count)
+{
+    for (size_t i = 0; i < count; i++)
+        to[i] = (uint8_t)take_hex(c, 2);
+}
+
+/* `T.id.parity.line.` and 42 bytes, or `S.` and 44. */
+static captions_data_unit take_data_unit(cursor *c)
+{
+    captions_data_unit u = {.data_unit_id = LAYOUT_STUFFING_ID};
+    bool stuffing = take(c, 'S');
+
+    if (!stuffing)
+        need(c, 'T');
+    need(c, '.');
+    if (stuffing) {
+        take_hex_bytes(c, u.of.stuffing, sizeof u.of.stuffing);
+        return u;
+    }
+    u.data_unit_id = take_small(c);
+    u.of.teletext.field_parity = take_small(c);
+    u.of.teletext.line_offset = take_small(c);
+    take_hex_bytes(c, u.of.teletext.row, sizeof u.of.teletext.row);
+    c->as_stuffing = c->as_stuffing || u.data_unit_id == LAYOUT_STUFFING_ID;
+    return u;
+}
+
+size_t take_data_unit_list(cursor *c, captions_data_unit *to)
+{
+    size_t len = 0;
+
+    if (take(c, '-'))
+        return 0;
+    do {
+        captions_data_unit unit = take_data_unit(c);
+        for (size_t times = take_times(c); times > 0 && !c->bad; times--, len++)
+            if (len < CAPTIONS_PES_UNITS)
                 to[len] = unit;
     } while (!c->bad && take(c, ','));
     return len;

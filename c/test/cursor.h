@@ -9,6 +9,7 @@ typedef struct cursor {
     const char *at;
     bool bad;  /* the text is not formed as it should be */
     bool wide; /* a number that the C type cannot hold */
+    bool as_stuffing; /* a data unit of teletext whose id is that of stuffing, as which the C type has it */
 } cursor;
 
 /* One character, where it stands there; needed, where the text is bad without it. */
@@ -26,6 +27,7 @@ size_t take_bytes(cursor *c, uint8_t *to, size_t most);
 size_t take_record_list(cursor *c, captions_record *to);
 size_t take_ga94_list(cursor *c, captions_ga94_record *to);
 size_t take_unit_list(cursor *c, captions_access_unit *to, size_t most);
+size_t take_data_unit_list(cursor *c, captions_data_unit *to);
 
 /* GA94's three flags: digits 0 or 1 in stream order. Larger ones, which no file has, are decimals joined by `.`. */
 void take_flags(cursor *c, ga94_value *to);

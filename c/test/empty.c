@@ -40,6 +40,15 @@ static const empty_case cases[] = {
     {"packet_read: words", PACKET_READ, true, false, true, 5, 0},
     {"packet_write: out", PACKET_WRITE, false, true, true, 14, 0},
     {"packet_write: out, a value that is not legal", PACKET_WRITE, false, true, false, 15, 0},
+    {"pes_read: field", PES_READ, true, false, true, 5, 0},
+    {"pes_write: out", PES_WRITE, false, true, true, 14, 0},
+    {"pes_write: out, a value that is not legal", PES_WRITE, false, true, false, 15, 0},
+    {"pes_convert: words", PES_CONVERT, true, false, true, 5, 0},
+    {"pes_convert: out", PES_CONVERT, false, true, true, 14, 0},
+    {"pes_convert: out, a line that is not legal", PES_CONVERT, false, true, false, 7, 0},
+    {"pes_convert: words and out", PES_CONVERT, true, true, true, 5, 0},
+    {"pes_convert_value: out", PES_CONVERT_VALUE, false, true, true, 14, 0},
+    {"pes_convert_value: out, a value that is not legal", PES_CONVERT_VALUE, false, true, false, 15, 0},
     {"payload_read: payload", PAYLOAD_READ, true, false, true, 2, 0},
     {"payload_write: out", PAYLOAD_WRITE, false, true, true, 14, 0},
     {"payload_write: out, a value that is not legal", PAYLOAD_WRITE, false, true, false, 15, 0},
@@ -117,6 +126,36 @@ static captions_written eager_packet_write(uint32_t counter, const captions_slot
     return captions_packet_write(counter, slots, rows, out, room);
 }
 
+static captions_pes eager_pes_read(const uint8_t *field, size_t len, captions_data_unit *units)
+{
+    touch(field);
+    return captions_pes_read(field, len, units);
+}
+
+static captions_written eager_pes_write(uint32_t data_identifier, size_t n, const captions_data_unit *units, uint8_t *out,
+                                        size_t room)
+{
+    touch(out);
+    return captions_pes_write(data_identifier, n, units, out, room);
+}
+
+/* Only one of the two is touched: the packet where it is empty, else the output. */
+static captions_written eager_pes_convert(const uint16_t *words, size_t len, uint8_t *out, size_t room)
+{
+    if (len == 0)
+        touch(words);
+    else
+        touch(out);
+    return captions_pes_convert(words, len, out, room);
+}
+
+static captions_written eager_pes_convert_value(uint32_t counter, const captions_slot *slots, const captions_row *rows,
+                                                uint8_t *out, size_t room)
+{
+    touch(out);
+    return captions_pes_convert_value(counter, slots, rows, out, room);
+}
+
 static captions_payload eager_payload_read(const uint8_t *payload, size_t len, captions_access_unit *units)
 {
     touch(payload);
@@ -149,6 +188,7 @@ static captions_written eager_reel_write_bytes(uint32_t flags, size_t size, cons
 
 static const calls eager_calls = {eager_area_read,       eager_unit_write,    eager_area_replace, eager_ga94_read,
                                   eager_ga94_write,      eager_ga94_replace,  eager_packet_read,  eager_packet_write,
+                                  eager_pes_read,        eager_pes_write,     eager_pes_convert,  eager_pes_convert_value,
                                   eager_payload_read,    eager_payload_write, eager_reel_write,   eager_reel_write_bytes,
                                   captions_film_picture, captions_film_close};
 
@@ -158,6 +198,15 @@ static void ask_eagerly(void *question_asked)
 }
 
 /* ---- Questions ---- */
+
+/* The words of a packet with one full slot. */
+static size_t packet_of_one_line(uint8_t line)
+{
+    static packet_value value;
+
+    value.slots[0] = (captions_slot){1, line, 0, 1};
+    return layout_packet(&value, q.words);
+}
 
 /* `as_bytes`: a reel by the call over bytes. */
 static void make_question(const empty_case *c, side at, bool as_bytes)
@@ -183,6 +232,9 @@ static void make_question(const empty_case *c, side at, bool as_bytes)
     q.ga94.n = 1;
     q.ga94.records[0] = (captions_ga94_record){1, 0, 0x94, 0x2C};
     q.packet.counter = c->legal ? 4660 : 65536;
+    if (q.op == PES_CONVERT && !c->input)
+        q.len = packet_of_one_line(c->legal ? 7 : 6);
+    q.pes.data_identifier = c->legal ? 16 : 272;
     q.payload.flags = c->legal ? 0 : 256;
     q.payload.m = 1;
     q.payload.units[0] = (captions_access_unit){1, 0, 0, 0x94, 0x2C, 0x00, 0x00};

@@ -100,6 +100,43 @@ static void packets()
     expect_refused("a packet and no room", made.refusal, CAPTIONS_NO_ROOM);
 }
 
+static void data_fields()
+{
+    const std::vector<uint8_t> none;
+    const std::vector<uint16_t> no_words;
+    std::vector<uint8_t> no_room, out(64, 0xA5);
+    captions_slot slots[CAPTIONS_SLOTS] = {};
+    captions_row rows[CAPTIONS_SLOTS] = {};
+    captions_data_unit units[CAPTIONS_PES_UNITS];
+
+    std::memset(units, 0xA5, sizeof units);
+    captions_pes field = captions_pes_read(none.data(), none.size(), units);
+    expect_refused("a data field of no bytes", field.refusal, CAPTIONS_ENDS);
+    expect("a refused data field leaves the units alone", is_all(units, 0xA5));
+    captions_written made = captions_pes_write(0x10, 0, units, no_room.data(), no_room.size());
+    expect_refused("a data field and no room", made.refusal, CAPTIONS_NO_ROOM);
+    made = captions_pes_write(0x110, 0, units, no_room.data(), no_room.size());
+    expect_refused("a data_identifier of 272 and no room", made.refusal, CAPTIONS_UNHOLDABLE);
+    made = captions_pes_convert(no_words.data(), no_words.size(), no_room.data(), no_room.size());
+    expect_refused("a packet of no words, converted", made.refusal, CAPTIONS_ENDS);
+    made = captions_pes_convert_value(4660, slots, rows, no_room.data(), no_room.size());
+    expect_refused("a packet's value, converted, and no room", made.refusal, CAPTIONS_NO_ROOM);
+    made = captions_pes_convert_value(4660, slots, rows, out.data(), out.size());
+    expect_refused("a packet without a full slot, converted", made.refusal, CAPTIONS_ACCEPTED);
+    expect("the byte of that data field", made.len == 1 && out[0] == 0x10 && out[1] == 0xA5);
+
+    units[0].data_unit_id = 0x02;
+    units[0].of.teletext.field_parity = 1;
+    units[0].of.teletext.line_offset = 22;
+    std::memset(units[0].of.teletext.row, 0x27, CAPTIONS_ROW_BYTES);
+    made = captions_pes_write(0x1F, 1, units, out.data(), out.size());
+    expect_refused("a data field of one unit", made.refusal, CAPTIONS_ACCEPTED);
+    std::vector<uint8_t> right(47, 0xE4);
+    right[0] = 0x1F, right[1] = 0x02, right[2] = 0x2C, right[3] = 0xF6;
+    expect("the bytes of that data field", made.len == 47 && std::memcmp(out.data(), right.data(), 47) == 0);
+    expect("what stands behind that data field", out[47] == 0xA5);
+}
+
 static void payloads()
 {
     const std::vector<uint8_t> none;
@@ -146,6 +183,7 @@ int main()
     areas();
     ga94();
     packets();
+    data_fields();
     payloads();
     reels();
     std::printf("empty_vector: %d checks, %d differ; an empty vector gave %s\n", checks, wrong,

@@ -8,15 +8,18 @@
 
 const calls library_calls = {captions_area_read,    captions_unit_write,    captions_area_replace, captions_ga94_read,
                              captions_ga94_write,   captions_ga94_replace,  captions_packet_read,  captions_packet_write,
+                             captions_pes_read,     captions_pes_write,     captions_pes_convert,  captions_pes_convert_value,
                              captions_payload_read, captions_payload_write, captions_reel_write,   captions_reel_write_bytes,
                              captions_film_picture, captions_film_close};
 const calls model_calls = {model_area_read,    model_unit_write,    model_area_replace, model_ga94_read,
                            model_ga94_write,   model_ga94_replace,  model_packet_read,  model_packet_write,
+                           model_pes_read,     model_pes_write,     model_pes_convert,  model_pes_convert_value,
                            model_payload_read, model_payload_write, model_reel_write,   model_reel_write_bytes,
                            model_film_picture, model_film_close};
 
 const char *const operation_names[OPERATIONS] = {"area read",    "unit write",    "area replace", "ga94 read",
                                                  "ga94 write",   "ga94 replace",  "packet read",  "packet write",
+                                                 "pes read",     "pes write",     "pes convert",  "pes convertvalue",
                                                  "payload read", "payload write", "payload reel", "film run"};
 
 /* What one call is lent: an input, a second one (records, units, or slots with rows apart), and one output. */
@@ -40,12 +43,18 @@ void harness_open(void)
 
 bool is_writer(operation op)
 {
-    return takes_unit(op) || takes_ga94(op) || op == PACKET_WRITE || op == PAYLOAD_WRITE || op == PAYLOAD_REEL;
+    return takes_unit(op) || takes_ga94(op) || takes_packet(op) || op == PES_WRITE || op == PES_CONVERT ||
+           op == PAYLOAD_WRITE || op == PAYLOAD_REEL;
 }
 
 bool takes_input(operation op)
 {
-    return (!is_writer(op) && op != FILM_RUN) || op == AREA_REPLACE || op == GA94_REPLACE;
+    return (!is_writer(op) && op != FILM_RUN) || op == AREA_REPLACE || op == GA94_REPLACE || op == PES_CONVERT;
+}
+
+bool takes_words(operation op)
+{
+    return op == PACKET_READ || op == PES_CONVERT;
 }
 
 bool takes_unit(operation op)
@@ -58,9 +67,14 @@ bool takes_ga94(operation op)
     return op == GA94_WRITE || op == GA94_REPLACE;
 }
 
+bool takes_packet(operation op)
+{
+    return op == PACKET_WRITE || op == PES_CONVERT_VALUE;
+}
+
 size_t element_bytes(operation op)
 {
-    return op == PACKET_READ || op == PACKET_WRITE ? 2 : 1;
+    return op == PACKET_WRITE ? 2 : 1;
 }
 
 /* ---- Lending ---- */
@@ -74,6 +88,8 @@ static size_t output_size(const question *q)
         return CAPTIONS_RECORDS * sizeof(captions_ga94_record);
     case PACKET_READ:
         return CAPTIONS_SLOTS * sizeof(captions_row);
+    case PES_READ:
+        return CAPTIONS_PES_UNITS * sizeof(captions_data_unit);
     case PAYLOAD_READ:
         return CAPTIONS_ACCESS_UNITS * sizeof(captions_access_unit);
     default:
@@ -104,8 +120,8 @@ static uint8_t *lend_copy(arena *a, side at, const void *from, size_t size)
 
 static void choose_inputs(const question *q, loan *l)
 {
-    l->first = q->op == PACKET_READ ? (const void *)q->words : q->bytes;
-    l->first_size = takes_input(q->op) ? q->len * element_bytes(q->op) : 0;
+    l->first = takes_words(q->op) ? (const void *)q->words : q->bytes;
+    l->first_size = takes_words(q->op) ? q->len * sizeof *q->words : takes_input(q->op) ? q->len : 0;
     l->second = q->unit.records;
     l->second_size = 0;
     l->rows = q->packet.rows;
@@ -115,10 +131,13 @@ static void choose_inputs(const question *q, loan *l)
     } else if (takes_ga94(q->op)) {
         l->second = q->ga94.records;
         l->second_size = sizeof q->ga94.records;
-    } else if (q->op == PACKET_WRITE) {
+    } else if (takes_packet(q->op)) {
         l->second = q->packet.slots;
         l->second_size = sizeof q->packet.slots;
         l->rows_size = sizeof q->packet.rows;
+    } else if (q->op == PES_WRITE) {
+        l->second = q->pes.units;
+        l->second_size = sizeof q->pes.units;
     } else if (q->op == PAYLOAD_WRITE) {
         l->second = q->payload.units;
         l->second_size = sizeof q->payload.units;
@@ -214,6 +233,13 @@ static void set_packet(outcome *got, captions_packet answer)
     }
 }
 
+static void set_pes(outcome *got, captions_pes answer)
+{
+    set_refusal(got, answer.refusal);
+    got->numbers[2] = answer.data_identifier;
+    got->numbers[3] = answer.n;
+}
+
 static void set_payload(outcome *got, captions_payload answer)
 {
     set_refusal(got, answer.refusal);
@@ -262,6 +288,18 @@ static void call(const calls *who, const question *q, const loan *l, outcome *go
         break;
     case PACKET_WRITE:
         set_written(got, who->packet_write(q->packet.counter, second, rows, output, q->room));
+        break;
+    case PES_READ:
+        set_pes(got, who->pes_read(first, q->len, output));
+        break;
+    case PES_WRITE:
+        set_written(got, who->pes_write(q->pes.data_identifier, q->pes.n, second, output, q->room));
+        break;
+    case PES_CONVERT:
+        set_written(got, who->pes_convert(first, q->len, output, q->room));
+        break;
+    case PES_CONVERT_VALUE:
+        set_written(got, who->pes_convert_value(q->packet.counter, second, rows, output, q->room));
         break;
     case PAYLOAD_READ:
         set_payload(got, who->payload_read(first, q->len, output));
@@ -315,7 +353,7 @@ static bool do_spoil(spoil spoiling, const question *q, const loan *l, const out
 
 static size_t number_count(operation op)
 {
-    static const size_t counts[OPERATIONS] = {7, 3, 3, 9, 3, 3, 23, 3, 4, 3, 3, 0};
+    static const size_t counts[OPERATIONS] = {7, 3, 3, 9, 3, 3, 23, 3, 4, 3, 3, 3, 4, 3, 3, 0};
 
     return counts[op];
 }

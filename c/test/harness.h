@@ -19,6 +19,10 @@ typedef enum operation {
     GA94_REPLACE,
     PACKET_READ,
     PACKET_WRITE,
+    PES_READ,
+    PES_WRITE,
+    PES_CONVERT,       /* from a packet's words */
+    PES_CONVERT_VALUE, /* from its value */
     PAYLOAD_READ,
     PAYLOAD_WRITE,
     PAYLOAD_REEL,
@@ -33,7 +37,7 @@ enum {
     FILM_NUMBERS = 3,   /* numbers of one answer of film: number, place, m */
     FILM_BYTES = CAPTIONS_FILM_UNITS * sizeof(captions_access_unit), /* bytes of the output of one call of film */
     NUMBERS_MAX = FILM_NUMBERS * FILM_CALLS_MAX,
-    REFUSAL_MAX = CAPTIONS_OTHER_LINE, /* the highest number of a refusal */
+    REFUSAL_MAX = CAPTIONS_SURPLUS_UNIT, /* the highest number of a refusal */
     FILL = 11 /* the pattern of vectors/: element i is i * 37 + 11 */
 };
 
@@ -43,11 +47,12 @@ typedef struct question {
     side at;                  /* which side of each lent piece is untouchable */
     bool nulls;               /* the library is given a null pointer for an input or an output of no elements */
     size_t len;               /* elements of the input: bytes, or words of a packet */
-    uint8_t bytes[INPUT_MAX]; /* an area or a payload */
+    uint8_t bytes[INPUT_MAX]; /* an area, a data field or a payload */
     uint16_t words[WORDS_MAX];
     unit_value unit;
     ga94_value ga94;
     packet_value packet;
+    pes_value pes;
     payload_value payload;
     reel_value reel;
     bool as_bytes; /* by which call a reel is written: over bytes, or over structs */
@@ -65,7 +70,7 @@ typedef struct outcome {
     const char *damage;                   /* what became of memory that was not to be stored to; null where nothing did */
 } outcome;
 
-/* The fourteen calls of the library or of the model. */
+/* The eighteen calls of the library or of the model. */
 typedef struct calls {
     captions_unit (*area_read)(const uint8_t *, size_t, captions_record *);
     captions_written (*unit_write)(uint32_t, uint32_t, size_t, size_t, const captions_record *, uint8_t *, size_t);
@@ -78,6 +83,10 @@ typedef struct calls {
                                      const captions_ga94_record *, uint8_t *, size_t);
     captions_packet (*packet_read)(const uint16_t *, size_t, captions_row *);
     captions_written (*packet_write)(uint32_t, const captions_slot *, const captions_row *, uint16_t *, size_t);
+    captions_pes (*pes_read)(const uint8_t *, size_t, captions_data_unit *);
+    captions_written (*pes_write)(uint32_t, size_t, const captions_data_unit *, uint8_t *, size_t);
+    captions_written (*pes_convert)(const uint16_t *, size_t, uint8_t *, size_t);
+    captions_written (*pes_convert_value)(uint32_t, const captions_slot *, const captions_row *, uint8_t *, size_t);
     captions_payload (*payload_read)(const uint8_t *, size_t, captions_access_unit *);
     captions_written (*payload_write)(uint32_t, size_t, const captions_access_unit *, uint8_t *, size_t);
     captions_written (*reel_write)(uint32_t, size_t, const captions_access_unit *, size_t, uint8_t *, size_t);
@@ -118,10 +127,12 @@ uint64_t refusal_of(const question *q, const outcome *o);
 const char *difference(const question *q, const outcome *expected, const outcome *got);
 
 bool is_writer(operation op);
-bool takes_input(operation op); /* an area, a packet or a payload: each reader does, and replacing */
-bool takes_unit(operation op);  /* the value of an SCTE 20 caption unit */
-bool takes_ga94(operation op);  /* the value of a GA94 unit */
-size_t element_bytes(operation op);
+bool takes_input(operation op);  /* an area, a packet, a data field or a payload: each reader, replacing, and converting words */
+bool takes_words(operation op);  /* a packet as its input */
+bool takes_unit(operation op);   /* the value of an SCTE 20 caption unit */
+bool takes_ga94(operation op);   /* the value of a GA94 unit */
+bool takes_packet(operation op); /* the value of a packet */
+size_t element_bytes(operation op); /* of a writer's output: a byte, or a word */
 
 /* All guard bytes of all arenas, not only the near ones. */
 bool arenas_are_whole(void);

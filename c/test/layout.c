@@ -173,6 +173,41 @@ size_t layout_packet(const packet_value *value, uint16_t *out)
     return len;
 }
 
+/* ---- PES data field (RULES, "PES data field") ---- */
+
+uint8_t layout_reversed(uint8_t byte)
+{
+    unsigned reversed = 0;
+
+    for (unsigned i = 0; i < 8; i++)
+        reversed += (byte >> i & 1u) << (7 - i);
+    return (uint8_t)reversed;
+}
+
+void layout_data_unit(const captions_data_unit *unit, uint8_t *out)
+{
+    const captions_teletext *t = &unit->of.teletext;
+
+    out[0] = unit->data_unit_id;
+    out[1] = 0x2C; /* data_unit_length */
+    if (unit->data_unit_id == LAYOUT_STUFFING_ID) {
+        memcpy(out + 2, unit->of.stuffing, sizeof unit->of.stuffing);
+        return;
+    }
+    out[2] = (uint8_t)(3 << 6 | (t->field_parity & 1) << 5 | (t->line_offset & 31)); /* behind two reserved ones */
+    out[3] = 0xE4;                                                                   /* framing_code */
+    for (size_t i = 0; i < CAPTIONS_ROW_BYTES; i++)
+        out[4 + i] = layout_reversed(t->row[i]);
+}
+
+size_t layout_pes(const pes_value *value, uint8_t *out)
+{
+    out[0] = (uint8_t)value->data_identifier;
+    for (size_t i = 0; i < value->n; i++)
+        layout_data_unit(&value->units[i], out + 1 + LAYOUT_DATA_UNIT * i);
+    return 1 + LAYOUT_DATA_UNIT * value->n;
+}
+
 /* ---- Line 21 payload (RULES, "Line 21 payload") ---- */
 
 size_t layout_payload(const payload_value *value, uint8_t *out)

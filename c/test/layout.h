@@ -10,8 +10,8 @@
 #include "captions.h"
 
 /*
- * The values of RULES: what a unit of either kind, a packet, a payload and a reel of them are written from, and what a run of
- * film is given.
+ * The values of RULES: what a unit of either kind, a packet, a data field, a payload and a reel of them are written from, and
+ * what a run of film is given.
  */
 typedef struct unit_value {
     uint32_t reserved;
@@ -36,6 +36,12 @@ typedef struct packet_value {
     captions_slot slots[CAPTIONS_SLOTS];
     captions_row rows[CAPTIONS_SLOTS];
 } packet_value;
+
+typedef struct pes_value {
+    uint32_t data_identifier;
+    size_t n;
+    captions_data_unit units[CAPTIONS_PES_UNITS];
+} pes_value;
 
 typedef struct payload_value {
     uint32_t flags;
@@ -86,7 +92,10 @@ enum {
     LAYOUT_USER = 6,          /* the word of a packet at which the user words begin */
     LAYOUT_DESCRIPTORS = 10,  /* the word of the first descriptor */
     LAYOUT_STRUCTURES = 15,   /* the word at which the structures begin */
-    LAYOUT_STRUCTURE = 45     /* words of a structure */
+    LAYOUT_STRUCTURE = 45,    /* words of a structure */
+    LAYOUT_DATA_UNIT = 46,    /* bytes of a unit of a data field; the first begins with byte 1 */
+    LAYOUT_TELETEXT_ID = 3,   /* the data_unit_id that a conversion gives */
+    LAYOUT_STUFFING_ID = 255  /* that of stuffing */
 };
 
 /* Bytes of a caption unit's content: 2 with flag 0, else 25 + 26n bits in whole bytes. */
@@ -111,6 +120,15 @@ uint16_t layout_word(uint8_t byte);
 /* Stores anew the SDP checksum and CS of a packet of len words, 20 at least. */
 void layout_sdp_checksum(uint16_t *words, size_t len);
 void layout_cs(uint16_t *words, size_t len);
+
+/* A byte with its bits in the other order, as the teletext of a data field has it. */
+uint8_t layout_reversed(uint8_t byte);
+
+/* Stores one unit of a data field, 46 bytes: stuffing where its id is that of stuffing, else teletext, whatever its id. */
+void layout_data_unit(const captions_data_unit *unit, uint8_t *out);
+
+/* Stores a data field and gives its bytes. n is at most 31. */
+size_t layout_pes(const pes_value *value, uint8_t *out);
 
 /* Stores a payload and gives its bytes. m is at most 291. */
 size_t layout_payload(const payload_value *value, uint8_t *out);

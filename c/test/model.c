@@ -1,6 +1,6 @@
 /*
- * model.c: SCTE 20 in a picture area by RULES. GA94 is in model_ga94.c, the packet and the payload in model_words.c, the reel
- * in model_reel.c, film in model_film.c.
+ * model.c: SCTE 20 in a picture area by RULES. GA94 is in model_ga94.c, the packet and the payload in model_words.c, the data
+ * field in model_pes.c, the reel in model_reel.c, film in model_film.c.
  */
 #include "model.h"
 

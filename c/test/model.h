@@ -1,5 +1,5 @@
 /*
- * model.h: the fourteen calls of captions.h once more, written from documents 01, 02 and 003, the sources of docs/RULES.md.
+ * model.h: the eighteen calls of captions.h once more, written from documents 01, 02 and 003, the sources of docs/RULES.md.
  *
  * The model shares nothing with the library but the types of captions.h. It is meant to be read beside RULES: one check
  * after the other, in the order of checks, bit by bit, and slow.
@@ -34,6 +34,15 @@ captions_packet model_packet_read(const uint16_t *words, size_t len, captions_ro
 
 captions_written model_packet_write(uint32_t counter, const captions_slot *slots, const captions_row *rows,
                                     uint16_t *out, size_t room);
+
+captions_pes model_pes_read(const uint8_t *field, size_t len, captions_data_unit *units);
+
+captions_written model_pes_write(uint32_t data_identifier, size_t n, const captions_data_unit *units, uint8_t *out, size_t room);
+
+captions_written model_pes_convert(const uint16_t *words, size_t len, uint8_t *out, size_t room);
+
+captions_written model_pes_convert_value(uint32_t counter, const captions_slot *slots, const captions_row *rows, uint8_t *out,
+                                         size_t room);
 
 captions_payload model_payload_read(const uint8_t *payload, size_t len, captions_access_unit *units);
 

@@ -62,6 +62,27 @@ static void packet_fields(cursor *c, packet_value *to)
     take_slots(c, to);
 }
 
+/*
+ * As many units as are listed. A count of its own, ` n=`, is in no file: a value to write can have one that no list has.
+ * Places that the line does not give would be refused if they were looked at.
+ */
+static void pes_fields(cursor *c, pes_value *to)
+{
+    bool counted;
+    size_t listed;
+
+    memset(to->units, 0xEE, sizeof to->units);
+    to->data_identifier = (uint32_t)number_field(c, "identifier", UINT32_MAX);
+    counted = strncmp(c->at, " n=", 3) == 0;
+    to->n = counted ? number_field(c, "n", SIZE_MAX) : 0;
+    field(c, "units");
+    listed = take_data_unit_list(c, to->units);
+    if (counted)
+        need_items(c, MORE_ALLOWED, to->n, CAPTIONS_PES_UNITS, listed);
+    else
+        to->n = listed;
+}
+
 static void payload_fields(cursor *c, listing how, payload_value *to)
 {
     memset(to->units, 0xFF, sizeof to->units);
@@ -96,7 +117,7 @@ static void reel_fields(cursor *c, reel_value *to)
 static void input_field(cursor *c, question *q)
 {
     field(c, "in");
-    if (q->op == PACKET_READ)
+    if (takes_words(q->op))
         q->len = take_elements(c, 4, q->words, WORDS_MAX);
     else
         q->len = take_bytes(c, q->bytes, INPUT_MAX);
@@ -110,8 +131,10 @@ static void question_fields(cursor *c, question *q)
         unit_fields(c, MORE_ALLOWED, &q->unit);
     if (takes_ga94(q->op))
         ga94_fields(c, MORE_ALLOWED, &q->ga94);
-    if (q->op == PACKET_WRITE)
+    if (takes_packet(q->op))
         packet_fields(c, &q->packet);
+    if (q->op == PES_WRITE)
+        pes_fields(c, &q->pes);
     if (q->op == PAYLOAD_WRITE)
         payload_fields(c, MORE_ALLOWED, &q->payload);
     if (q->op == PAYLOAD_REEL) {
@@ -130,17 +153,26 @@ static void question_fields(cursor *c, question *q)
 
 /* ---- The answer behind ` => ` ---- */
 
-/* `refused N at P`. What may follow as ` or P2` is of no use here: P is what RULES says. */
-static void refused_answer(cursor *c, outcome *to)
+/*
+ * `refused N at P`. What may follow as ` or P2` is of no use here: P is what RULES says. But where a data field is read, RULES
+ * says P2, the byte at which the item begins.
+ */
+static void refused_answer(cursor *c, const question *q, outcome *to)
 {
+    bool second = q->op == PES_READ;
+
     to->numbers[0] = take_number(c, REFUSAL_MAX);
     for (const char *text = " at "; *text != '\0'; text++)
         need(c, *text);
     if (!c->bad)
         to->numbers[1] = take_number(c, SIZE_MAX);
     while (strncmp(c->at, " or ", 4) == 0) {
+        uint64_t other;
         c->at += 4;
-        take_number(c, SIZE_MAX);
+        other = take_number(c, SIZE_MAX);
+        if (second)
+            to->numbers[1] = other;
+        second = false;
     }
     if (to->numbers[0] == 0)
         c->bad = true;
@@ -231,6 +263,20 @@ static void payload_answer(cursor *c, outcome *to)
     to->numbers[3] = value.m;
 }
 
+static void pes_answer(cursor *c, outcome *to)
+{
+    pes_value value;
+
+    pes_fields(c, &value);
+    if (c->bad || c->wide || c->as_stuffing || value.n > CAPTIONS_PES_UNITS) {
+        c->bad = true;
+        return;
+    }
+    memcpy(to->memory, value.units, value.n * sizeof *value.units);
+    to->numbers[2] = value.data_identifier;
+    to->numbers[3] = value.n;
+}
+
 static void accepted_answer(cursor *c, const question *q, outcome *to)
 {
     if (is_writer(q->op)) {
@@ -246,6 +292,8 @@ static void accepted_answer(cursor *c, const question *q, outcome *to)
         ga94_answer(c, to);
     else if (q->op == PACKET_READ)
         packet_answer(c, to);
+    else if (q->op == PES_READ)
+        pes_answer(c, to);
     else
         payload_answer(c, to);
 }
@@ -260,7 +308,7 @@ static void answer(cursor *c, const question *q, outcome *to)
         c->bad = true;
     } else if (strncmp(c->at, "refused ", 8) == 0) {
         c->at += 8;
-        refused_answer(c, to);
+        refused_answer(c, q, to);
     } else if (strncmp(c->at, "ok ", 3) == 0) {
         c->at += 2;
         accepted_answer(c, q, to);
@@ -306,12 +354,12 @@ static parsed skipped(vector_line *to, const char *why)
 }
 
 /*
- * ` STATE ` behind the operation: `1-6`, the rules with requests 1 to 6. By others the same input may have another answer.
+ * ` STATE ` behind the operation: `1-7`, the rules with requests 1 to 7. By others the same input may have another answer.
  * Gives the TAG, or null.
  */
 static const char *behind_state(const char *at)
 {
-    static const char state[] = " 1-6 ";
+    static const char state[] = " 1-7 ";
 
     return strncmp(at, state, strlen(state)) == 0 ? at + strlen(state) : NULL;
 }
@@ -319,7 +367,7 @@ static const char *behind_state(const char *at)
 parsed parse_line(char *line, vector_line *to)
 {
     char *arrow = strstr(line, " => ");
-    cursor c = {NULL, false, false};
+    cursor c = {NULL, false, false, false};
 
     to->kind = kind_of(line, &c.at);
     if (to->kind < 0)
@@ -344,6 +392,8 @@ parsed parse_line(char *line, vector_line *to)
         return bad(to, "values that are not formed as they should be");
     if (c.wide)
         return skipped(to, "a number that the C type cannot hold");
+    if (c.as_stuffing)
+        return skipped(to, "teletext with the id of stuffing, which the C type takes for stuffing");
     c.at = arrow + strlen(" => ");
     answer(&c, &to->q, &to->expected);
     return c.bad ? bad(to, "an answer that is not formed as it should be") : PARSED_CASE;

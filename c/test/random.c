@@ -4,9 +4,9 @@
  *     random [COUNT [SEED [FIRST]]]
  *
  * The status is 1 where an answer or a round trip differs, fewer than a third of an operation's cases are accepted, a refusal
- * that an operation has arose at too few places, or data groups, or something of reels or of film, were met too seldom. Case i
- * depends on SEED and i alone: `random 1 SEED i` asks it again and shows it, and demands of it only that nothing differs. A
- * case of film is a run; in the tables its calls are counted.
+ * that an operation has arose at too few places, or data groups, or something of data fields, of reels or of film, were met too
+ * seldom. Case i depends on SEED and i alone: `random 1 SEED i` asks it again and shows it, and demands of it only that nothing
+ * differs. A case of film is a run; in the tables its calls are counted.
  */
 #include <stdio.h>
 #include <stdlib.h>
@@ -15,6 +15,7 @@
 #include "cases.h"
 #include "film_notes.h"
 #include "groups.h"
+#include "pes_notes.h"
 #include "reel_notes.h"
 #include "show.h"
 #include "trips.h"
@@ -102,6 +103,11 @@ static void note_answer(row *r, const uint64_t *numbers)
     note_place(r, numbers[0], numbers[1]);
 }
 
+static bool is_of_pes(operation op)
+{
+    return op == PES_READ || op == PES_WRITE || op == PES_CONVERT || op == PES_CONVERT_VALUE;
+}
+
 static void note_case(row *r)
 {
     if (q.op != FILM_RUN) {
@@ -109,11 +115,19 @@ static void note_case(row *r)
         note_groups(&q, &by_model, r == &rows[ROW_REPLACE_AREA]);
         if (q.op == PAYLOAD_REEL)
             note_reel(&q, &by_model);
+        if (is_of_pes(q.op))
+            note_pes(&q, &by_model);
         return;
     }
     for (size_t i = 0; i < q.film.count; i++)
         note_answer(&rows[q.film.calls[i].closes ? (int)ROW_FILM_CLOSE : (int)FILM_RUN], by_model.numbers + FILM_NUMBERS * i);
     note_film(&q, &by_model);
+}
+
+/* Whether a refused case has a round trip too. */
+static bool has_trip_back(operation op)
+{
+    return op == PES_CONVERT || op == PES_CONVERT_VALUE || op == PAYLOAD_REEL || op == FILM_RUN;
 }
 
 static void run_case(void)
@@ -128,7 +142,7 @@ static void run_case(void)
     if (differs != NULL) {
         r->differs++;
         show_case(differs);
-    } else if (by_library.numbers[0] == 0 || q.op == PAYLOAD_REEL || q.op == FILM_RUN) {
+    } else if (by_library.numbers[0] == 0 || has_trip_back(q.op)) {
         differs = round_trip(&q, &by_library, &r->trips);
         if (differs != NULL) {
             r->trips_differ++;
@@ -150,7 +164,9 @@ static const char *row_name(int i)
 
 /*
  * At how many places each refusal that RULES has for an operation must arise at least; all others are 0. A writer has one
- * place, and an area one for what is not inside a body. A packet has few words for some numbers: nearly all must arise.
+ * place, and an area one for what is not inside a body. A packet has few words for some numbers: nearly all must arise. In a
+ * data field all do: each of 31 units has one place for 7, 13 and 23, two for 6 and four for 5, and its first byte is one more
+ * for 5 and 6. A conversion has the places of a packet, and 0.
  */
 static const uint8_t places_wanted[ROWS][REFUSALS] = {
     [AREA_READ] = {[1] = 1, [2] = 1, [3] = 1, [4] = 1, [5] = 25, [7] = 15, [8] = 30, [9] = 4, [10] = 8, [18] = 20, [19] = 60},
@@ -164,6 +180,10 @@ static const uint8_t places_wanted[ROWS][REFUSALS] = {
     [ROW_GA94_REPLACE_AREA] = {[1] = 1, [2] = 1, [3] = 1, [4] = 1, [5] = 25, [16] = 1, [18] = 25, [19] = 50},
     [PACKET_READ] = {[1] = 3, [2] = 3, [5] = 10, [6] = 10, [7] = 5, [11] = 100, [12] = 10, [13] = 2, [20] = 12},
     [PACKET_WRITE] = {[7] = 1, [14] = 1, [15] = 1},
+    [PES_READ] = {[5] = 125, [6] = 63, [7] = 31, [13] = 31, [23] = 31, [24] = 1},
+    [PES_WRITE] = {[7] = 1, [14] = 1, [15] = 1},
+    [PES_CONVERT] = {[1] = 3, [2] = 3, [5] = 10, [6] = 10, [7] = 6, [11] = 100, [12] = 10, [13] = 2, [14] = 1, [20] = 12},
+    [PES_CONVERT_VALUE] = {[7] = 1, [14] = 1, [15] = 1},
     [PAYLOAD_READ] = {[1] = 4, [2] = 1, [13] = 50},
     [PAYLOAD_WRITE] = {[14] = 1, [15] = 1},
     [PAYLOAD_REEL] = {[14] = 1, [15] = 1},
@@ -224,10 +244,10 @@ static bool enough_accepted(int i)
 
 /* ---- The tables ---- */
 
-static const int order[ROWS] = {AREA_READ,    UNIT_WRITE,    AREA_REPLACE,          ROW_REPLACE_AREA, GA94_READ,
-                                GA94_WRITE,   GA94_REPLACE,  ROW_GA94_REPLACE_AREA, PACKET_READ,      PACKET_WRITE,
-                                PAYLOAD_READ, PAYLOAD_WRITE, PAYLOAD_REEL,          ROW_REEL_BYTES,   FILM_RUN,
-                                ROW_FILM_CLOSE};
+static const int order[ROWS] = {AREA_READ,     UNIT_WRITE,   AREA_REPLACE,          ROW_REPLACE_AREA,  GA94_READ,
+                                GA94_WRITE,    GA94_REPLACE, ROW_GA94_REPLACE_AREA, PACKET_READ,       PACKET_WRITE,
+                                PES_READ,      PES_WRITE,    PES_CONVERT,           PES_CONVERT_VALUE, PAYLOAD_READ,
+                                PAYLOAD_WRITE, PAYLOAD_REEL, ROW_REEL_BYTES,        FILM_RUN,          ROW_FILM_CLOSE};
 
 static void print_heads(void)
 {
@@ -245,12 +265,12 @@ static void print_count(unsigned long count)
 
 static void print_numbers(void)
 {
-    printf("%-14s %8s %8s", "random", "cases", "accepted");
+    printf("%-16s %8s %8s", "random", "cases", "accepted");
     print_heads();
     printf(" %8s %8s %8s\n", "differ", "trips", "differ");
     for (int i = 0; i < ROWS; i++) {
         const row *r = &rows[order[i]];
-        printf("%-14s %8lu %8lu", row_name(order[i]), r->cases, r->numbers[0]);
+        printf("%-16s %8lu %8lu", row_name(order[i]), r->cases, r->numbers[0]);
         for (unsigned number = 1; number < REFUSALS; number++)
             print_count(r->numbers[number]);
         printf(" %8lu %8lu %8lu\n", r->differs, r->trips, r->trips_differ);
@@ -259,11 +279,11 @@ static void print_numbers(void)
 
 static void print_places(void)
 {
-    printf("%-32s", "places at which each arose");
+    printf("%-34s", "places at which each arose");
     print_heads();
     putchar('\n');
     for (int i = 0; i < ROWS; i++) {
-        printf("%-32s", row_name(order[i]));
+        printf("%-34s", row_name(order[i]));
         for (unsigned number = 1; number < REFUSALS; number++)
             print_count(places_of(order[i], number));
         putchar('\n');
@@ -278,9 +298,11 @@ static bool report(bool whole)
     print_numbers();
     print_places();
     print_groups();
+    print_pes();
     print_reels();
     print_film();
     good = !whole || enough_groups();
+    good = (!whole || enough_pes()) && good;
     good = (!whole || enough_reels()) && good;
     good = (!whole || enough_film()) && good;
     for (int i = 0; i < ROWS; i++) {

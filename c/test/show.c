@@ -64,6 +64,36 @@ static void show_packet(const packet_value *p)
     }
 }
 
+static void show_data_unit(const captions_data_unit *u)
+{
+    const captions_teletext *t = &u->of.teletext;
+
+    if (u->data_unit_id == LAYOUT_STUFFING_ID) {
+        printf("S.");
+        show_bytes(u->of.stuffing, sizeof u->of.stuffing);
+    } else {
+        printf("T.%u.%u.%u.", u->data_unit_id, t->field_parity, t->line_offset);
+        show_bytes(t->row, sizeof t->row);
+    }
+}
+
+/* A line counts its units by listing them. Where no list can have so many, all places are shown, and the count apart. */
+static void show_pes(const pes_value *p)
+{
+    bool listed = p->n <= CAPTIONS_PES_UNITS;
+    size_t count = listed ? p->n : CAPTIONS_PES_UNITS;
+
+    printf(" identifier=%u", p->data_identifier);
+    if (!listed)
+        printf(" n=%zu", p->n);
+    printf(count == 0 ? " units=-" : " units=");
+    for (size_t i = 0; i < count; i++) {
+        if (i > 0)
+            putchar(',');
+        show_data_unit(&p->units[i]);
+    }
+}
+
 static void show_access_units(const captions_access_unit *units, size_t count)
 {
     if (count == 0)
@@ -114,10 +144,10 @@ static void show_film(const film_run *run)
 
 void show_question(const question *q, const char *tag)
 {
-    printf("%s 1-6 %s%s", operation_names[q->op], tag, q->op == PAYLOAD_REEL && q->as_bytes ? "-as-bytes" : "");
+    printf("%s 1-7 %s%s", operation_names[q->op], tag, q->op == PAYLOAD_REEL && q->as_bytes ? "-as-bytes" : "");
     if (takes_input(q->op)) {
         printf(" in=");
-        if (q->op == PACKET_READ)
+        if (takes_words(q->op))
             show_words((const uint8_t *)q->words, q->len);
         else
             show_bytes(q->bytes, q->len);
@@ -126,8 +156,10 @@ void show_question(const question *q, const char *tag)
         show_unit(&q->unit);
     if (takes_ga94(q->op))
         show_ga94(&q->ga94);
-    if (q->op == PACKET_WRITE)
+    if (takes_packet(q->op))
         show_packet(&q->packet);
+    if (q->op == PES_WRITE)
+        show_pes(&q->pes);
     if (q->op == PAYLOAD_WRITE)
         show_payload(&q->payload);
     if (q->op == PAYLOAD_REEL)

@@ -5,6 +5,7 @@
 
 #include "film_trips.h"
 #include "model_area.h"
+#include "pes_trips.h"
 #include "reel_trips.h"
 
 static question back;
@@ -312,8 +313,10 @@ static const char *after_payload_write(const question *q, const outcome *got, un
 const char *round_trip(const question *q, const outcome *got, unsigned long *made)
 {
     static const char *(*const trips[OPERATIONS])(const question *, const outcome *, unsigned long *) = {
-        after_area_read,   after_unit,         after_replace,      after_area_read,     after_unit, after_replace,
-        after_packet_read, after_packet_write, after_payload_read, after_payload_write, reel_trip,  film_trip};
+        after_area_read,    after_unit,          after_replace,     after_area_read,
+        after_unit,         after_replace,       after_packet_read, after_packet_write,
+        pes_read_trip,      pes_write_trip,      pes_convert_trip,  pes_convert_value_trip,
+        after_payload_read, after_payload_write, reel_trip,         film_trip};
 
     return trips[q->op](q, got, made);
 }

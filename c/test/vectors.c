@@ -186,11 +186,11 @@ static bool report(void)
 {
     bool good = bad_lines == 0;
 
-    printf("%-14s %7s %7s %9s %8s %8s %16s %14s\n", "vectors", "lines", "asked", "accepted", "refused", "skipped",
+    printf("%-16s %7s %7s %9s %8s %8s %16s %14s\n", "vectors", "lines", "asked", "accepted", "refused", "skipped",
            "library differs", "model differs");
     for (int kind = 0; kind < KINDS; kind++) {
         const kind_tally *t = &tallies[kind];
-        printf("%-14s %7lu %7lu %9lu %8lu %8lu %16lu %14lu\n", kind_name(kind), t->lines, t->asked, t->accepted, t->refused,
+        printf("%-16s %7lu %7lu %9lu %8lu %8lu %16lu %14lu\n", kind_name(kind), t->lines, t->asked, t->accepted, t->refused,
                t->skipped, t->library_differs, t->model_differs);
         good = good && t->library_differs == 0 && t->model_differs == 0 && t->lines == t->asked + t->skipped;
         if (kind < OPERATIONS && (t->accepted == 0 || t->refused == 0)) {

@@ -89,24 +89,18 @@ fn run(buf: &mut [u8]) -> Tallies {
 
 fn run_line(kind: Kind, line: &[u8], tallies: Tallies) -> Tallies {
     match kind {
-        Kind::Whole => {
-            let operation = operation_of(vectors::unmarked(line));
-            let outcome = outcome_of(operation, vectors::unmarked(line));
-            vectors::print_outcome(line, outcome);
-            counted(tallies, operation, vectors::is_wrong(line), outcome)
-        }
-        Kind::TooLong => {
-            vectors::print_outcome(line, Outcome::Unreadable);
-            counted(
-                tallies,
-                Operation::Unknown,
-                vectors::is_wrong(line),
-                Outcome::Unreadable,
-            )
-        }
+        Kind::Whole => run_as(operation_of(vectors::unmarked(line)), line, tallies),
+        // The front of a line names no vector that could be run.
+        Kind::TooLong => run_as(Operation::Unknown, line, tallies),
         Kind::Rest => tallies,
         Kind::Over => tallies,
     }
+}
+
+fn run_as(operation: Operation, line: &[u8], tallies: Tallies) -> Tallies {
+    let outcome = outcome_of(operation, vectors::unmarked(line));
+    vectors::print_outcome(line, outcome);
+    counted(tallies, operation, vectors::is_wrong(line), outcome)
 }
 
 fn operation_of(vector: &[u8]) -> Operation {
@@ -156,14 +150,12 @@ fn compared(operation: Operation, input: &[u8], expected: &[u8]) -> Outcome {
 }
 
 fn counted(t: Tallies, operation: Operation, is_wrong: bool, outcome: Outcome) -> Tallies {
-    let mut ran = t.ran;
-    let wrong = t.wrong;
+    let mut t = t;
     if is_wrong {
-        let wrong = vectors::noticed(wrong, outcome);
-        return Tallies { ran, wrong };
+        t.wrong = vectors::noticed(t.wrong, outcome);
+        return t;
     }
     let at = place(operation);
-    let one = ran[at];
-    ran[at] = vectors::counted(one, outcome);
-    Tallies { ran, wrong }
+    t.ran[at] = vectors::counted(t.ran[at], outcome);
+    t
 }
