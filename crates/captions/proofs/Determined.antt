@@ -18,6 +18,11 @@ use Rattle.line21.proofs.Theorems as payloads
 use Rattle.film_lent.specs.declared.Head as film-lent
 use Rattle.film_lent.specs.Lent.{PictureInto, CloseInto}
 use Rattle.film_lent.proofs.Theorems as films
+use Rattle.pes.specs.Lent.{fieldIn}
+use Rattle.pes.specs.Writing as fields
+use Rattle.pes.proofs.Theorems as data-field
+use Rattle.pes_convert.specs.Converting.{ConvertsValue}
+use Rattle.pes_convert.proofs.Theorems as converting
 use Rattle.captions.specs.declared.UnitHead.{UnitHead}
 use Rattle.captions.specs.Calls.{headIn, AreaReads, packetIn}
 use Rattle.line21_writer.specs.Calls.{PayloadWrites}
@@ -60,3 +65,11 @@ film-picture-determined film top repeat line v records = films.picture-into-dete
 pub film-close-determined : (film lent : List ℕ) (a : film-lent.Head) (exit end : List ℕ) (b : film-lent.Head) (out fin : List ℕ)
     → CloseInto film lent a exit end → CloseInto film lent b out fin → (a ≡ b) × (exit ≡ out) × (end ≡ fin)
 film-close-determined = films.close-into-determined
+
+pub pes-write-determined : (identifier n : ℕ) (units out : List ℕ) (a : Written) (exit : List ℕ) (b : Written) (end : List ℕ)
+    → fields.Writes (fieldIn identifier n units) out a exit → fields.Writes (fieldIn identifier n units) out b end → (a ≡ b) × (exit ≡ end)
+pes-write-determined identifier n units = data-field.write-determined (fieldIn identifier n units)
+
+pub pes-convert-value-determined : (counter : ℕ) (slots : List ℕ) (rows : List (List ℕ)) (out : List ℕ) (a : Written) (exit : List ℕ) (b : Written) (end : List ℕ)
+    → ConvertsValue (packetIn counter slots) rows out a exit → ConvertsValue (packetIn counter slots) rows out b end → (a ≡ b) × (exit ≡ end)
+pes-convert-value-determined counter slots = converting.convert-value-determined (packetIn counter slots)

@@ -16,10 +16,13 @@ use Rattle.subtitling.specs.Writing as packets
 use Rattle.subtitling.proofs.Theorems as subtitling
 use Rattle.line21.specs.Lent.{payloadIn}
 use Rattle.line21.proofs.Theorems as payloads
+use Rattle.pes.specs.Lent.{fieldIn}
+use Rattle.pes.specs.Writing as fields
+use Rattle.pes.proofs.Theorems as data-field
 use Rattle.captions.specs.declared.UnitHead.{UnitHead}
 use Rattle.captions.specs.Calls.{headIn, AreaReads, numbersIn, packetIn}
 use Rattle.line21_writer.specs.Calls.{PayloadWrites}
-use Rattle.captions.specs.Arguments.{plain, Fits, FitsIn, FitsPacket, FitsPayload}
+use Rattle.captions.specs.Arguments.{plain, Fits, FitsIn, FitsPacket, FitsPayload, FitsField}
 use Rattle.captions.proofs.Numbers.{plain-exactly, byte-or-wide}
 
 -- THE PICTURE AREA
@@ -65,3 +68,9 @@ payload-write-exactly flags m sent out r exit w = (
   λ e. payloads.writes-exactly (payloadIn flags m sent) out r exit (w .within (flags-byte flags m sent out r exit w e)) .0 e,
   λ h. payloads.writes-exactly (payloadIn flags m sent) out r exit (w .within (h .0 .value .byte)) .1 h,
 )
+
+-- THE PES DATA FIELD
+
+pub pes-write-exactly : (identifier n : ℕ) (units out : List ℕ) (r : Written) (exit : List ℕ)
+    → fields.Writes (fieldIn identifier n units) out r exit → r .refusal .number ≡ 0 ↔ FitsField identifier n units out
+pes-write-exactly identifier n units = data-field.writes-exactly (fieldIn identifier n units)

@@ -6,9 +6,11 @@
 -- and `captions_packet_write`; those of `line21` for `captions_payload_read` and, by `as-written`, for
 -- `captions_payload_write`; those of `reel`, by `as-run`, for `captions_reel_write_bytes`, and, by `as-reel` of
 -- `reel_units`' page, for `captions_reel_write` (`ReelWrites`); those of `film_lent` for
--- `captions_film_picture` (`PictureInto`) and `captions_film_close` (`CloseInto`). Here stands what the boundary adds
--- and, for the calls of the carriages, of plain numbers and lent bytes: when each succeeds, both round trips, and that
--- two answers are equal. When a value fits is said in specs/Arguments.
+-- `captions_film_picture` (`PictureInto`) and `captions_film_close` (`CloseInto`); those of `pes` for
+-- `captions_pes_read` and `captions_pes_write`; those of `pes_convert` for `captions_pes_convert` (`Converts`) and
+-- `captions_pes_convert_value` (`ConvertsValue`). Here stands what the boundary adds and, for the calls of the
+-- carriages, of plain numbers and lent bytes: when each succeeds, both round trips, and that two answers are equal.
+-- When a value fits is said in specs/Arguments.
 -- How to read it: docs/NOTATION.md.
 -- Assumes nothing.
 use Prim.Native.Nat.{ℕ, _*_, _≤_, _<_}
@@ -49,13 +51,22 @@ use Rattle.line21.specs.Writing as payload-writing
 use Rattle.line21.proofs.Theorems as payloads
 use Rattle.film_lent.specs.declared.Head as film-lent
 use Rattle.film_lent.specs.Lent.{PictureInto, CloseInto}
+use Rattle.pes.specs.declared.Head as pes-head
+use Rattle.pes.specs.Value as pes
+use Rattle.pes.specs.Layout as pes-layout
+use Rattle.pes.specs.Lent.{fieldIn}
+use Rattle.pes.specs.Lent as pes-reading
+use Rattle.pes.specs.Writing as pes-writing
+use Rattle.pes.proofs.Theorems as data-field
+use Rattle.pes_convert.specs.Converting.{Converts, ConvertsValue}
+use Rattle.pes_convert.proofs.Theorems as converting
 use Rattle.captions.specs.declared.UnitHead.{UnitHead}
 use Rattle.captions.specs.declared.Ga94Head.{Ga94Head}
 use Rattle.captions.specs.Calls.{AreaReads, numbersIn, ga94HeadIn, Ga94Reads, packetIn}
 use Rattle.line21_writer.specs.Calls.{PayloadWrites, RunWrites}
 use Rattle.reel.specs.Lent.{WritesRun}
 use Rattle.captions.specs.Arguments.{plain, passed, ga94Passed, Fits, FitsIn}
-use Rattle.captions.specs.Arguments.{slotBytes, FitsPacket, FitsPayload, FitsRun}
+use Rattle.captions.specs.Arguments.{slotBytes, FitsPacket, FitsPayload, FitsRun, FitsField}
 use Rattle.captions.proofs.Numbers as numbers
 use Rattle.captions.proofs.Refusing as refusing
 use Rattle.captions.proofs.Succeeding as succeeding
@@ -132,6 +143,10 @@ pub ga94-read-exactly : (s lent : List ℕ) (r : Ga94Head) (exit : List ℕ) →
     → r .refusal .number ≡ 0 ↔ ((v : Area Ga94) × area.Legal Ga94 v × (area.layout Ga94 v ≡ s))
 ga94-read-exactly = atsc.ga94-read-exactly
 
+pub pes-read-exactly : (s lent : List ℕ) (r : pes-head.Head) (exit : List ℕ) → pes-reading.ReadsInto s lent r exit
+    → r .refusal .number ≡ 0 ↔ ((v : pes.DataField) × pes.Legal v × (pes-layout.layout v ≡ s))
+pes-read-exactly = data-field.accepted-exactly
+
 -- A write call succeeds exactly when the value that its numbers and bytes tell is legal, and the result fits limit and
 -- buffer: the numbers as they are passed (`plain`), not as a byte would cut them.
 pub unit-write-exactly : (reserved flag n z : ℕ) (records out : List ℕ) (r : Written) (exit : List ℕ)
@@ -167,6 +182,11 @@ payload-write-exactly = succeeding.payload-write-exactly
 pub reel-bytes-exactly : (flags size : ℕ) (s out : List ℕ) (r : Written) (exit : List ℕ)
     → RunWrites flags size s out r exit → r .refusal .number ≡ 0 ↔ FitsRun flags size s out
 reel-bytes-exactly = reels.reel-bytes-exactly
+
+pub pes-write-exactly : (identifier n : ℕ) (units out : List ℕ) (r : Written) (exit : List ℕ)
+    → pes-writing.Writes (fieldIn identifier n units) out r exit
+    → r .refusal .number ≡ 0 ↔ FitsField identifier n units out
+pes-write-exactly = succeeding.pes-write-exactly
 
 -- BOTH WAYS
 
@@ -220,6 +240,13 @@ pub payload-written-read : (flags m : ℕ) (sent out : List ℕ) (w : Written) (
     → (r ≡ record { refusal = accepted; flags = flags; m = m }) × (exit ≡ filled (take (7 * m) sent) 2037 0)
 payload-written-read = both-ways.payload-written-read
 
+pub pes-written-read : (identifier n : ℕ) (units out : List ℕ) (w : Written) (end : List ℕ)
+    → pes-writing.Writes (fieldIn identifier n units) out w end → w .refusal .number ≡ 0 → length units ≡ 1395
+    → (lent : List ℕ) (r : pes-head.Head) (exit : List ℕ) → pes-reading.ReadsInto (take (w .len) end) lent r exit
+    → (r ≡ record { refusal = accepted; «data_identifier» = identifier; n = n })
+    × (exit ≡ filled (take (45 * n) units) 1395 0)
+pes-written-read = data-field.written-read
+
 -- Writing what was read gives the input back: of an area the unit's bytes,
 pub area-read-written : (before : List (List ℕ)) (c : Content) (after : List (List ℕ))
     → area.Legal Scte20 (captioned before c after)
@@ -269,12 +296,20 @@ pub packet-read-written : (s : List ℕ) (lent : List (List ℕ)) (a : Answer) (
     → length s ≤ length out → (r ≡ written (length s)) × (exit ≡ over s out)
 packet-read-written = both-ways.packet-read-written
 
--- and of a payload its bytes.
+-- and of a payload
 pub payload-read-written : (s lent : List ℕ) (a : Head) (kept : List ℕ) → payload-reading.ReadsInto s lent a kept
     → a .refusal .number ≡ 0
     → (out : List ℕ) (r : Written) (exit : List ℕ) → PayloadWrites (a .flags) (a .m) kept out r exit
     → length s ≤ length out → (r ≡ written (length s)) × (exit ≡ over s out)
 payload-read-written = both-ways.payload-read-written
+
+-- and of a data field its bytes.
+pub pes-read-written : (s lent : List ℕ) (a : pes-head.Head) (kept : List ℕ) → pes-reading.ReadsInto s lent a kept
+    → a .refusal .number ≡ 0
+    → (out : List ℕ) (r : Written) (end : List ℕ)
+    → pes-writing.Writes (fieldIn (a .«data_identifier») (a .n) kept) out r end
+    → length s ≤ length out → (r ≡ written (length s)) × (end ≡ over s out)
+pes-read-written = data-field.read-written
 
 -- ONE ANSWER
 
@@ -345,3 +380,22 @@ pub film-close-determined : (film lent : List ℕ) (a : film-lent.Head) (exit en
     → (b : film-lent.Head) (out fin : List ℕ)
     → CloseInto film lent a exit end → CloseInto film lent b out fin → (a ≡ b) × (exit ≡ out) × (end ≡ fin)
 film-close-determined = determined.film-close-determined
+
+pub pes-read-determined : (s lent : List ℕ) (a : pes-head.Head) (exit : List ℕ) (b : pes-head.Head) (end : List ℕ)
+    → pes-reading.ReadsInto s lent a exit → pes-reading.ReadsInto s lent b end → (a ≡ b) × (exit ≡ end)
+pes-read-determined = data-field.read-into-determined
+
+pub pes-write-determined : (identifier n : ℕ) (units out : List ℕ) (a : Written) (exit : List ℕ)
+    → (b : Written) (end : List ℕ) → pes-writing.Writes (fieldIn identifier n units) out a exit
+    → pes-writing.Writes (fieldIn identifier n units) out b end → (a ≡ b) × (exit ≡ end)
+pes-write-determined = determined.pes-write-determined
+
+pub pes-convert-determined : (s out : List ℕ) (a : Written) (exit : List ℕ) (b : Written) (end : List ℕ)
+    → Converts s out a exit → Converts s out b end → (a ≡ b) × (exit ≡ end)
+pes-convert-determined = converting.convert-determined
+
+pub pes-convert-value-determined : (counter : ℕ) (slots : List ℕ) (rows : List (List ℕ)) (out : List ℕ)
+    → (a : Written) (exit : List ℕ) (b : Written) (end : List ℕ)
+    → ConvertsValue (packetIn counter slots) rows out a exit → ConvertsValue (packetIn counter slots) rows out b end
+    → (a ≡ b) × (exit ≡ end)
+pes-convert-value-determined = determined.pes-convert-value-determined

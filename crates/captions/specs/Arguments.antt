@@ -20,6 +20,9 @@ use Rattle.line21.specs.Value as line21
 use Rattle.line21.specs.Layout as payload
 use Rattle.line21.specs.Lent.{payloadIn, runIn}
 use Rattle.reel.specs.Writing.{reel, reelLayout}
+use Rattle.pes.specs.Value as pes
+use Rattle.pes.specs.Layout as data-field
+use Rattle.pes.specs.Lent.{fieldIn}
 use Rattle.captions.specs.declared.UnitHead.{UnitHead}
 use Rattle.captions.specs.declared.Ga94Head.{Ga94Head}
 use Rattle.captions.specs.Calls.{numbersIn, ga94NumbersIn}
@@ -89,3 +92,11 @@ FitsRun flags size s out =
     × (size ≤ 291)
     × Each line21.LegalAccessUnit (runIn s)
     × (length (reelLayout (reel flags size (runIn s))) ≤ length out)
+
+-- THE PES DATA FIELD
+
+-- data_identifier, a count and the bytes of units: the value is legal, and the data field fits the buffer
+abbrev pub FitsField : ℕ → ℕ → List ℕ → List ℕ → Type 0
+FitsField identifier n units out =
+    pes.LegalTold (fieldIn identifier n units)
+    × (length (data-field.layout (pes.held (fieldIn identifier n units))) ≤ length out)

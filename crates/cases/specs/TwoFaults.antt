@@ -7,7 +7,7 @@ use mathlib.Core.Bool.{Bool, true, false}
 use mathlib.Core.List.{List, [], _∷_, _++_}
 use lib.ListN.{length, replicate, take}
 use Rattle.refusal.specs.declared.Reason.{Reason}
-use Rattle.refusal.specs.declared.Reason.the-variants.{TooLong, NoStart, StartCode, SecondUnit, Ends, Unfixed, FieldNumberZero, DescriptorLine, FieldFalls, LineDoesNotRise, FifthPriority, SampledVideo, WordRange, WordParity, SdpChecksum, Unfit, NoRoom, Unholdable, AdditionalData, NotShown, OtherLine}
+use Rattle.refusal.specs.declared.Reason.the-variants.{TooLong, NoStart, StartCode, SecondUnit, Ends, Unfixed, FieldNumberZero, DescriptorLine, FieldFalls, LineDoesNotRise, FifthPriority, SampledVideo, WordRange, WordParity, SdpChecksum, Unfit, NoRoom, Unholdable, AdditionalData, NotShown, OtherLine, UnknownUnit, SurplusUnit, UnitLine}
 use Rattle.refusal.specs.declared.Fixed.the-variants as fixed
 use Rattle.refusal.specs.declared.Misfit.the-variants as misfit
 use Rattle.refusal.specs.declared.Excess.the-variants as excess
@@ -31,9 +31,14 @@ use Rattle.line21.specs.declared.Payload.{Payload}
 use Rattle.line21.specs.Reading.{lengthVerdict}
 use Rattle.line21.specs.Writing as payloads
 use Rattle.sdp.specs.Value as sdp
-use Rattle.subtitling.specs.Reading.{packetVerdict}
+use Rattle.subtitling.specs.Reading.{packetVerdict, valueOf}
 use Rattle.subtitling.specs.Writing as packets
 use Rattle.reel.specs.Writing.{callVerdict}
+use Rattle.pes.specs.Value as pes
+use Rattle.pes.specs.Layout as pes-layout
+use Rattle.pes.specs.Reading.{fieldVerdict}
+use Rattle.pes.specs.Writing as fields
+use Rattle.pes_convert.specs.Converting.{ownVerdict, convertVerdict}
 use Rattle.film.specs.declared.Shown.{Shown}
 use Rattle.film.specs.Calls.{pictureVerdict}
 use Rattle.cases.specs.Table.{marked, q, unit}
@@ -49,6 +54,10 @@ pub data FaultCase : Type 0 where
   writePayload : Payload → ℕ → Reason → ℕ → FaultCase
   writeReel : ℕ → List AccessUnit → ℕ → Reason → ℕ → FaultCase
   film : Shown → CaptionUnit → Reason → ℕ → FaultCase
+  field : List ℕ → Reason → ℕ → ℕ → FaultCase
+  writeField : pes.Told → ℕ → Reason → ℕ → FaultCase
+  convert : List ℕ → ℕ → Reason → ℕ → ℕ → FaultCase
+  convertValue : sdp.Sdp → ℕ → Reason → ℕ → FaultCase
   replace : (kind : Kind) → List ℕ → kinds.CaptionUnit kind → ℕ → Reason → ℕ → ℕ → FaultCase
 
 abbrev why : Verdict → List Reason
@@ -69,6 +78,11 @@ Decided (writePacket v room reason number) = Decides (packets.valueVerdict v roo
 Decided (writePayload p room reason number) = Decides (payloads.valueVerdict p room) reason number 0
 Decided (writeReel size us room reason number) = Decides (callVerdict 0 size us room) reason number 0
 Decided (film how u reason number) = Decides (pictureVerdict how u) reason number 0
+Decided (field s reason number place) = Decides (fieldVerdict s) reason number place
+Decided (writeField t room reason number) = Decides (fields.valueVerdict t room) reason number 0
+Decided (convert s room reason number place) =
+    Decides (convertVerdict (packetVerdict s) (valueOf s) room) reason number place
+Decided (convertValue v room reason number) = Decides (convertVerdict (ownVerdict v) v room) reason number 0
 Decided (replace kind s u room reason number place) = Decides (replaceVerdict kind s u room) reason number place
 
 -- A: one legal record
@@ -174,6 +188,24 @@ invalid = unit 2 0 0 0x94 0x2C 0 0
 -- a payload of m units
 abbrev payloadOf : ℕ → List AccessUnit → Payload
 payloadOf m us = record { flags = 0; m = m; units = us }
+
+-- a unit of teletext in the stream, its row all FF: the byte of reserved bits, parity and line, and the framing code
+abbrev wire : ℕ → ℕ → List ℕ
+wire line code = 0x03 ∷ 0x2C ∷ line ∷ code ∷ replicate 42 0xFF
+
+-- so many units of stuffing
+abbrev stuffed : ℕ → List ℕ
+stuffed k = pes-layout.layoutUnits (replicate k (pes.stuffing (replicate 44 0xFF)))
+
+-- a unit that is told: id, parity, line
+abbrev line : ℕ → ℕ → ℕ → pes.DataUnit
+line id parity l =
+    pes.teletext
+    (record { «data_unit_id» = id; «field_parity» = parity; «line_offset» = l; row = replicate 42 0 })
+
+-- what is told of a data field: data_identifier, n and units
+abbrev fieldOf : ℕ → ℕ → List pes.DataUnit → pes.Told
+fieldOf identifier n us = record { «data_identifier» = identifier; n = n; units = us }
 
 -- a picture that shows its top field first, and whether the first is repeated; the set line
 abbrev shown : Bool → ℕ → Shown
@@ -372,6 +404,60 @@ two-faults =
     ∷ film (shown false 11) (value (caption 0 3 10 ∷ []) 0) NotShown 21
     -- 22 and no 21: the same where the first field is repeated
     ∷ film (shown true 11) (value (caption 0 3 10 ∷ []) 0) OtherLine 22
+    -- READING A DATA FIELD
+    -- 6 and 23: data_identifier 20, and a unit of id 04
+    ∷ field (0x20 ∷ 0x04 ∷ []) (Unfixed fixed.Identifier) 6 0
+    -- 23 and 5: id 04, and no length
+    ∷ field (0x10 ∷ 0x04 ∷ []) UnknownUnit 23 1
+    -- 23 and 13: id 04, and length 2D
+    ∷ field (0x10 ∷ 0x04 ∷ 0x2D ∷ []) UnknownUnit 23 1
+    -- 13 and 5: length 2D, and nothing behind it; in teletext, and in stuffing
+    ∷ field (0x10 ∷ 0x02 ∷ 0x2D ∷ []) (Unfit misfit.UnitLength) 13 2
+    ∷ field (0x10 ∷ 0xFF ∷ 0x2B ∷ []) (Unfit misfit.UnitLength) 13 2
+    -- 13 and 6: length 2D, and reserved bits 00
+    ∷ field (0x10 ∷ 0x03 ∷ 0x2D ∷ 0x07 ∷ []) (Unfit misfit.UnitLength) 13 2
+    -- 6 and 7: reserved bits 10, and line 6
+    ∷ field (0x1F ∷ wire 0x86 0xE4) (Unfixed fixed.UnitReserved) 6 3
+    -- 7 and 5: line 6, and no framing code
+    ∷ field (0x10 ∷ 0x03 ∷ 0x2C ∷ 0xC6 ∷ []) UnitLine 7 3
+    -- 7 and 6: line 23, and framing code 27
+    ∷ field (0x10 ∷ wire 0xF7 0x27) UnitLine 7 3
+    -- 6 and 5: framing code 27, and a row of one byte
+    ∷ field (0x10 ∷ 0x03 ∷ 0x2C ∷ 0xC7 ∷ 0x27 ∷ 0xFF ∷ []) (Unfixed fixed.UnitFraming) 6 4
+    -- 7 and 23: line 1 in the first unit, and id 04 in the second
+    ∷ field (0x10 ∷ (wire 0xC1 0xE4 ++ (0x04 ∷ []))) UnitLine 7 3
+    -- 6 and 7: framing code 27 in the second unit, and line 6 in the third
+    ∷ field (0x10 ∷ (stuffed 1 ++ (wire 0xE7 0x27 ++ wire 0xC6 0xE4))) (Unfixed fixed.UnitFraming) 6 50
+    -- 6 and 24: framing code 27 in the 31st unit, and a byte behind it
+    ∷ field (0x10 ∷ (stuffed 30 ++ (wire 0xE7 0x27 ++ (0x02 ∷ [])))) (Unfixed fixed.UnitFraming) 6 1384
+    -- 24 and 23: a byte behind the 31st unit, which would be an unknown id
+    ∷ field (0x10 ∷ (stuffed 31 ++ (0x04 ∷ []))) SurplusUnit 24 1427
+    -- WRITING A DATA FIELD
+    -- 15 and 15: data_identifier 32, and n 32
+    ∷ writeField (fieldOf 32 32 []) 0 (Unholdable excess.DataIdentifier) 15
+    -- 15 and 7: n 32, and a unit of line 6
+    ∷ writeField (fieldOf 16 32 (line 3 1 6 ∷ [])) 0 (Unholdable excess.Count) 15
+    -- 15 and 15: id 4, and parity 2
+    ∷ writeField (fieldOf 16 1 (line 4 2 7 ∷ [])) 0 (Unholdable excess.DataUnitId) 15
+    -- 15 and 7: parity 2, and line 6
+    ∷ writeField (fieldOf 16 1 (line 3 2 6 ∷ [])) 0 (Unholdable excess.FieldParity) 15
+    -- 15 and 14: line 32, and no room
+    ∷ writeField (fieldOf 16 1 (line 3 1 32 ∷ [])) 0 (Unholdable excess.LineOffset) 15
+    -- 7 and 15: line 6 in one unit, and id 4 in the next
+    ∷ writeField (fieldOf 16 2 (line 3 1 6 ∷ line 4 1 7 ∷ [])) 0 UnitLine 7
+    -- 7 and 14: line 23 behind stuffing, and no room
+    ∷ writeField (fieldOf 16 2 (pes.stuffing (replicate 44 0) ∷ line 2 0 23 ∷ [])) 0 UnitLine 7
+    -- CONVERTING A PACKET
+    -- 6 and 7: the footer 75, and a full slot of line 6
+    ∷ convert (one 0x200 0x255 0x255 0x227 0x175) 0 (Unfixed fixed.Footer) 6 60
+    -- 15 and 7: counter 65,536, and line 6
+    ∷ convertValue (two 65536 (slot 1 6 0 sdp.zeroRow) sdp.emptyRow) 0 (Unholdable excess.Counter) 15
+    -- 15 and 7: line 6 in one slot, and reserved 4 in the next: the packet is judged first
+    ∷ convertValue (two 0 (slot 1 6 0 sdp.zeroRow) (slot 1 7 4 sdp.zeroRow)) 0 (Unholdable excess.SlotReserved) 15
+    -- 7 and 7: line 6 in one slot, which a packet may have, and line 3 in the next, which it may not
+    ∷ convertValue (two 0 (slot 1 6 0 sdp.zeroRow) (slot 1 3 0 sdp.zeroRow)) 0 DescriptorLine 7
+    -- 7 and 14: line 6 in the second slot, and no room
+    ∷ convertValue (two 0 (slot 1 7 0 sdp.zeroRow) (slot 1 6 0 sdp.zeroRow)) 0 UnitLine 7
     -- REPLACING
     -- 18 and 15: an area whose caption unit, behind a foreign one, has its marker 0, and a value of z 16,385
     ∷ replace Scte20 (foreign ++ j) (value [] 16385) 0 (Unfixed fixed.Marker) 18 118

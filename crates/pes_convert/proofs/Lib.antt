@@ -2,3 +2,11 @@ pub mod Full
 pub mod Judged
 pub mod Stored
 pub mod Packets
+pub mod Units
+pub mod Lines
+pub mod Carrying
+pub mod Words
+pub mod Values
+pub mod Legal
+pub mod Determined
+pub mod Theorems

@@ -5,7 +5,7 @@ use mathlib.Core.List.{List}
 use lib.ListN.{length}
 use Rattle.refusal.specs.declared.Written.{Written}
 use Rattle.refusal.specs.declared.Item.{Item}
-use Rattle.refusal.specs.declared.Item.the-variants.{Whole, Bit, Body, Word, Length}
+use Rattle.refusal.specs.declared.Item.the-variants.{Whole, Bit, Body, Word, Byte, Length}
 use Rattle.refusal.specs.Answers.{Wrote}
 use Rattle.kind.specs.declared.Kind.{Kind}
 use Rattle.units.specs.declared.Found.{Found}
@@ -23,6 +23,7 @@ Near Whole = Unit {0}
 Near (Bit bit) = bit ≤ 1048576
 Near (Body other bit) = Unit {0}
 Near (Word w) = Unit {0}
+Near (Byte b) = Unit {0}
 Near (Length n) = Unit {0}
 
 -- where the new unit goes: in the place of the only one that was found, else behind the last byte

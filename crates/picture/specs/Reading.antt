@@ -11,7 +11,7 @@ use Rattle.refusal.specs.declared.Verdict.{Verdict}
 use Rattle.refusal.specs.declared.Verdict.the-variants.{Accepted, Refused}
 use Rattle.refusal.specs.declared.Reason.the-variants.{SecondUnit}
 use Rattle.refusal.specs.declared.Item.{Item}
-use Rattle.refusal.specs.declared.Item.the-variants.{Whole, Bit, Body, Word, Length}
+use Rattle.refusal.specs.declared.Item.the-variants.{Whole, Bit, Body, Word, Byte, Length}
 use Rattle.refusal.specs.Numbers.{refusalOf}
 use Rattle.refusal.specs.Answers.{accepted}
 use Rattle.kind.specs.declared.Kind.{Kind}
@@ -28,6 +28,7 @@ placedItem unit Whole = Whole
 placedItem unit (Bit bit) = Body unit (8 * (unit + 4) + bit)
 placedItem unit (Body other bit) = Body other bit
 placedItem unit (Word w) = Word w
+placedItem unit (Byte b) = Byte b
 placedItem unit (Length n) = Length n
 
 abbrev pub placed : ℕ → Verdict → Verdict

@@ -38,6 +38,7 @@ pub(crate) fn placed(unit: usize, item: Item) -> Item
         Item::Whole => item,
         Item::Body { unit: _, bit: _ } => item,
         Item::Word(_) => item,
+        Item::Byte(_) => item,
         Item::Length(_) => item,
     }
 }

@@ -1,8 +1,6 @@
 -- `pes_convert::convert_value` meets its contract: it writes the slots where the refusal's number is 0, which is where the value is accepted.
 -- Assumes nothing.
-use Prim.Native.Nat.{ℕ}
 use mathlib.Core.Path.{_≡_, _∙_, ap, sym, subst, subst₂}
-use mathlib.Core.List.{List}
 use borrow.Author.Needs.{needs}
 use denote.Ref.{now}
 use lib.ListN.{length}
@@ -13,7 +11,7 @@ use Rattle.refusal.specs.Numbers.{refusalOf}
 use Rattle.refusal.specs.Answers.{Wrote}
 use Rattle.refusal.proofs.Acceptance.{told-accepted}
 use Rattle.refusal.proofs.Outputs.{wrote-nothing}
-use Rattle.sdp.specs.Value.{Sdp, Typed, held}
+use Rattle.sdp.specs.Value.{Sdp, held}
 use Rattle.pes.specs.Layout.{layout}
 use Rattle.pes_convert.specs.Converting.{converted, convertVerdict, ownVerdict}
 use Rattle.pes_convert.proofs.Packets.{packet-decides}

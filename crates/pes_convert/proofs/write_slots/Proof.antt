@@ -10,17 +10,15 @@ use borrow.Author.Needs.{needs}
 use denote.Ref.{now}
 use lib.ListN.{length, take, getD, length-append}
 use lib.Seq.{take-all, length-take-le}
-use Rattle.lists.specs.Each.{Each}
 use Rattle.lists.proofs.Each.{each-at}
 use Rattle.lists.proofs.Lay.{length-overAt}
 use Rattle.refusal.specs.declared.Verdict.{Verdict}
 use Rattle.refusal.specs.Answers.{Wrote}
-use Rattle.sdp.specs.declared.Slot.{Slot}
 use Rattle.sdp.specs.Value.{SlotRow, Row, Typed, Legal, emptySlot, together, held}
 use Rattle.sdp.proofs.Types.{typed}
 use Rattle.sdp.proofs.Numbers.{length-held, beside-each, checked-legal}
 use Rattle.subtitling.proofs.Numbers.{accepted-value}
-use Rattle.pes.specs.Value.{DataUnit, TypedUnit}
+use Rattle.pes.specs.Value.{DataUnit}
 use Rattle.pes.specs.Layout.{layout}
 use Rattle.pes.specs.Lent.{unitBytes, unitsBytes, unitsIn}
 use Rattle.pes.proofs.Lending.{length-lent, typed-sized}
@@ -71,47 +69,6 @@ row-at c i h = each-at Row [] (c .args .t2) (types c .each) i (omega (arith, typ
 loop-holds : tie.Need-loop-holds Inv-loop μ-loop
 loop-holds c = (omega arith, refl, refl, refl)
 
--- src/lib.rt:63:20
-mul-slot : tie.Need-mul-slot Inv-loop μ-loop
-mul-slot c = omega arith
-
--- src/lib.rt:63:20
-element-copy-out-slot : tie.Need-element-copy-out-slot Inv-loop μ-loop
-element-copy-out-slot c = omega arith
-
--- src/lib.rt:65:28
-mul-put-slot : tie.Need-mul-put-slot Inv-loop μ-loop
-mul-put-slot c = omega arith
-
--- src/lib.rt:65:28
-array-copy-out-put-slot : tie.Need-array-copy-out-put-slot Inv-loop μ-loop
-array-copy-out-put-slot c = omega arith
-
--- src/lib.rt:65:37
-mul-put-slot-2 : tie.Need-mul-put-slot-2 Inv-loop μ-loop
-mul-put-slot-2 c = omega (arith, small (c .before .before .before .before .before))
-
--- src/lib.rt:65:52
-slice-aggregate-put-slot : tie.Need-slice-aggregate-put-slot Inv-loop μ-loop
-slice-aggregate-put-slot c = sym (c .before .before .before .before .before .before .loop .inv .1)
-
--- src/lib.rt:65:13
-put-slot-requires : tie.Need-put-slot-requires Inv-loop μ-loop
-put-slot-requires c κs = let at = c .before .before .before .before .before .before in omega (arith, small at, at .loop .inv .1)
-
--- src/lib.rt:66:13
-add-n : tie.Need-add-n Inv-loop μ-loop
-add-n c = omega (arith, small (c .before .before .before .before .before .before .before .before))
-
--- src/lib.rt:68:9
-add-i : tie.Need-add-i Inv-loop μ-loop
-add-i c = omega arith
-
--- src/lib.rt:62:5
-loop-less : tie.Need-loop-less Inv-loop μ-loop
-loop-less c = omega arith
-
--- src/lib.rt:62:5
 loop-again : tie.Need-loop-again Inv-loop μ-loop
 loop-again c =
     let at = c .before .before .before .before in
@@ -146,15 +103,6 @@ loop-again c =
     ))
     (c .if1 .came)
 
--- src/lib.rt:70:5
-write-from-requires : tie.Need-write-from-requires Inv-loop μ-loop
-write-from-requires c κs = tt
-
--- src/lib.rt:55:1
-same-length : tie.Need-same-length Inv-loop μ-loop
-same-length c = search needs
-
--- src/lib.rt:55:1
 returns : tie.Need-returns Inv-loop μ-loop
 returns c =
     let wrote = c .before .before in
@@ -184,17 +132,17 @@ write-slots-spec =
     Inv-loop
     μ-loop
     loop-holds
-    mul-slot
-    element-copy-out-slot
-    mul-put-slot
-    array-copy-out-put-slot
-    mul-put-slot-2
-    slice-aggregate-put-slot
-    put-slot-requires
-    add-n
-    add-i
-    loop-less
+    (λ c. omega arith)
+    (λ c. omega arith)
+    (λ c. omega arith)
+    (λ c. omega arith)
+    (λ c. omega (arith, small (c .before .before .before .before .before)))
+    (λ c. sym (c .before .before .before .before .before .before .loop .inv .1))
+    (λ c κs. let at = c .before .before .before .before .before .before in omega (arith, small at, at .loop .inv .1))
+    (λ c. omega (arith, small (c .before .before .before .before .before .before .before .before)))
+    (λ c. omega arith)
+    (λ c. omega arith)
     loop-again
-    write-from-requires
-    same-length
+    (λ c κs. search needs)
+    (λ c. search needs)
     returns)
