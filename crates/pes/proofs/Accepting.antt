@@ -1,15 +1,13 @@
 -- Which bytes are accepted, and with which answer.
 -- Assumes nothing.
-use Prim.Native.Nat.{ℕ, _+_, _≤_, _<_}
+use Prim.Native.Nat.{ℕ, _+_}
 use native.Mathlib.Omega.{arith}
 use mathlib.Core.Path.{_≡_, _∙_, ap, sym, subst, refl}
 use mathlib.Core.Logic.{_↔_}
 use mathlib.Core.List.{List, _∷_, _++_}
-use lib.ListN.{length, take, length-append}
-use lib.Seq.{take-length, take-at, length-take-le}
-use Rattle.lists.specs.Each.{Each}
+use lib.ListN.{length, length-append}
+use lib.Seq.{take-at}
 use Rattle.lists.specs.Bytes.{Bytes}
-use Rattle.lists.specs.Room.{filled}
 use Rattle.lists.proofs.Each.{each-append, append-each}
 use Rattle.refusal.specs.declared.Refusal.{Refusal}
 use Rattle.refusal.specs.declared.Verdict.{Verdict}
@@ -19,12 +17,12 @@ use Rattle.refusal.specs.Numbers.{refusalOf}
 use Rattle.refusal.specs.Answers.{accepted, lentOf}
 use Rattle.refusal.proofs.Acceptance.{told-accepted}
 use Rattle.pes.specs.declared.Head.{Head}
-use Rattle.pes.specs.Value.{Teletext, DataUnit, DataField, withRow, LegalTeletext, LegalUnit, Legal, LegalTold, blank, stored, held}
+use Rattle.pes.specs.Value.{Teletext, DataUnit, DataField, withRow, LegalTeletext, LegalUnit, Legal, LegalTold, stored, held}
 use Rattle.pes.specs.Layout.{layout}
 use Rattle.pes.specs.Order.{readingChecks}
 use Rattle.pes.specs.Reading.{fieldVerdict, valueOf}
 use Rattle.pes.specs.Lent.{unitsBytes, headOf, ReadsInto}
-use Rattle.pes.proofs.Field.{field-accepted, value-back, Accepts, accepted-field}
+use Rattle.pes.proofs.Field.{field-accepted, value-back, accepted-field}
 
 -- A VALUE AS IT IS TOLD
 

@@ -1,6 +1,6 @@
 -- Reading what was written, and writing what was read.
 -- Assumes nothing.
-use Prim.Native.Nat.{ℕ, _+_, _*_, _≤_, _<_}
+use Prim.Native.Nat.{ℕ, _*_, _≤_}
 use native.Mathlib.Omega.{arith}
 use mathlib.Core.Path.{_≡_, _∙_, ap, ap₂, sym, subst, refl}
 use mathlib.Core.List.{List}
@@ -10,16 +10,15 @@ use Rattle.lists.specs.Room.{filled, over}
 use Rattle.lists.proofs.Each.{each-map}
 use Rattle.lists.proofs.Lay.{take-over}
 use Rattle.refusal.specs.declared.Written.{Written}
-use Rattle.refusal.specs.declared.Verdict.the-variants.{Accepted}
 use Rattle.refusal.specs.Answers.{accepted, written}
 use Rattle.pes.specs.declared.Head.{Head}
-use Rattle.pes.specs.Value.{DataUnit, DataField, LegalUnit, Told, LegalTold, stored, held}
+use Rattle.pes.specs.Value.{LegalUnit, Told, stored, held}
 use Rattle.pes.specs.Layout.{layout}
 use Rattle.pes.specs.Reading.{valueOf}
 use Rattle.pes.specs.Writing.{Writes}
-use Rattle.pes.specs.Lent.{unitsIn, unitsBytes, fieldIn, headOf, ReadsInto}
+use Rattle.pes.specs.Lent.{unitsIn, fieldIn, ReadsInto}
 use Rattle.pes.proofs.Unit.{Sized, legal-sized}
-use Rattle.pes.proofs.Field.{Accepts, accepted-field}
+use Rattle.pes.proofs.Field.{accepted-field}
 use Rattle.pes.proofs.Lending.{places, lent-held, lent-front, stored-typed}
 use Rattle.pes.proofs.Accepting.{the-answer, stored-held, stored-legal, answered, verdict-accepted}
 use Rattle.pes.proofs.Writing.{writes-exactly, written-front}

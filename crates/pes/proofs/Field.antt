@@ -1,11 +1,11 @@
 -- A data field: legal values are accepted and read as what they are, and bytes that are accepted are those of a legal value.
 -- Assumes nothing.
-use Prim.Native.Nat.{ℕ, suc, _+_, _-_, _*_, _/_, _≤_, _<_}
+use Prim.Native.Nat.{ℕ, _+_, _-_, _*_, _/_, _≤_, _<_}
 use native.Mathlib.Omega.{arith}
-use mathlib.Core.Path.{_≡_, _∙_, ap, ap₂, sym, subst, refl}
+use mathlib.Core.Path.{_≡_, _∙_, ap, ap₂, sym, subst}
 use mathlib.Core.Bool.{not}
-use mathlib.Core.List.{List, [], _∷_, _++_, append-nil}
-use borrow.Author.Tests.{eq-eqb, ne-eqb, eqb-false}
+use mathlib.Core.List.{List, [], _∷_, append-nil}
+use borrow.Author.Tests.{eq-eqb, ne-eqb}
 use lib.Dec.{eqb}
 use lib.ListN.{length, getD, drop}
 use Rattle.lists.specs.Each.{Each}
@@ -13,7 +13,7 @@ use Rattle.lists.specs.Bytes.{Bytes}
 use Rattle.lists.specs.Flat.{taken}
 use Rattle.lists.proofs.FlatOf.{length-taken}
 use Rattle.refusal.specs.declared.Verdict.{Verdict}
-use Rattle.refusal.specs.declared.Verdict.the-variants.{Accepted, Refused}
+use Rattle.refusal.specs.declared.Verdict.the-variants.{Accepted}
 use Rattle.refusal.specs.declared.Reason.the-variants.{Ends, Unfixed}
 use Rattle.refusal.specs.declared.Fixed.the-variants.{Identifier}
 use Rattle.refusal.specs.declared.Item.the-variants.{Byte}

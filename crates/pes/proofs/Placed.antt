@@ -1,15 +1,15 @@
 -- The place of a refusal: what stands there, and that it is a fault.
 -- Assumes nothing.
-use Prim.Native.Nat.{ℕ, zero, suc, _+_, _-_, _*_, _/_, _%_, _≤_, _<_}
+use Prim.Native.Nat.{ℕ, zero, suc, _+_, _-_, _/_, _%_, _≤_, _<_}
 use native.Mathlib.Omega.{arith}
-use mathlib.Core.Path.{_≡_, _∙_, ap, ap₂, sym, subst, refl}
+use mathlib.Core.Path.{_≡_, _∙_, ap, sym, subst, refl}
 use mathlib.Core.Logic.{_⊎_, inl, inr, ⊎-elim}
 use mathlib.Core.Bool.{Bool, true, false, not, _&&_, _||_, true≢false}
-use mathlib.Core.List.{List, [], _∷_, _++_}
-use borrow.Author.Tests.{eq-eqb, eqb-true, eqb-false, ltb-true, ltb-false, lt-ltb, not-true, not-false}
+use mathlib.Core.List.{List}
+use borrow.Author.Tests.{eqb-true, eqb-false, ltb-true, ltb-false, lt-ltb, not-true, not-false}
 use lib.Dec.{eqb, ltb}
 use lib.ListN.{length, getD, drop, length-drop}
-use lib.Seq.{getD-drop, drop-drop}
+use lib.Seq.{getD-drop}
 use Rattle.lists.specs.Each.{Each}
 use Rattle.refusal.specs.declared.Reason.{Reason}
 use Rattle.refusal.specs.declared.Reason.the-variants.{Ends, Unfixed, UnknownUnit, SurplusUnit, UnitLine, Unfit}
@@ -19,20 +19,19 @@ use Rattle.refusal.specs.declared.Item.{Item}
 use Rattle.refusal.specs.declared.Item.the-variants.{Byte}
 use Rattle.refusal.specs.declared.Refusal.{Refusal}
 use Rattle.refusal.specs.declared.Verdict.{Verdict}
-use Rattle.refusal.specs.declared.Verdict.the-variants.{Accepted, Refused}
-use Rattle.refusal.specs.Checks.{refuseIf, andThen, first}
-use Rattle.refusal.specs.Numbers.{numberOf, placeOf, refusalOf}
+use Rattle.refusal.specs.declared.Verdict.the-variants.{Accepted}
+use Rattle.refusal.specs.Checks.{first}
+use Rattle.refusal.specs.Numbers.{numberOf, placeOf}
 use Rattle.refusal.proofs.Checks.{refused-not-accepted, accepted-refuseIf, accepted-equal, accepted-within, accepted-andThen, accepted-all}
 use Rattle.refusal.proofs.Lines.{outside}
 use Rattle.refusal.proofs.Only.{Only, accepted-only, refused-only, refuseIf-only, andThen-only, told-only}
 use Rattle.pes.specs.declared.Head.{Head}
 use Rattle.pes.specs.Value.{LegalLine}
-use Rattle.pes.specs.Order.{teletextId, knownId, bodyChecks, unitChecks}
-use Rattle.pes.specs.Reading.{unitVerdict, unitsVerdict, fieldVerdict}
+use Rattle.pes.specs.Order.{teletextId, knownId, bodyChecks}
+use Rattle.pes.specs.Reading.{unitVerdict, fieldVerdict}
 use Rattle.pes.specs.Lent.{ReadsInto}
 use Rattle.pes.specs.Places.{unitAt, Begins, Teletexts, NoLine, Stands, empty-5, identifier-6, surplus-24, id-23, length-5, length-13, stuffing-5, line-5, reserved-6, line-7, framing-5, framing-6, row-5}
 use Rattle.pes.proofs.Unit.{teletext-id, not-stuffing, Whole, RightBody, Body, accepted-whole}
-use Rattle.pes.proofs.Units.{units-end, units-surplus, units-here}
 use Rattle.pes.proofs.Field.{parts, field-parts}
 use Rattle.pes.proofs.Judged.{behind, behind-end, behind-surplus, behind-next}
 use Rattle.pes.proofs.Accepting.{told, verdict-accepted}

@@ -1,19 +1,19 @@
 -- One unit: which bytes the checks let through, what is read from those of a legal unit, and that what is read lays them
 -- again.
 -- Assumes nothing.
-use Prim.Native.Nat.{ℕ, suc, _+_, _-_, _*_, _/_, _%_, _≤_, _<_}
+use Prim.Native.Nat.{ℕ, _+_, _-_, _*_, _/_, _%_, _≤_, _<_}
 use native.Mathlib.Omega.{arith}
 use mathlib.Core.Path.{_≡_, _∙_, ap, ap₂, sym, subst, refl}
 use mathlib.Core.Logic.{_⊎_, inl, inr, ⊎-elim}
 use mathlib.Core.Bool.{Bool, true, false, not, _||_, true≢false}
 use mathlib.Core.List.{List, [], _∷_, _++_, map}
-use borrow.Author.Tests.{eq-eqb, ne-eqb, eqb-true, eqb-false, le-ltb, not-false}
-use lib.Dec.{eqb, ltb}
-use lib.ListN.{length, getD, take, drop, length-map, length-append}
+use borrow.Author.Tests.{eq-eqb, ne-eqb, eqb-true, le-ltb, not-false}
+use lib.Dec.{eqb}
+use lib.ListN.{length, getD, take, length-map, length-append}
 use lib.Seq.{length-take-le, take-at}
 use Rattle.lists.specs.Each.{Each}
 use Rattle.lists.specs.Bytes.{Bytes}
-use Rattle.lists.proofs.Each.{each-take, each-at}
+use Rattle.lists.proofs.Each.{each-take}
 use Rattle.refusal.specs.declared.Verdict.{Verdict}
 use Rattle.refusal.specs.declared.Verdict.the-variants.{Accepted}
 use Rattle.refusal.specs.declared.Item.{Item}
@@ -21,7 +21,7 @@ use Rattle.refusal.proofs.Checks.{accepted-refuseIf, refuseIf-accepted, accepte
 use Rattle.refusal.proofs.Lines.{not-outside, among-inside}
 use Rattle.bits.specs.Bits.{reversed}
 use Rattle.bits.proofs.Turn.{reversed-lt, reversed-reversed}
-use Rattle.pes.specs.Value.{Teletext, DataUnit, teletext, stuffing, TeletextId, LegalLine, LegalUnit}
+use Rattle.pes.specs.Value.{DataUnit, teletext, stuffing, TeletextId, LegalLine, LegalUnit}
 use Rattle.pes.specs.Layout.{layoutUnit}
 use Rattle.pes.specs.Order.{teletextId, knownId, bodyChecks, unitChecks}
 use Rattle.pes.specs.Reading.{lineVerdict, unitVerdict, unitOf, readUnit}

@@ -1,29 +1,28 @@
 -- Units, one behind the other: in which order they are judged, that legal ones are accepted, and that bytes which are
 -- accepted are those of the units that are read from them.
 -- Assumes nothing.
-use Prim.Native.Nat.{ℕ, zero, suc, _+_, _-_, _*_, _/_, _≤_, _<_}
+use Prim.Native.Nat.{ℕ, zero, suc, _+_, _-_, _*_, _≤_, _<_}
 use native.Mathlib.Omega.{arith}
-use mathlib.Core.Path.{_≡_, _∙_, ap, ap₂, sym, subst, refl}
+use mathlib.Core.Path.{_≡_, _∙_, ap, ap₂, sym, refl}
 use mathlib.Core.List.{List, [], _∷_, _++_}
-use lib.ListN.{length, take, drop, length-append, length-drop, take-append-drop}
-use lib.Seq.{length-take-le, drop-at}
+use lib.ListN.{length, drop, length-append, length-drop, take-append-drop}
+use lib.Seq.{drop-at}
 use Rattle.lists.specs.Each.{Each}
 use Rattle.lists.specs.Bytes.{Bytes}
-use Rattle.lists.specs.Flat.{flat, taken}
+use Rattle.lists.specs.Flat.{taken}
 use Rattle.lists.proofs.Each.{each-drop, each-map}
 use Rattle.lists.proofs.FlatOf.{length-flat, flat-taken}
-use Rattle.refusal.specs.declared.Verdict.{Verdict}
 use Rattle.refusal.specs.declared.Verdict.the-variants.{Accepted, Refused}
 use Rattle.refusal.specs.declared.Reason.the-variants.{SurplusUnit}
 use Rattle.refusal.specs.declared.Item.the-variants.{Byte}
 use Rattle.refusal.specs.Checks.{andThen, first}
-use Rattle.refusal.proofs.Checks.{refused-not-accepted, accepted-andThen, andThen-accepted, andThen-last}
+use Rattle.refusal.proofs.Checks.{refused-not-accepted, accepted-andThen, andThen-accepted}
 use Rattle.refusal.proofs.Sequence.{first-append}
 use Rattle.pes.specs.Value.{DataUnit, LegalUnit}
 use Rattle.pes.specs.Layout.{layoutUnit, layoutUnits}
 use Rattle.pes.specs.Order.{unitChecks, unitsChecks}
 use Rattle.pes.specs.Reading.{unitVerdict, unitsVerdict, readUnit}
-use Rattle.pes.proofs.Unit.{Sized, legal-sized, length-layout, read-back, unit-accepted, Whole, accepted-whole, laid-again}
+use Rattle.pes.proofs.Unit.{Sized, legal-sized, length-layout, read-back, unit-accepted, accepted-whole, laid-again}
 
 -- THE ORDER
 

@@ -1,16 +1,15 @@
 -- Writing: which values the checks let through, and the checks in the order in which the code comes to them.
 -- Assumes nothing.
-use Prim.Native.Nat.{ℕ, zero, suc, _+_, _*_, _/_, _≤_, _<_}
+use Prim.Native.Nat.{ℕ, _+_, _/_, _≤_, _<_}
 use native.Mathlib.Omega.{arith}
 use native.Mathlib.Numerals.{add-one}
-use mathlib.Core.Path.{_≡_, _∙_, ap, ap₂, sym, subst, refl}
-use mathlib.Core.Bool.{Bool, true, false, not}
-use mathlib.Core.List.{List, [], _∷_, _++_, map}
+use mathlib.Core.Path.{_≡_, _∙_, ap, sym, refl}
+use mathlib.Core.Bool.{true, false, not}
+use mathlib.Core.List.{List, [], _∷_, _++_}
 use borrow.Author.Tests.{eq-eqb, ne-eqb, lt-ltb, le-ltb, not-false}
 use lib.Dec.{eqb, ltb}
-use lib.ListN.{length, getD, take, drop}
+use lib.ListN.{length, getD, drop}
 use lib.Seq.{drop-cons, length-take-le}
-use Rattle.lists.specs.Each.{Each}
 use Rattle.lists.proofs.Each.{each-take, each-both, each-map}
 use Rattle.refusal.specs.declared.Verdict.{Verdict}
 use Rattle.refusal.specs.declared.Verdict.the-variants.{Accepted, Refused}
@@ -22,9 +21,9 @@ use Rattle.refusal.specs.Order.{eachOf}
 use Rattle.refusal.proofs.Checks.{accepted-refuseIf, refuseIf-accepted, accepted-all, all-accepted, accepted-equal, accepted-within, accepted-each, each-accepted, andThen-last}
 use Rattle.refusal.proofs.Lines.{not-outside, among-inside}
 use Rattle.refusal.proofs.Sequence.{first-append, first-each}
-use Rattle.pes.specs.Value.{Teletext, DataUnit, teletext, stuffing, Told, Legal, LegalUnit, LegalTold, Typed, TypedUnit, blank, held}
+use Rattle.pes.specs.Value.{Teletext, DataUnit, teletext, stuffing, Told, LegalUnit, LegalTold, Typed, TypedUnit, blank, held}
 use Rattle.pes.specs.Layout.{layout}
-use Rattle.pes.specs.Order.{teletextId, writtenChecks, writingChecks}
+use Rattle.pes.specs.Order.{teletextId, writtenChecks}
 use Rattle.pes.specs.Reading.{lineVerdict}
 use Rattle.pes.specs.Writing.{writtenVerdict, writtenUnits, valueVerdict}
 use Rattle.pes.proofs.Unit.{teletext-id, id-teletext, line-below}

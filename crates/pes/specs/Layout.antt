@@ -1,6 +1,6 @@
 -- The bytes of a PES data field, from its value alone. RULES, "PES data field"; EN 300 472, the syntax of the data field.
 use Prim.Native.Nat.{ℕ, _+_, _*_}
-use mathlib.Core.List.{List, [], _∷_, map}
+use mathlib.Core.List.{List, _∷_, map}
 use Rattle.lists.specs.Flat.{flat}
 use Rattle.bits.specs.Bits.{reversed}
 use Rattle.pes.specs.Value.{DataUnit, DataField, teletext, stuffing}

@@ -3,21 +3,20 @@
 // Normative references: docs/RULES.md, "PES data field"; document 002 (RDD 8), clause 5; EN 300 472.
 ghost use mathlib.Core.Path.{_≡_};
 ghost use Prim.Native.Nat.{_+_, _*_, _≤_, _<_};
+ghost use mathlib.Core.List.{_∷_};
 ghost use lib.ListN.{length};
 ghost use Rattle.lists.specs.Room.{overAt};
 ghost use Rattle.refusal.specs.declared.Verdict.the-variants.{Accepted};
 ghost use Rattle.refusal.specs.Answers.{Wrote};
-ghost use Rattle.sdp.specs.Value.{Typed, held, together};
+ghost use Rattle.sdp.specs.Value.{held};
 ghost use Rattle.pes.specs.Layout.{layout};
-ghost use Rattle.pes.specs.Lent.{unitBytes};
-ghost use Rattle.pes_convert.specs.Converting.{slotUnit, converted, ownVerdict, convertVerdict, Converts, ConvertsValue};
+ghost use Rattle.pes_convert.specs.Converting.{converted, ownVerdict, convertVerdict, Converts, ConvertsValue};
 use pes::LENT_UNIT;
 use pes::LENT_UNITS;
 use refusal::Written;
 use sdp::Packet;
 use sdp::ROW_BYTES;
 use sdp::SLOTS;
-use sdp::Slot;
 use subtitling::MAX_WORDS;
 
 const DATA_IDENTIFIER: u32 = 0x10;
@@ -60,7 +59,7 @@ fn write_slots(p: Packet, rows: [[u8; ROW_BYTES]; SLOTS], out: &mut [u8]) -> Wri
     while i < SLOTS {
         let slot = p.slots[i];
         if slot.full != 0 {
-            put_slot(slot, rows[i], LENT_UNIT * n, &mut units);
+            put_slot(slot.field.0, slot.line, rows[i], LENT_UNIT * n, &mut units);
             n += 1;
         }
         i += 1;
@@ -68,14 +67,14 @@ fn write_slots(p: Packet, rows: [[u8; ROW_BYTES]; SLOTS], out: &mut [u8]) -> Wri
     pes_writer::write_from(DATA_IDENTIFIER, n, &units, out)
 }
 
-// Stores the unit of a full slot from index `at` on.
-fn put_slot(slot: Slot, row: [u8; ROW_BYTES], at: usize, units: &mut [u8])
+// Stores the unit of a full slot from index `at` on: its field, its line and its row as they are.
+fn put_slot(field: u8, line: u8, row: [u8; ROW_BYTES], at: usize, units: &mut [u8])
     requires { ⌜ at + 45 ≤ length (now units) ⌝ }
-    ensures { λ _. ⌜ now (units .exit) ≡ overAt at (unitBytes (slotUnit (together slot row))) (now (units .entry)) ⌝ }
+    ensures { λ _. ⌜ now (units .exit) ≡ overAt at (0x03 ∷ field ∷ line ∷ row) (now (units .entry)) ⌝ }
 {
     units[at] = SUBTITLE_ID;
-    units[at + 1] = slot.field.0;
-    units[at + 2] = slot.line;
+    units[at + 1] = field;
+    units[at + 2] = line;
     let mut j = 0;
     while j < ROW_BYTES {
         units[at + 3 + j] = row[j];

@@ -1,6 +1,6 @@
 -- `pes::is_known` meets its contract: the id is teletext's, or it is compared with that of stuffing.
 -- Assumes nothing.
-use mathlib.Core.Path.{_≡_, _∙_, ap, sym}
+use mathlib.Core.Path.{_∙_, ap, sym}
 use mathlib.Core.Bool.{Bool, _||_}
 use borrow.Author.Needs.{needs}
 use lib.Dec.{eqb}

@@ -10,6 +10,7 @@ use borrow.Author.Needs.{needs}
 use denote.Ref.{now}
 use lib.ListN.{length, take, getD, length-append}
 use lib.Seq.{take-all, length-take-le}
+use Rattle.lists.specs.Room.{overAt}
 use Rattle.lists.proofs.Each.{each-at}
 use Rattle.lists.proofs.Lay.{length-overAt}
 use Rattle.refusal.specs.declared.Verdict.{Verdict}
@@ -83,7 +84,7 @@ loop-again c =
     (λ w.
     let unit = slot-typed x (row-at start i below) in
     let grown : unitsOf start (i + 1) ≡ us ++ (slotUnit x ∷ []) = more ∙ ap (λ (one : List DataUnit). us ++ one) (full-one x (w .0 .taken)) in
-    let stored = w .5 ∙ w .3 .ensures in
+    let stored : c .if1 .units ≡ overAt (45 * n) (unitBytes (slotUnit x)) (at .loop .units) = w .5 ∙ w .3 .ensures in
     let fits : 45 * n + length (unitBytes (slotUnit x)) ≤ length (at .loop .units) =
     omega (arith, length-lent (slotUnit x) (typed-sized (slotUnit x) unit), small at, at .loop .inv .1) in
     let within : 45 * n ≤ length (at .loop .units) = omega arith in (

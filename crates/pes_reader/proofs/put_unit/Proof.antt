@@ -1,13 +1,12 @@
 -- `pes_reader::put_unit` meets its contract: what is stored one by one and the bytes behind it are those of the unit that is read.
 -- Assumes nothing.
-use Prim.Native.Nat.{ℕ, _+_, _-_, _*_, _/_, _%_, _≤_, _<_}
+use Prim.Native.Nat.{ℕ, _+_, _-_, _/_, _%_, _≤_, _<_}
 use native.Mathlib.Omega.{arith}
 use mathlib.Core.Path.{_≡_, _∙_, ap, sym, refl}
 use mathlib.Core.List.{List, [], _∷_, _++_, map}
 use borrow.Author.Needs.{needs}
-use borrow.Rule.Slice.PartMut.{putMid}
 use denote.Ref.{now}
-use lib.ListN.{length, getD, take, drop, set, length-set, length-map, length-drop}
+use lib.ListN.{length, getD, drop, set, length-set, length-map, length-drop}
 use lib.Seq.{length-take-le}
 use Rattle.lists.specs.Bytes.{Bytes}
 use Rattle.lists.specs.Part.{part}

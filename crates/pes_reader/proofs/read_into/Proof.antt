@@ -1,8 +1,8 @@
 -- `pes_reader::read_into` meets its contract: the checks refuse, or the units are stored and counted.
 -- Assumes nothing.
-use Prim.Native.Nat.{ℕ, _+_, _-_, _*_, _/_, _≤_, _<_}
+use Prim.Native.Nat.{ℕ, _-_, _≤_, _<_}
 use native.Mathlib.Omega.{arith}
-use mathlib.Core.Path.{_≡_, _∙_, ap, sym}
+use mathlib.Core.Path.{_∙_, ap, sym}
 use mathlib.Core.List.{List}
 use borrow.Author.Needs.{needs}
 use denote.Ref.{now}
@@ -13,7 +13,6 @@ use Rattle.lists.specs.Room.{filled}
 use Rattle.lists.proofs.Each.{each-of}
 use Rattle.lists.proofs.FlatOf.{length-taken}
 use Rattle.lists.proofs.Lay.{rest-whole, length-rest}
-use Rattle.refusal.specs.Numbers.{refusalOf}
 use Rattle.pes.specs.Value.{blank}
 use Rattle.pes.specs.Reading.{readUnit, unitCount}
 use Rattle.pes.specs.Lent.{unitsBytes}

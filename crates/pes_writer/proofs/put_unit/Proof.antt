@@ -1,13 +1,12 @@
 -- `pes_writer::put_unit` meets its contract: what is stored one by one and the bytes behind it are those of the unit that is told, as the stream has them.
 -- Assumes nothing.
-use Prim.Native.Nat.{ℕ, _+_, _-_, _*_, _/_, _%_, _≤_, _<_}
+use Prim.Native.Nat.{ℕ, _+_, _-_, _*_, _≤_, _<_}
 use native.Mathlib.Omega.{arith}
 use mathlib.Core.Path.{_≡_, _∙_, ap, sym, refl}
 use mathlib.Core.List.{List, [], _∷_, _++_, map}
 use borrow.Author.Needs.{needs}
-use borrow.Rule.Slice.PartMut.{putMid}
 use denote.Ref.{now}
-use lib.ListN.{length, getD, take, drop, set, length-set, length-map, length-drop}
+use lib.ListN.{length, getD, drop, set, length-set, length-map, length-drop}
 use lib.Seq.{length-take-le}
 use Rattle.lists.specs.Bytes.{Bytes}
 use Rattle.lists.specs.Part.{part}
@@ -21,7 +20,7 @@ use Rattle.pes.specs.Layout.{layoutUnit}
 use Rattle.pes.specs.Writing.{writtenVerdict}
 use Rattle.pes.specs.Lent.{unitIn}
 use Rattle.pes.proofs.Unit.{length-layout}
-use Rattle.pes.proofs.Lending.{in-sized, teletextIn, in-teletext, told-stuffing, told-teletext}
+use Rattle.pes.proofs.Lending.{in-sized, in-teletext, told-stuffing, told-teletext}
 use Rattle.pes.proofs.Writable.{written-small}
 use Rattle.pes_writer.proofs.put_unit.Statement.{statement}
 use Rattle.pes_writer.proofs.put_unit.Tie as tie

@@ -1,19 +1,18 @@
 -- `pes_writer::write_from` meets its contract: it stores where the refusal's number is 0, which is where the verdict accepts.
 -- Assumes nothing.
-use Prim.Native.Nat.{ℕ, _+_, _-_, _*_, _/_, _≤_, _<_}
+use Prim.Native.Nat.{ℕ, _+_, _-_, _*_, _≤_}
 use native.Mathlib.Omega.{arith}
 use mathlib.Core.Path.{_≡_, _∙_, ap, sym, subst, subst₃, refl}
-use mathlib.Core.List.{List, [], _∷_, _++_}
+use mathlib.Core.List.{List, [], _∷_}
 use borrow.Author.Needs.{needs}
 use borrow.Rule.Slice.PartMut.{putMid}
 use denote.Ref.{now}
-use lib.ListN.{length, take, drop, set, length-set}
+use lib.ListN.{length, set, length-set}
 use Rattle.lists.specs.Flat.{taken}
 use Rattle.lists.specs.Room.{over}
-use Rattle.lists.proofs.Lay.{length-over, length-rest, rest-whole, sets-overAt, laid-more}
+use Rattle.lists.proofs.Lay.{length-over, length-rest, sets-overAt, laid-more}
 use Rattle.refusal.specs.declared.Refusal.{Refusal}
 use Rattle.refusal.specs.declared.Verdict.{Verdict}
-use Rattle.refusal.specs.declared.Verdict.the-variants.{Accepted}
 use Rattle.refusal.specs.Numbers.{refusalOf}
 use Rattle.refusal.specs.Answers.{Wrote}
 use Rattle.refusal.proofs.Acceptance.{told-accepted}

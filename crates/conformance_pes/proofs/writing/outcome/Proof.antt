@@ -1,0 +1,36 @@
+-- `conformance_pes::writing::outcome` is safe: the parts that it lends are within their room. Assumes nothing.
+use mathlib.Core.Path.{sym}
+use native.Mathlib.Omega.{arith}
+use lib.ListN.{length-take}
+use lib.Seq.{length-take-le}
+use borrow.Author.Needs.{needs}
+use Rattle.conformance_pes.proofs.writing.outcome.Statement.{statement}
+use Rattle.conformance_pes.proofs.writing.outcome.Tie as tie
+
+slice-aggregate-agrees : tie.Need-slice-aggregate-agrees
+slice-aggregate-agrees c = sym (length-take-le _ _ (omega arith))
+
+slice-aggregate-agrees-2 : tie.Need-slice-aggregate-agrees-2
+slice-aggregate-agrees-2 c = sym (length-take-le _ _ (omega arith))
+
+agrees-requires : tie.Need-agrees-requires
+agrees-requires c κs = (simp length-take (omega arith), simp length-take (omega arith))
+
+pub outcome-spec : {M : Type 1} → statement M
+outcome-spec =
+    tie.close
+    (tie.spec
+    (λ c κs. search needs)
+    (λ c. search needs)
+    (λ c κs. search needs)
+    (λ c. search needs)
+    (λ c. search needs)
+    (λ c. search needs)
+    (λ c κs. search needs)
+    (λ c. search needs)
+    slice-aggregate-agrees
+    (λ c. search needs)
+    slice-aggregate-agrees-2
+    agrees-requires
+    (λ c κs. search needs)
+    (λ c. search needs))
