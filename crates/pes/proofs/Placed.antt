@@ -26,13 +26,14 @@ use Rattle.refusal.proofs.Checks.{refused-not-accepted, accepted-refuseIf, acce
 use Rattle.refusal.proofs.Lines.{outside}
 use Rattle.refusal.proofs.Only.{Only, accepted-only, refused-only, refuseIf-only, andThen-only, told-only}
 use Rattle.pes.specs.declared.Head.{Head}
-use Rattle.pes.specs.Value.{LegalLine}
+use Rattle.pes.specs.Value.{DataField, LegalLine, Legal}
+use Rattle.pes.specs.Layout.{layout}
 use Rattle.pes.specs.Order.{teletextId, knownId, bodyChecks}
 use Rattle.pes.specs.Reading.{unitVerdict, fieldVerdict}
 use Rattle.pes.specs.Lent.{ReadsInto}
-use Rattle.pes.specs.Places.{unitAt, Begins, Teletexts, NoLine, Stands, empty-5, identifier-6, surplus-24, id-23, length-5, length-13, stuffing-5, line-5, reserved-6, line-7, framing-5, framing-6, row-5}
+use Rattle.pes.specs.Places.{unitAt, Begins, Teletexts, FixedAt, NoLine, Stands, empty-5, identifier-6, surplus-24, id-23, length-5, length-13, stuffing-5, line-5, reserved-6, line-7, framing-5, framing-6, row-5}
 use Rattle.pes.proofs.Unit.{teletext-id, not-stuffing, Whole, RightBody, Body, accepted-whole}
-use Rattle.pes.proofs.Field.{parts, field-parts}
+use Rattle.pes.proofs.Field.{parts, field-parts, field-accepted, length-field}
 use Rattle.pes.proofs.Judged.{behind, behind-end, behind-surplus, behind-next}
 use Rattle.pes.proofs.Accepting.{told, verdict-accepted}
 
@@ -223,6 +224,17 @@ module _ (s : List ℕ) where
     fault number byte (framing-6 j _ place begins kind there other) =
         other (ap (λ (b : ℕ). getD s b 0) place ∙ sym (here j begins 3) ∙ right j begins kind .framing)
     fault number byte (row-5 j _ place begins kind end) = omega (arith, complete j begins, place, end)
+
+pub layout-fixed : (v : DataField) → Legal v → (j : ℕ) → j < length (v .units) → FixedAt (layout v) j
+layout-fixed v h j below =
+    let s = layout v in
+    let e = field-accepted v h in
+    let begins : Begins s j = record { few = omega (arith, h .few); there = omega (arith, length-field v h) } in
+    record {
+      size = sym (here s j begins 1) ∙ whole s e j (begins .there) .1 .size;
+      reserved = λ kind. ap (λ (b : ℕ). b / 64) (sym (here s j begins 2)) ∙ right s e j begins kind .reserved;
+      framing = λ kind. sym (here s j begins 3) ∙ right s e j begins kind .framing;
+    }
 
 pub stands-refused : (s lent : List ℕ) (r : Head) (exit : List ℕ) → ReadsInto s lent r exit
     → (number byte : ℕ) → Stands s number byte → r .refusal .number ≡ 0 → ⊥

@@ -6,9 +6,10 @@
 -- in Reading, and writing in Writing; units as bytes in a lent array in Lent; where things stand in a data field, and
 -- what a refusal tells of its place, in Places.
 --
--- `ReadsInto s lent r exit` is the promise of `read_into` (crate pes_reader): to the bytes s it answers r, and in a lent
--- array that held `lent` it leaves `exit`. `Writes t out r exit` is that of `write_from` (crate pes_writer): writing
--- what is told by t to an output that held `out` answers r and leaves `exit`. So each theorem speaks of every call.
+-- `ReadsInto s lent r exit` is the promise of `read_into` (crate pes_reader): to the bytes s it answers r, and in a
+-- lent array that held `lent` it leaves `exit`. `Writes t out r exit` is that of `write_from` (crate pes_writer):
+-- writing what is told by t to an output that held `out` answers r and leaves `exit`. So each theorem speaks of every
+-- call.
 -- Assumes nothing.
 use Prim.Native.Nat.{ℕ, _+_, _*_, _≤_, _<_}
 use mathlib.Core.Path.{_≡_}
@@ -32,7 +33,7 @@ use Rattle.pes.specs.Order.{teletextId, knownId, readingChecks, writingC
 use Rattle.pes.specs.Reading.{fieldVerdict, lineVerdict}
 use Rattle.pes.specs.Writing.{valueVerdict, Writes}
 use Rattle.pes.specs.Lent.{unitsBytes, fieldIn, ReadsInto}
-use Rattle.pes.specs.Places.{Stands}
+use Rattle.pes.specs.Places.{Stands, FixedAt}
 use Rattle.pes.proofs.Field as field
 use Rattle.pes.proofs.Lending as lending
 use Rattle.pes.proofs.Accepting as accepting
@@ -44,7 +45,8 @@ use Rattle.pes.proofs.Determined as determined
 -- READING
 
 -- The answer to a legal value's bytes is that value, its units in the lent array.
-pub the-answer : (v : DataField) → Legal v → (lent : List ℕ) (r : Head) (exit : List ℕ) → ReadsInto (layout v) lent r exit
+pub the-answer : (v : DataField) → Legal v
+    → (lent : List ℕ) (r : Head) (exit : List ℕ) → ReadsInto (layout v) lent r exit
     → (r ≡ record { refusal = accepted; «data_identifier» = v .«data_identifier»; n = length (v .units) })
     × (exit ≡ unitsBytes (stored v .units))
 the-answer = accepting.the-answer
@@ -71,7 +73,8 @@ pub lent-held : (t : Told) → Typed t → fieldIn (t .«data_identifier») (t .
 lent-held = lending.lent-held
 
 -- Any row of 42 bytes does: with another a legal unit is as legal.
-pub any-row : (t : Teletext) (row : List ℕ) → length row ≡ 42 → Bytes row → LegalTeletext t → LegalTeletext (withRow t row)
+pub any-row : (t : Teletext) (row : List ℕ) → length row ≡ 42 → Bytes row
+    → LegalTeletext t → LegalTeletext (withRow t row)
 any-row = accepting.any-row
 
 -- The order of lines is carried, not judged: with two units in each other's place a legal value is as legal.
@@ -107,6 +110,13 @@ place-means = placed.place-means
 pub stands-refused : (s lent : List ℕ) (r : Head) (exit : List ℕ) → ReadsInto s lent r exit
     → (number byte : ℕ) → Stands s number byte → r .refusal .number ≡ 0 → ⊥
 stands-refused = placed.stands-refused
+
+-- WHAT THE LAYOUT HAS THERE
+
+-- In the layout of every legal value each unit stands where `unitAt` (specs/Places) says, its data_unit_length is 2C,
+-- and where it is teletext its reserved bits are ones and its framing code is E4.
+pub layout-fixed : (v : DataField) → Legal v → (j : ℕ) → j < length (v .units) → FixedAt (layout v) j
+layout-fixed = placed.layout-fixed
 
 -- SIZES
 

@@ -19,6 +19,12 @@ pub record Begins (s : List ℕ) (j : ℕ) : Type 0 where
 abbrev pub Teletexts : List ℕ → ℕ → Type 0
 Teletexts s j = (getD s (unitAt j) 0 ≡ 0x02) ⊎ (getD s (unitAt j) 0 ≡ 0x03)
 
+-- what unit j has whatever its value is: its length, and where it is teletext the reserved bits and the framing code
+pub record FixedAt (s : List ℕ) (j : ℕ) : Type 0 where
+  pub size : getD s (unitAt j + 1) 0 ≡ 0x2C
+  pub reserved : Teletexts s j → getD s (unitAt j + 2) 0 / 64 ≡ 3
+  pub framing : Teletexts s j → getD s (unitAt j + 3) 0 ≡ 0xE4
+
 -- line 1 to 6 or 23 to 31
 abbrev pub NoLine : ℕ → Type 0
 NoLine l = ((1 ≤ l) × (l ≤ 6)) ⊎ ((23 ≤ l) × (l ≤ 31))
