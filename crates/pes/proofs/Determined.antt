@@ -13,7 +13,7 @@ use Rattle.pes.specs.declared.Head.{Head}
 use Rattle.pes.specs.Value.{Told, held}
 use Rattle.pes.specs.Layout.{layout}
 use Rattle.pes.specs.Order.{teletextId, knownId}
-use Rattle.pes.specs.Reading.{lineVerdict}
+use Rattle.pes.specs.Reading.{fieldVerdict, lineVerdict}
 use Rattle.pes.specs.Writing.{valueVerdict, Writes}
 use Rattle.pes.specs.Lent.{ReadsInto}
 
@@ -24,6 +24,9 @@ read-into-determined s lent a exit b end p q = (p .answer ∙ sym (q .answer), p
 pub write-determined : (t : Told) (out : List ℕ) (a : Written) (exit : List ℕ) (b : Written) (end : List ℕ)
     → Writes t out a exit → Writes t out b end → (a ≡ b) × (exit ≡ end)
 write-determined t out a exit b end p q = wrote-determined (valueVerdict t (length out)) (layout (held t)) out a exit (p .wrote) b end (q .wrote)
+
+pub judge-determined : (s : List ℕ) (a b : Verdict) → a ≡ fieldVerdict s → b ≡ fieldVerdict s → a ≡ b
+judge-determined s a b p q = p ∙ sym q
 
 pub is-teletext-determined : (id : ℕ) (a b : Bool) → a ≡ teletextId id → b ≡ teletextId id → a ≡ b
 is-teletext-determined id a b p q = p ∙ sym q

@@ -194,6 +194,10 @@ pub write-determined : (t : Told) (out : List ℕ) (a : Written) (exit : List �
     → Writes t out a exit → Writes t out b end → (a ≡ b) × (exit ≡ end)
 write-determined = determined.write-determined
 
+-- of pes_judge,
+pub judge-determined : (s : List ℕ) (a b : Verdict) → a ≡ fieldVerdict s → b ≡ fieldVerdict s → a ≡ b
+judge-determined = determined.judge-determined
+
 -- and of pes.
 pub is-teletext-determined : (id : ℕ) (a b : Bool) → a ≡ teletextId id → b ≡ teletextId id → a ≡ b
 is-teletext-determined = determined.is-teletext-determined

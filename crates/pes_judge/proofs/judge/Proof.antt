@@ -1,4 +1,4 @@
--- `pes_reader::judge` meets its contract. The loop's invariant: i units are accepted, and what is behind them decides.
+-- `pes_judge::judge` meets its contract. The loop's invariant: i units are accepted, and what is behind them decides.
 -- Assumes nothing.
 use Prim.Native.Nat.{ℕ, _+_, _-_, _*_, _≤_}
 use native.Mathlib.Omega.{arith}
@@ -12,8 +12,8 @@ use Rattle.refusal.specs.Checks.{andThen}
 use Rattle.refusal.proofs.Checks.{refused-first, accepted-first}
 use Rattle.pes.specs.Reading.{unitVerdict, fieldVerdict}
 use Rattle.pes.proofs.Judged.{field-empty, field-other, field-units, behind, behind-end, behind-surplus, behind-next}
-use Rattle.pes_reader.proofs.judge.Statement.{statement}
-use Rattle.pes_reader.proofs.judge.Tie as tie
+use Rattle.pes_judge.proofs.judge.Statement.{statement}
+use Rattle.pes_judge.proofs.judge.Tie as tie
 
 abbrev Inv-loop : tie.InvT-loop
 Inv-loop s i₀ i = (i ≤ 31) × (fieldVerdict s ≡ behind s i)

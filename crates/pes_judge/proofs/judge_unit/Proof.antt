@@ -1,4 +1,4 @@
--- `pes_reader::judge_unit` meets its contract: at each return the tests that led there pick that check of `unitVerdict`.
+-- `pes_judge::judge_unit` meets its contract: at each return the tests that led there pick that check of `unitVerdict`.
 -- Assumes nothing.
 use Prim.Native.Nat.{ℕ}
 use mathlib.Core.Path.{_≡_, _∙_, sym}
@@ -10,8 +10,8 @@ use denote.Ref.{now}
 use lib.ListN.{getD}
 use Rattle.pes.specs.Order.{knownId}
 use Rattle.pes.proofs.Judged.{unit-unknown, unit-cut, unit-length, unit-teletext, stuffing-cut, stuffing-whole}
-use Rattle.pes_reader.proofs.judge_unit.Statement.{statement}
-use Rattle.pes_reader.proofs.judge_unit.Tie as tie
+use Rattle.pes_judge.proofs.judge_unit.Statement.{statement}
+use Rattle.pes_judge.proofs.judge_unit.Tie as tie
 
 unknown : tie.Need-returns
 unknown c =

@@ -1,4 +1,4 @@
--- `pes_reader::judge_teletext` meets its contract: at each return the tests that led there pick that check of `teletextVerdict`.
+-- `pes_judge::judge_teletext` meets its contract: at each return the tests that led there pick that check of `teletextVerdict`.
 -- Assumes nothing.
 use Prim.Native.Nat.{ℕ, _+_, _%_}
 use mathlib.Core.Path.{_≡_, _∙_, sym}
@@ -11,8 +11,8 @@ use Rattle.refusal.specs.Checks.{andThen}
 use Rattle.refusal.proofs.Checks.{refused-first, accepted-first}
 use Rattle.pes.specs.Reading.{lineVerdict, teletextVerdict}
 use Rattle.pes.proofs.Judged.{teletext-cut, teletext-reserved, teletext-line, framed, framed-cut, framed-other, framed-row, framed-whole}
-use Rattle.pes_reader.proofs.judge_teletext.Statement.{statement}
-use Rattle.pes_reader.proofs.judge_teletext.Tie as tie
+use Rattle.pes_judge.proofs.judge_teletext.Statement.{statement}
+use Rattle.pes_judge.proofs.judge_teletext.Tie as tie
 
 cut : tie.Need-returns
 cut c = let args = c .before .before .args in sym (teletext-cut (args .at) (now (args .u)) (c .if1 .taken))
