@@ -88,14 +88,19 @@ laid-more front piece out xs part a e long laid =
     ap (λ (ys : List _). putMid a (length ys - a) ys part) e
     ∙ over-more front piece out part a long (laid ∙ ap (λ (ys : List _). over piece (take (length ys - a) (drop a ys))) e)
 
--- the same of a piece that is stored as far as there is room, and has it
-pub laid-fitting : {A : Type 0} (front piece out xs part : List A) (a : ℕ) → xs ≡ over front out → length front ≡ a → a + length piece ≤ length xs
-    → part ≡ over (take (length (take (length xs - a) (drop a xs))) piece) (take (length xs - a) (drop a xs))
-    → putMid a (length xs - a) xs part ≡ over (front ++ piece) out
-laid-fitting front piece out xs part a e long fits laid =
-    let rest = take (length xs - a) (drop a xs) in
-    let room : length piece ≤ length rest = omega (arith, ap length (rest-whole xs a) ∙ length-drop a xs) in
-    laid-more front piece out xs part a e long (laid ∙ ap (λ (p : List _). over p rest) (take-all (length rest) piece room))
+-- a piece stored in a part of just its length, as far as there is room, is laid behind the front too
+pub laid-fitting : {A : Type 0} (front piece out xs part : List A) (a n : ℕ) → xs ≡ over front out → length front ≡ a → length piece ≡ n → a + n ≤ length xs
+    → part ≡ over (take (length (take n (drop a xs))) piece) (take n (drop a xs)) → putMid a n xs part ≡ over (front ++ piece) out
+laid-fitting front piece out xs part a n e before long fits laid =
+    let lent = take n (drop a xs) in
+    let size : length lent ≡ length piece = length-take-le n (drop a xs) (omega (arith, length-drop a xs)) ∙ sym long in
+    let all : take (length lent) piece ≡ piece = take-all (length lent) piece (omega arith) in
+    let none : drop (length piece) lent ≡ [] = ap (λ (k : ℕ). drop k lent) (sym size) ∙ drop-length lent in
+    let same : part ≡ piece = laid ∙ ap (λ (p : List _). over p lent) all ∙ ap (λ (r : List _). piece ++ r) none ∙ append-nil piece in
+    ap₂ (λ (p : List _) (k : ℕ). take a xs ++ (p ++ drop k (drop a xs))) same (sym long)
+    ∙ ap (overAt a piece) e
+    ∙ ap₂ (λ (f r : List _). f ++ over piece r) (take-over front out a before) (drop-over front out a before)
+    ∙ over-over front piece out
 
 -- the part from a on has what is left
 pub length-rest : {A : Type 0} (xs : List A) (a : ℕ) → length (take (length xs - a) (drop a xs)) ≡ length xs - a

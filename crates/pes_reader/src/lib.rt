@@ -72,10 +72,10 @@ fn put_unit(u: &[u8], table: &[u8; 256], out: &mut [u8])
 {
     out[0] = u[0];
     if u[0] == STUFFING_ID {
-        lists::copy(&u[2..46], &mut out[1..]);
+        lists::copy(&u[2..46], &mut out[1..45]);
         return;
     }
     out[1] = u[2] / 32 % 2;
     out[2] = u[2] % 32;
-    bits::look_up(&u[4..46], table, &mut out[3..]);
+    bits::look_up(&u[4..46], table, &mut out[3..45]);
 }

@@ -117,10 +117,10 @@ fn put_unit(u: &[u8], table: &[u8; 256], out: &mut [u8])
     out[0] = u[0];
     out[1] = DATA_UNIT_LENGTH;
     if u[0] == STUFFING_ID {
-        lists::copy(&u[1..45], &mut out[2..]);
+        lists::copy(&u[1..45], &mut out[2..46]);
         return;
     }
     out[2] = 192 + 32 * u[1] + u[2];
     out[3] = FRAMING_CODE;
-    bits::look_up(&u[3..45], table, &mut out[4..]);
+    bits::look_up(&u[3..45], table, &mut out[4..46]);
 }

@@ -74,8 +74,8 @@ stuffing c =
     let call = c .before .before in
     let past = call .before .before .before in
     let at = past .before in
-    let fits : 1 + length (part 2 46 (u at)) ≤ length (one at) = omega (arith, stuffed at, length-set (out at) 0 (getD (u at) 0 0)) in
-    laid-fitting (getD (u at) 0 0 ∷ []) (part 2 46 (u at)) (out at) (one at) (call .copy .last .1 .0) 1 (one-laid at) refl fits (call .copy .ensures)
+    let fits : 1 + 44 ≤ length (one at) = omega (arith, length-set (out at) 0 (getD (u at) 0 0)) in
+    laid-fitting (getD (u at) 0 0 ∷ []) (part 2 46 (u at)) (out at) (one at) (call .copy .last .1 .0) 1 44 (one-laid at) refl (stuffed at) fits (call .copy .ensures)
     ∙ ap (λ (xs : List ℕ). over xs (out at)) (sym (read-stuffing (u at) (past .if1 .taken)))
 
 teletext : tie.Need-returns-2
@@ -86,8 +86,8 @@ teletext c =
     let row = part 4 46 (u at) in
     let all = map (found (now (start at .args .table))) row in
     let long : length all ≡ 42 = length-map row (found (now (start at .args .table))) ∙ row-long at in
-    let fits : 3 + length all ≤ length (three at) = omega (arith, long, ap length (three-laid at), length-over (head at) (out at) (omega arith)) in
-    laid-fitting (head at) all (out at) (three at) (call .look-up .last .1 .1 .0) 3 (three-laid at) refl fits (call .look-up .ensures)
+    let fits : 3 + 42 ≤ length (three at) = omega (arith, ap length (three-laid at), length-over (head at) (out at) (omega arith)) in
+    laid-fitting (head at) all (out at) (three at) (call .look-up .last .1 .1 .0) 3 42 (three-laid at) refl long fits (call .look-up .ensures)
     ∙ ap (λ (xs : List ℕ). over (head at ++ xs) (out at)) (turned at)
     ∙ ap (λ (xs : List ℕ). over xs (out at)) (sym (read-teletext (u at) (past .if1 .left)))
 
@@ -101,9 +101,9 @@ put-unit-spec =
     (λ c. search needs)
     (λ c. search needs)
     (λ c. search needs)
-    (λ c. simp length-set (omega arith))
-    (λ c. simp length-set (omega arith))
     (λ c. search needs)
+    (λ c. search needs)
+    (λ c. simp length-set (omega arith))
     (λ c κs. search needs)
     (λ c. ap length (stuffing c) ∙ kept (c .before .before .before .before .before .before))
     stuffing
@@ -114,9 +114,9 @@ put-unit-spec =
     (λ c. search needs)
     (λ c. search needs)
     (λ c. search needs)
-    (λ c. simp length-set (omega arith))
-    (λ c. simp length-set (omega arith))
     (λ c. search needs)
+    (λ c. search needs)
+    (λ c. simp length-set (omega arith))
     (λ c κs. search needs)
     (λ c. ap length (teletext c) ∙ kept (c .before .before .before .before .before .before .before .before))
     teletext)

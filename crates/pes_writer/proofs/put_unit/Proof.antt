@@ -86,8 +86,8 @@ stuffing c =
     let call = c .before .before in
     let past = call .before .before .before in
     let at = past .before in
-    let fits : 2 + length (part 1 45 (u at)) ≤ length (two at) = omega (arith, stuffed at, ap length (two-laid at), length-over (id at) (out at) (omega arith)) in
-    laid-fitting (id at) (part 1 45 (u at)) (out at) (two at) (call .copy .last .1 .0) 2 (two-laid at) refl fits (call .copy .ensures)
+    let fits : 2 + 44 ≤ length (two at) = omega (arith, ap length (two-laid at), length-over (id at) (out at) (omega arith)) in
+    laid-fitting (id at) (part 1 45 (u at)) (out at) (two at) (call .copy .last .1 .0) 2 44 (two-laid at) refl (stuffed at) fits (call .copy .ensures)
     ∙ ap (λ (xs : List ℕ). over xs (out at)) (sym (told-stuffing (u at) (past .if1 .taken)))
 
 teletext : tie.Need-returns-2
@@ -98,8 +98,8 @@ teletext c =
     let row = part 3 45 (u at) in
     let all = map (found (now (start at .args .table))) row in
     let long : length all ≡ 42 = length-map row (found (now (start at .args .table))) ∙ row-long at in
-    let fits : 4 + length all ≤ length (four at) = omega (arith, long, ap length (four-laid at), length-over (head at) (out at) (omega arith)) in
-    laid-fitting (head at) all (out at) (four at) (call .look-up .last .1 .1 .0) 4 (four-laid at) refl fits (call .look-up .ensures)
+    let fits : 4 + 42 ≤ length (four at) = omega (arith, ap length (four-laid at), length-over (head at) (out at) (omega arith)) in
+    laid-fitting (head at) all (out at) (four at) (call .look-up .last .1 .1 .0) 4 42 (four-laid at) refl long fits (call .look-up .ensures)
     ∙ ap (λ (xs : List ℕ). over (head at ++ xs) (out at)) (turned at)
     ∙ ap (λ (xs : List ℕ). over xs (out at)) (sym (told-teletext (u at) (past .if1 .left)))
 
@@ -114,9 +114,9 @@ put-unit-spec =
     (λ c. search needs)
     (λ c. search needs)
     (λ c. search needs)
-    (λ c. simp length-set (omega arith))
-    (λ c. simp length-set (omega arith))
     (λ c. search needs)
+    (λ c. search needs)
+    (λ c. simp length-set (omega arith))
     (λ c κs. search needs)
     (λ c. ap length (stuffing c) ∙ kept (c .before .before .before .before .before .before))
     stuffing
@@ -130,9 +130,9 @@ put-unit-spec =
     (λ c. search needs)
     (λ c. search needs)
     (λ c. search needs)
-    (λ c. simp length-set (omega arith))
-    (λ c. simp length-set (omega arith))
     (λ c. search needs)
+    (λ c. search needs)
+    (λ c. simp length-set (omega arith))
     (λ c κs. search needs)
     (λ c. ap length (teletext c) ∙ kept (c .before .before .before .before .before .before .before .before))
     teletext)
