@@ -15,6 +15,10 @@ pub judge-words-determined : (words : List ℕ) (from to : ℕ) (a b : Verdict)
     → a ≡ wordsVerdict from (part from to words) → b ≡ wordsVerdict from (part from to words) → a ≡ b
 judge-words-determined words from to a b ea eb = ea ∙ sym eb
 
+pub judge-part-determined : (words : List ℕ) (place : ℕ) (a b : Verdict)
+    → a ≡ wordsVerdict place words → b ≡ wordsVerdict place words → a ≡ b
+judge-part-determined words place a b ea eb = ea ∙ sym eb
+
 pub judge-sum-determined : (w place : ℕ) (a b : Verdict) → a ≡ sumVerdict place w → b ≡ sumVerdict place w → a ≡ b
 judge-sum-determined w place a b ea eb = ea ∙ sym eb
 

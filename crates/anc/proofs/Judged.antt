@@ -1,17 +1,19 @@
--- The words of a slice from an index on, which a loop judges one after the other.
+-- The words of a slice from an index on, which a loop judges one after the other, and of a part of something longer.
 -- Assumes nothing.
-use Prim.Native.Nat.{ℕ, _+_, _-_, _≤_, _<_}
+use Prim.Native.Nat.{ℕ, suc, _+_, _-_, _≤_, _<_}
+use native.Mathlib.Omega.{arith}
 use native.Mathlib.Numerals.{add-one}
-use mathlib.Core.Path.{_≡_, _∙_, ap, sym}
-use mathlib.Core.List.{List}
-use lib.ListN.{length, take, getD, drop-of-length-le}
-use lib.Seq.{take-nil}
+use mathlib.Core.Path.{_≡_, _∙_, ap, ap₂, sym}
+use mathlib.Core.List.{List, map}
+use lib.ListN.{length, take, drop, getD, drop-of-length-le}
+use lib.Seq.{take-nil, drop-cons}
 use Rattle.lists.specs.Part.{part}
 use Rattle.lists.proofs.Part.{part-cons, part-none}
 use Rattle.refusal.specs.declared.Verdict.{Verdict}
 use Rattle.refusal.specs.declared.Verdict.the-variants.{Accepted}
 use Rattle.refusal.specs.Checks.{andThen}
-use Rattle.anc.specs.Words.{wordVerdict, wordsVerdict}
+use Rattle.anc.specs.Words.{byteOf, wordVerdict, wordsVerdict}
+use Rattle.anc.proofs.Words.{bytes-bytes, words-accepted, accepted-words}
 
 -- the words from index i up to index to
 abbrev pub judged : List ℕ → ℕ → ℕ → Verdict
@@ -30,3 +32,24 @@ module _ (ws : List ℕ) (to i : ℕ) where
 
   pub judged-none : to ≤ i → judged ws to i ≡ Accepted
   judged-none done = ap (wordsVerdict i) (part-none ws i to done)
+
+-- WORDS OF WHICH THE FIRST STANDS AT A PLACE
+
+-- the words from index i on
+abbrev pub judgedAt : List ℕ → ℕ → ℕ → Verdict
+judgedAt ws place i = wordsVerdict (place + i) (drop i ws)
+
+module _ (ws : List ℕ) (place i : ℕ) where
+  pub judgedAt-next : i < length ws → judgedAt ws place i ≡ andThen (wordVerdict (place + i) (getD ws i 0)) (judgedAt ws place (i + 1))
+  judgedAt-next inside =
+      let next : suc (place + i) ≡ place + (i + 1) = omega arith in
+      ap (wordsVerdict (place + i)) (drop-cons ws i 0 inside)
+      ∙ ap₂ (λ (k j : ℕ). andThen (wordVerdict (place + i) (getD ws i 0)) (wordsVerdict k (drop j ws))) next (sym (add-one i))
+
+  pub judgedAt-past : length ws ≤ i → judgedAt ws place i ≡ Accepted
+  judgedAt-past past = ap (wordsVerdict (place + i)) (drop-of-length-le ws past)
+
+-- words that are accepted at one place are at each other
+pub accepted-anywhere : (from place : ℕ) (ws : List ℕ) → wordsVerdict from ws ≡ Accepted → wordsVerdict place ws ≡ Accepted
+accepted-anywhere from place ws e =
+    ap (wordsVerdict place) (sym (accepted-words from ws e)) ∙ words-accepted place (map byteOf ws) (bytes-bytes ws)

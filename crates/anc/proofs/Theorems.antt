@@ -32,6 +32,10 @@ pub judge-words-determined : (words : List ℕ) (from to : ℕ) (a b : Verdict)
     → a ≡ wordsVerdict from (part from to words) → b ≡ wordsVerdict from (part from to words) → a ≡ b
 judge-words-determined = determined.judge-words-determined
 
+pub judge-part-determined : (words : List ℕ) (place : ℕ) (a b : Verdict)
+    → a ≡ wordsVerdict place words → b ≡ wordsVerdict place words → a ≡ b
+judge-part-determined = determined.judge-part-determined
+
 pub judge-sum-determined : (w place : ℕ) (a b : Verdict) → a ≡ sumVerdict place w → b ≡ sumVerdict place w → a ≡ b
 judge-sum-determined = determined.judge-sum-determined
 

@@ -5,7 +5,7 @@ ghost use mathlib.Core.Path.{_≡_};
 ghost use Prim.Native.Nat.{_%_, _<_};
 ghost use Rattle.lists.specs.Part.{part};
 ghost use Rattle.lists.specs.Sum.{sum as Sum·sum};
-ghost use Rattle.anc.specs.Words.{parityOf, wordOf, wordsVerdict, sumVerdict, checksumOf};
+ghost use Rattle.anc.specs.Words.{parityOf, wordOf, wordVerdict, wordsVerdict, sumVerdict, checksumOf};
 ghost use Rattle.anc.specs.Inside.{Vouches};
 use refusal::Item;
 use refusal::Reason;
@@ -60,6 +60,24 @@ fn parity(byte: u16) -> u16
     one % 2
 }
 
+// 11 of words that stand one behind the other in something longer, the first of them at place.
+pub fn judge_part(words: &[u16], place: u16) -> Verdict
+    ensures { λ r. ⌜ r ≡ wordsVerdict place (now (words .entry)) ⌝ }
+{
+    if are_words(words, 0, words.len()) {
+        return Verdict::Accepted;
+    }
+    let mut i = 0;
+    while i < words.len() {
+        let verdict = judge_word(words[i], place as usize + i);
+        if let Verdict::Refused(_, _) = verdict {
+            return verdict;
+        }
+        i += 1;
+    }
+    Verdict::Accepted
+}
+
 // The search for the first that is no byte's word.
 fn first_wrong(words: &[u16], from: usize, to: usize) -> Verdict
     ensures { λ r. ⌜ r ≡ wordsVerdict from (part from to (now (words .entry))) ⌝ }
@@ -69,14 +87,24 @@ fn first_wrong(words: &[u16], from: usize, to: usize) -> Verdict
         if words.len() <= i {
             return Verdict::Accepted;
         }
-        let w = words[i];
-        if 1023 < w {
-            return Verdict::Refused(Reason::WordRange, Item::Word(i));
-        }
-        if w != word((w % 256) as u8) {
-            return Verdict::Refused(Reason::WordParity, Item::Word(i));
+        let verdict = judge_word(words[i], i);
+        if let Verdict::Refused(_, _) = verdict {
+            return verdict;
         }
         i += 1;
+    }
+    Verdict::Accepted
+}
+
+// 11 of one word.
+fn judge_word(w: u16, place: usize) -> Verdict
+    ensures { λ r. ⌜ r ≡ wordVerdict place w ⌝ }
+{
+    if 1023 < w {
+        return Verdict::Refused(Reason::WordRange, Item::Word(place));
+    }
+    if w != word((w % 256) as u8) {
+        return Verdict::Refused(Reason::WordParity, Item::Word(place));
     }
     Verdict::Accepted
 }

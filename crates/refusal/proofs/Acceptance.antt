@@ -4,9 +4,9 @@ use Prim.Native.Nat.{ℕ, _<_}
 use native.Mathlib.Omega.{arith}
 use mathlib.Core.Path.{_≡_, _∙_, ap, sym, refl}
 use Rattle.refusal.specs.declared.Reason.{Reason}
-use Rattle.refusal.specs.declared.Reason.the-variants.{TooLong, NoStart, StartCode, SecondUnit, Ends, Unfixed, FieldNumberZero, DescriptorLine, FieldFalls, LineDoesNotRise, FifthPriority, SampledVideo, WordRange, WordParity, SdpChecksum, Checksum, Unfit, NoRoom, Unholdable, AdditionalData, NotShown, OtherLine, UnknownUnit, SurplusUnit, UnitLine}
+use Rattle.refusal.specs.declared.Reason.the-variants.{TooLong, NoStart, StartCode, SecondUnit, Ends, Unfixed, FieldNumberZero, DescriptorLine, FieldFalls, LineDoesNotRise, FifthPriority, SampledVideo, WordRange, WordParity, SdpChecksum, Checksum, Unfit, NoRoom, Unholdable, AdditionalData, NotShown, OtherLine, UnknownUnit, SurplusUnit, UnitLine, NoInner, InnerOverrun, InnerChecksum}
 use Rattle.refusal.specs.declared.Fixed.{Fixed}
-use Rattle.refusal.specs.declared.Fixed.the-variants.{Marker, Alignment, Stuffing, Identifier, FormatCode, RunIn, FramingCode, Footer, UnitReserved, UnitFraming}
+use Rattle.refusal.specs.declared.Fixed.the-variants.{Marker, Alignment, Stuffing, Identifier, FormatCode, RunIn, FramingCode, Footer, UnitReserved, UnitFraming, LineField}
 use Rattle.refusal.specs.declared.Verdict.{Verdict}
 use Rattle.refusal.specs.declared.Verdict.the-variants.{Accepted, Refused}
 use Rattle.refusal.specs.declared.Refusal.{Refusal}
@@ -24,6 +24,7 @@ fixed-not-zero RunIn = omega arith
 fixed-not-zero FramingCode = omega arith
 fixed-not-zero UnitReserved = omega arith
 fixed-not-zero UnitFraming = omega arith
+fixed-not-zero LineField = omega arith
 
 number-not-zero : (reason : Reason) → 0 < numberOf reason
 number-not-zero TooLong = omega arith
@@ -51,6 +52,9 @@ number-not-zero OtherLine = omega arith
 number-not-zero UnknownUnit = omega arith
 number-not-zero SurplusUnit = omega arith
 number-not-zero UnitLine = omega arith
+number-not-zero NoInner = omega arith
+number-not-zero InnerOverrun = omega arith
+number-not-zero InnerChecksum = omega arith
 
 pub told-accepted : (verdict : Verdict) → refusalOf verdict .number ≡ 0 → verdict ≡ Accepted
 told-accepted Accepted e = refl

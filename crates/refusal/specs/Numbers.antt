@@ -3,9 +3,9 @@
 -- number are a reminder; RULES says when it is given.
 use Prim.Native.Nat.{ℕ}
 use Rattle.refusal.specs.declared.Reason.{Reason}
-use Rattle.refusal.specs.declared.Reason.the-variants.{TooLong, NoStart, StartCode, SecondUnit, Ends, Unfixed, FieldNumberZero, DescriptorLine, FieldFalls, LineDoesNotRise, FifthPriority, SampledVideo, WordRange, WordParity, SdpChecksum, Checksum, Unfit, NoRoom, Unholdable, AdditionalData, NotShown, OtherLine, UnknownUnit, SurplusUnit, UnitLine}
+use Rattle.refusal.specs.declared.Reason.the-variants.{TooLong, NoStart, StartCode, SecondUnit, Ends, Unfixed, FieldNumberZero, DescriptorLine, FieldFalls, LineDoesNotRise, FifthPriority, SampledVideo, WordRange, WordParity, SdpChecksum, Checksum, Unfit, NoRoom, Unholdable, AdditionalData, NotShown, OtherLine, UnknownUnit, SurplusUnit, UnitLine, NoInner, InnerOverrun, InnerChecksum}
 use Rattle.refusal.specs.declared.Fixed.{Fixed}
-use Rattle.refusal.specs.declared.Fixed.the-variants.{Marker, Alignment, Stuffing, Identifier, FormatCode, RunIn, FramingCode, Footer, UnitReserved, UnitFraming}
+use Rattle.refusal.specs.declared.Fixed.the-variants.{Marker, Alignment, Stuffing, Identifier, FormatCode, RunIn, FramingCode, Footer, UnitReserved, UnitFraming, LineField}
 use Rattle.refusal.specs.declared.Item.{Item}
 use Rattle.refusal.specs.declared.Item.the-variants.{Whole, Bit, Body, Word, Byte, Length}
 use Rattle.refusal.specs.declared.Verdict.{Verdict}
@@ -19,6 +19,7 @@ fixedNumber FormatCode = 6
 fixedNumber Footer = 6
 fixedNumber UnitReserved = 6
 fixedNumber UnitFraming = 6
+fixedNumber LineField = 6
 fixedNumber Marker = 18
 fixedNumber Alignment = 19
 fixedNumber Stuffing = 19
@@ -57,6 +58,7 @@ numberOf WordParity = 11
 -- a wrong sum
 numberOf SdpChecksum = 12
 numberOf Checksum = 12
+numberOf InnerChecksum = 12
 -- lengths that contradict each other
 numberOf (Unfit which) = 13
 -- the buffer is too short
@@ -73,6 +75,9 @@ numberOf OtherLine = 22
 numberOf UnknownUnit = 23
 -- a 32nd unit
 numberOf SurplusUnit = 24
+-- no inner packet, or one that is not all there
+numberOf NoInner = 26
+numberOf InnerOverrun = 26
 
 -- in an area, for what failed in a unit's body, the bit of the area; in a packet the word; in a data field the byte; the
 -- length where that is at fault. A value that is written has no place, and neither has a body that stands in no area

@@ -20,6 +20,8 @@ pub enum Fixed {
     // The two reserved bits of a data unit, and its framing code.
     UnitReserved,
     UnitFraming,
+    // b6 and b7 of an inner packet's LINE/FIELD word.
+    LineField,
 }
 
 // Which length or count does not fit.
@@ -34,6 +36,8 @@ pub enum Misfit {
     PayloadLength,
     // A data unit's length is not that of teletext.
     UnitLength,
+    // More user words than a multipacket's DC can count.
+    UserWords,
 }
 
 // Which number its layout cannot hold.
@@ -74,6 +78,13 @@ pub enum Excess {
     DataIdentifier,
     DataUnitId,
     FieldParity,
+    // A multipacket's priority.
+    PriorityWord,
+    InnerLine,
+    InnerField,
+    InnerIdentifier,
+    // User words that are not among those that are lent.
+    InnerPart,
 }
 
 // Why a check refused: finer than the numbers of RULES, since two reasons may share one.
@@ -109,6 +120,12 @@ pub enum Reason {
     SurplusUnit,
     // A line_offset that no data unit may have.
     UnitLine,
+    // A multipacket without an inner packet.
+    NoInner,
+    // An inner packet that goes beyond the user words.
+    InnerOverrun,
+    // An inner packet's NCS.
+    InnerChecksum,
 }
 
 // What failed: the item's place, in its carriage's own measure.
@@ -120,7 +137,7 @@ pub enum Item {
     // In an area: the unit whose body was being read, by its first byte, and the bit of the area
     // at which the failing item begins.
     Body { unit: usize, bit: usize },
-    // In a packet: the word.
+    // In a packet or a multipacket: the word.
     Word(usize),
     // In a data field: the byte at which the failing item begins.
     Byte(usize),
@@ -183,6 +200,9 @@ pub fn number(reason: Reason) -> u8
         Reason::UnknownUnit => 23,
         Reason::SurplusUnit => 24,
         Reason::UnitLine => 7,
+        Reason::NoInner => 26,
+        Reason::InnerOverrun => 26,
+        Reason::InnerChecksum => 12,
     }
 }
 
@@ -201,6 +221,7 @@ fn fixed_number(which: Fixed) -> u8
         Fixed::FramingCode => 20,
         Fixed::UnitReserved => 6,
         Fixed::UnitFraming => 6,
+        Fixed::LineField => 6,
     }
 }
 

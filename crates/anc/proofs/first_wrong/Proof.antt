@@ -3,10 +3,10 @@
 use Prim.Native.Nat.{_+_, _-_}
 use mathlib.Core.Path.{_≡_, _∙_, sym, refl}
 use borrow.Author.Needs.{needs}
-use borrow.Author.Tests.{eq-eqb, ne-eqb, lt-ltb, le-ltb}
 use denote.Ref.{now}
 use lib.ListN.{getD}
 use Rattle.refusal.specs.Checks.{andThen}
+use Rattle.refusal.proofs.Checks.{refused-first, accepted-first}
 use Rattle.anc.specs.Words.{wordVerdict}
 use Rattle.anc.proofs.Judged.{judged, judged-next, judged-past, judged-none}
 use Rattle.anc.proofs.first_wrong.Statement.{statement}
@@ -35,22 +35,13 @@ past-end c =
     let args = c .before .before .before .before .args in
     sym (c .before .before .loop .inv ∙ judged-past (now (args .words)) (args .to) (c .before .before .loop .i) (c .if1 .taken))
 
-out-of-range : tie.Need-returns-2 Inv-loop μ-loop
-unfolding wordVerdict
-out-of-range c = sym (turn (c .before .before) ∙ simp (lt-ltb _ _ (c .if2 .taken)))
-
-wrong-parity : tie.Need-returns-3 Inv-loop μ-loop
-unfolding wordVerdict
-wrong-parity c =
-    sym
-    (turn (c .before .before .before .before)
-    ∙ simp (le-ltb _ _ (c .before .before .if2 .left), ne-eqb _ _ (λ e. c .if3 .taken (e ∙ sym (c .before .word .ensures)))))
+wrong : tie.Need-returns-2 Inv-loop μ-loop
+wrong c = refused-first _ (c .before .before .judge-word .ensures) (c .enum-told .given .1) ∙ sym (turn (c .before .before .before .before))
 
 loop-again : tie.Need-loop-again Inv-loop μ-loop
-unfolding wordVerdict
-loop-again c = turn (c .before .before .before .before) ∙ simp (le-ltb _ _ (c .before .before .if2 .left), eq-eqb _ _ (c .if3 .left ∙ c .before .word .ensures))
+loop-again c = turn (c .before .before .before .before) ∙ accepted-first _ (c .before .before .judge-word .ensures) (c .enum-told2 .given .1)
 
-all-judged : tie.Need-returns-4 Inv-loop μ-loop
+all-judged : tie.Need-returns-3 Inv-loop μ-loop
 all-judged c =
     let args = c .before .before .before .args in
     sym (c .before .loop .inv ∙ judged-none (now (args .words)) (args .to) (c .before .loop .i) (c .loop-test .left))
@@ -65,10 +56,10 @@ first-wrong-spec =
     past-end
     (λ c. search needs)
     (λ c. search needs)
-    out-of-range
-    (λ c. search needs)
     (λ c κs. search needs)
-    wrong-parity
+    (λ c. search needs)
+    wrong
+    (λ c. search needs)
     (λ c. search needs)
     (λ c. search needs)
     loop-again

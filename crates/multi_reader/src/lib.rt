@@ -1,0 +1,85 @@
+// Reading a multipacket: a head for each inner packet in lent memory, and the words of an inner packet where they stand. No word is copied.
+//
+// Normative references: docs/RULES.md, "Multipacket"; document 002 (RDD 8), clause 6.
+ghost use mathlib.Core.Path.{_≡_};
+ghost use Prim.Native.Nat.{_+_, _≤_, _<_};
+ghost use mathlib.Core.List.{[]};
+ghost use lib.ListN.{length, getD};
+ghost use Rattle.lists.specs.Room.{over};
+ghost use Rattle.refusal.specs.declared.Verdict.the-variants.{Accepted};
+ghost use Rattle.multi.specs.Reading.{innersVerdict, readInners, cut};
+ghost use Rattle.multi.specs.Lent.{headsOf, ReadsInto, Hands};
+use multi::Answer;
+use multi::HEAD;
+use multi::INNER_WORDS;
+use multi::INNERS;
+use multi::MAX_INNERS;
+use refusal::Verdict;
+
+// Reads a multipacket, the heads of its inner packets into a lent array, which a refusal leaves as it is.
+pub fn read_into(words: &[u16], heads: &mut [[u16; HEAD]; MAX_INNERS]) -> Answer
+    ensures { λ r. ⌜ ReadsInto (now (words .entry)) (now (heads .entry)) r (now (heads .exit)) ⌝ }
+{
+    let verdict = multi_judge::judge(words);
+    let refusal = refusal::told(verdict);
+    if let Verdict::Refused(_, _) = verdict {
+        return Answer {
+            refusal,
+            priority: 0,
+            n: 0,
+        };
+    }
+    *heads = [[0; HEAD]; MAX_INNERS];
+    let n = put_heads(&words[INNERS..words.len() - 1], INNERS as u16, heads);
+    Answer {
+        refusal,
+        priority: (words[6] % 256) as u8,
+        n,
+    }
+}
+
+// Stores the heads of the inner packets, of which the first stands in word `at`, one behind the other, and answers how many there are.
+fn put_heads(rest: &[u16], at: u16, heads: &mut [[u16; HEAD]]) -> usize
+    requires { ⌜ at + length (now rest) < 65536 ⌝ }
+    requires { ⌜ innersVerdict at (now rest) ≡ Accepted ⌝ }
+    requires { ⌜ length (readInners (length (now rest)) (now rest)) ≤ length (now heads) ⌝ }
+    ensures { λ r. ⌜ r ≡ length (readInners (length (now (rest .entry))) (now (rest .entry))) ⌝ }
+    ensures { λ _. ⌜ now (heads .exit) ≡ over (headsOf at (readInners (length (now (rest .entry))) (now (rest .entry)))) (now (heads .entry)) ⌝ }
+{
+    let n = rest.len();
+    if n == 0 {
+        return 0;
+    }
+    let count = rest[3] % 256;
+    heads[0] = [rest[0] % 32, rest[0] / 32 % 2, rest[1] % 256, rest[2] % 256, at + 4, count];
+    let size = INNER_WORDS as u16 + count;
+    1 + put_heads(&rest[size as usize..n], at + size, &mut heads[1..])
+}
+
+// Hands out inner packet i, from LINE/FIELD to NCS: no words where there is no such, and where the multipacket is refused.
+pub fn inner<'a>(words: &'a [u16], i: usize) -> &'a [u16]
+    ensures { λ r. ⌜ Hands (now (words .entry)) i (now r) ⌝ }
+{
+    if let Verdict::Refused(_, _) = multi_judge::judge(words) {
+        return &words[0..0];
+    }
+    hand(&words[INNERS..words.len() - 1], i)
+}
+
+// The part of the words that inner packet i is.
+fn hand<'a>(rest: &'a [u16], i: usize) -> &'a [u16]
+    ensures { λ r. ⌜ now r ≡ getD (cut (length (now (rest .entry))) (now (rest .entry))) i [] ⌝ }
+{
+    let n = rest.len();
+    if n < 4 {
+        return &rest[0..0];
+    }
+    let size = INNER_WORDS + (rest[3] % 256) as usize;
+    if n < size {
+        return &rest[0..0];
+    }
+    if i == 0 {
+        return &rest[0..size];
+    }
+    hand(&rest[size..n], i - 1)
+}

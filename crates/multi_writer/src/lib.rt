@@ -1,0 +1,167 @@
+// Writing a multipacket, from heads and user words that are lent.
+//
+// Normative references: docs/RULES.md, "Multipacket" and "Order of checks"; document 002 (RDD 8), clause 6; SMPTE 291M.
+ghost use mathlib.Core.Path.{_≡_};
+ghost use mathlib.Core.Logic.{_⊎_};
+ghost use Prim.Native.Nat.{_+_, _≤_, _<_};
+ghost use mathlib.Core.List.{map};
+ghost use lib.ListN.{length, getD, take};
+ghost use Rattle.lists.specs.Room.{over};
+ghost use Rattle.refusal.specs.declared.Verdict.the-variants.{Accepted};
+ghost use Rattle.multi.specs.Value.{userCount};
+ghost use Rattle.multi.specs.Layout.{layout, layoutInner};
+ghost use Rattle.multi.specs.Lent.{Told, held, innerOf};
+ghost use Rattle.multi.specs.Writing.{headVerdict, valueVerdict, Writes};
+use multi::HEAD;
+use multi::HEADER_WORDS;
+use multi::INNER_WORDS;
+use multi::INNERS;
+use multi::MAX_USER_WORDS;
+use refusal::Excess;
+use refusal::Item;
+use refusal::Misfit;
+use refusal::Reason;
+use refusal::Verdict;
+use refusal::Written;
+
+// Writes the multipacket of a priority and of an inner packet for each head at the front of out. A head says where in `words` the user words of
+// its packet begin, and how many they are.
+pub fn write_from(priority: u32, heads: &[[u16; HEAD]], words: &[u16], out: &mut [u16]) -> Written
+    ensures { λ r. ⌜ Writes (record { priority = priority; heads = now (heads .entry); words = now (words .entry) }) (now (out .entry)) r (now (out .exit)) ⌝ }
+{
+    let refusal = refusal::told(judge_value(priority, heads, words, out.len()));
+    if refusal.number != 0 {
+        return Written { refusal, len: 0 };
+    }
+    let user = user_words(heads);
+    put_header(priority as u8, user as u8, out);
+    put_inners(heads, words, &mut out[INNERS..]);
+    out[6 + user] = anc::checksum(&out[3..6 + user]);
+    Written {
+        refusal,
+        len: 7 + user,
+    }
+}
+
+// RULES, "Order of checks": 15 of the priority; 26; 15, 11 and a subtitling packet's own, inner packet by inner packet; 13; 14.
+fn judge_value(priority: u32, heads: &[[u16; HEAD]], words: &[u16], room: usize) -> Verdict
+    ensures { λ r. ⌜ r ≡ valueVerdict (record { priority = priority; heads = now (heads .entry); words = now (words .entry) }) room ⌝ }
+{
+    if 255 < priority {
+        return Verdict::Refused(Reason::Unholdable(Excess::PriorityWord), Item::Whole);
+    }
+    if heads.len() == 0 {
+        return Verdict::Refused(Reason::NoInner, Item::Whole);
+    }
+    let mut i = 0;
+    while i < heads.len() {
+        let verdict = judge_head(heads[i], words);
+        if let Verdict::Refused(_, _) = verdict {
+            return verdict;
+        }
+        i += 1;
+    }
+    let user = user_words(heads);
+    if MAX_USER_WORDS < user {
+        return Verdict::Refused(Reason::Unfit(Misfit::UserWords), Item::Whole);
+    }
+    if room < 7 + user {
+        return Verdict::Refused(Reason::NoRoom, Item::Whole);
+    }
+    Verdict::Accepted
+}
+
+// One inner packet: 15, 11, and the rules over the user words of a subtitling packet.
+fn judge_head(head: [u16; HEAD], words: &[u16]) -> Verdict
+    ensures { λ r. ⌜ r ≡ headVerdict (now (words .entry)) head ⌝ }
+{
+    if 31 < head[0] {
+        return Verdict::Refused(Reason::Unholdable(Excess::InnerLine), Item::Whole);
+    }
+    if 1 < head[1] {
+        return Verdict::Refused(Reason::Unholdable(Excess::InnerField), Item::Whole);
+    }
+    if 255 < head[2] {
+        return Verdict::Refused(Reason::Unholdable(Excess::InnerIdentifier), Item::Whole);
+    }
+    if 255 < head[3] {
+        return Verdict::Refused(Reason::Unholdable(Excess::InnerIdentifier), Item::Whole);
+    }
+    let at = head[4] as usize;
+    let end = at + head[5] as usize;
+    if words.len() < end {
+        return Verdict::Refused(Reason::Unholdable(Excess::InnerPart), Item::Whole);
+    }
+    let form = multi::unplaced(anc::judge_part(&words[at..end], 0));
+    if let Verdict::Refused(_, _) = form {
+        return form;
+    }
+    if multi::is_subtitling(head[2], head[3]) {
+        return multi::unplaced(sdp_reader::judge_user(&words[at..end], 0));
+    }
+    Verdict::Accepted
+}
+
+// How many user words the multipacket has, the priority among them. It stops counting above 255.
+fn user_words(heads: &[[u16; HEAD]]) -> usize
+{
+    let mut user = 1;
+    let mut i = 0;
+    while i < heads.len() {
+        if MAX_USER_WORDS < user {
+            return user;
+        }
+        user += INNER_WORDS + heads[i][5] as usize;
+        i += 1;
+    }
+    user
+}
+
+// The flag, DID, SDID, DC and the priority.
+fn put_header(priority: u8, dc: u8, out: &mut [u16])
+{
+    out[0] = 0x000;
+    out[1] = 0x3FF;
+    out[2] = 0x3FF;
+    out[3] = 0x143;
+    out[4] = 0x203;
+    out[5] = anc::word(dc);
+    out[6] = anc::word(priority);
+}
+
+// The inner packets, one behind the other.
+fn put_inners(heads: &[[u16; HEAD]], words: &[u16], out: &mut [u16])
+{
+    let mut at = 0;
+    let mut i = 0;
+    while i < heads.len() {
+        let head = heads[i];
+        put_inner(head, words, &mut out[at..]);
+        at += INNER_WORDS + head[5] as usize;
+        i += 1;
+    }
+}
+
+// One inner packet. Its user words are words of bytes already.
+fn put_inner(head: [u16; HEAD], words: &[u16], out: &mut [u16])
+{
+    let at = head[4] as usize;
+    let count = head[5] as usize;
+    let ncs = HEADER_WORDS + count;
+    out[0] = anc::word((head[0] + 32 * head[1]) as u8);
+    out[1] = anc::word(head[2] as u8);
+    out[2] = anc::word(head[3] as u8);
+    out[3] = anc::word(count as u8);
+    carry(&words[at..at + count], &mut out[HEADER_WORDS..ncs]);
+    out[ncs] = anc::checksum(&out[1..ncs]);
+}
+
+// Stores words as they are.
+fn carry(user: &[u16], out: &mut [u16])
+{
+    let mut i = 0;
+    while i < out.len() {
+        out[i] = user[i];
+        i += 1;
+    }
+}
