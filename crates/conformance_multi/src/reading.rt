@@ -110,12 +110,7 @@ fn put_words(words: &[u16], heads: [[u16; HEAD]; MAX_INNERS], n: usize, out: &mu
 }
 
 // The user words of the first n heads, one behind the other. Answers the index behind them.
-fn put_users(
-    words: &[u16],
-    heads: [[u16; HEAD]; MAX_INNERS],
-    n: usize,
-    out: &mut [u8],
-) -> usize
+fn put_users(words: &[u16], heads: [[u16; HEAD]; MAX_INNERS], n: usize, out: &mut [u8]) -> usize
     requires { ⌜ 610 ≤ length (now out) ⌝ }
     ensures { λ r. ⌜ r ≤ length (now (out .exit)) ⌝ }
 {
@@ -134,10 +129,14 @@ fn put_users(
 // The user words of a head: none where they are not among the words.
 fn user_of(words: &[u16], head: [u16; HEAD]) -> &[u16] {
     let at = head[4] as usize;
-    let end = at + head[5] as usize;
-    if words.len() < end {
+    let count = head[5] as usize;
+    if words.len() < at {
         return &words[0..0];
     }
+    if words.len() - at < count {
+        return &words[0..0];
+    }
+    let end = at + count;
     &words[at..end]
 }
 

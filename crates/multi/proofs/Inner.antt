@@ -14,7 +14,7 @@ use Rattle.fields.specs.declared.OddEven.{OddEven}
 use Rattle.refusal.specs.declared.Verdict.{Verdict}
 use Rattle.refusal.specs.declared.Verdict.the-variants.{Accepted}
 use Rattle.refusal.specs.Checks.{refuseIf, andThen, first}
-use Rattle.refusal.proofs.Checks.{both-hold, refuseIf-accepted, accepted-all, all-accepted, accepted-equal, accepted-within, andThen-assoc}
+use Rattle.refusal.proofs.Checks.{both-hold, refuseIf-accepted, accepted-all, all-accepted, accepted-equal, accepted-within, accepted-andThen, andThen-assoc}
 use Rattle.anc.specs.Words.{wordOf, byteOf, wordsVerdict, sumVerdict, checksumOf}
 use Rattle.anc.proofs.Words.{word-byte, words-bytes, bytes-bytes, words-accepted, accepted-words, sum-accepted}
 use Rattle.sdp.specs.User.{userVerdict}
@@ -37,6 +37,14 @@ unfolding innerVerdict
 inner-long at u e =
     let each = accepted-all (innerChecks at u) e in
     (accepted-within (length u) 4 _ _ (each .0), accepted-within (length u) (sizeIn u) _ _ (each .1 .0))
+
+-- and so is one whose form is
+pub form-long : (at : ℕ) (u : List ℕ) → innerForm at u ≡ Accepted → (4 ≤ length u) × (sizeIn u ≤ length u)
+unfolding innerForm
+form-long at u e =
+    let one = accepted-andThen _ _ e in
+    let two = accepted-andThen _ _ (one .1) in
+    (accepted-within (length u) 4 _ _ (one .0), accepted-within (length u) (sizeIn u) _ _ (two .0))
 
 -- THE RULES OF SUBTITLES
 

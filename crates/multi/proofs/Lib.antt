@@ -6,3 +6,8 @@ pub mod Whole
 pub mod Lending
 pub mod Answers
 pub mod Accepting
+pub mod Writable
+pub mod Writing
+pub mod BothWays
+pub mod Determined
+pub mod Judged

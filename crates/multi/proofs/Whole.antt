@@ -12,8 +12,8 @@ use Rattle.lists.specs.Each.{Each}
 use Rattle.lists.specs.Part.{part}
 use Rattle.refusal.specs.declared.Verdict.{Verdict}
 use Rattle.refusal.specs.declared.Verdict.the-variants.{Accepted}
-use Rattle.refusal.specs.declared.Reason.the-variants.{Checksum}
-use Rattle.refusal.specs.declared.Item.the-variants.{Word}
+use Rattle.refusal.specs.declared.Reason.the-variants.{TooLong, Ends, Checksum}
+use Rattle.refusal.specs.declared.Item.the-variants.{Word, Length}
 use Rattle.refusal.specs.Checks.{refuseIf, andThen, first}
 use Rattle.refusal.proofs.Checks.{accepted-refuseIf, refuseIf-accepted, accepted-all, all-accepted, accepted-equal, accepted-within, accepted-andThen, andThen-accepted, andThen-assoc, andThen-last}
 use Rattle.refusal.proofs.Sequence.{first-append}
@@ -184,6 +184,14 @@ accepted-outer s e =
       dc = accepted-equal (byteOf (getD s 5 0)) (length s - 7) _ _ (each .1 .1 .1 .1 .1 .1 .1 .1 .1 .0);
       some = eqb-false (length s) 8 (accepted-refuseIf _ _ _ (each .1 .1 .1 .1 .1 .1 .1 .1 .1 .1 .0));
     }
+
+-- and what its first half does
+pub form-short : (s : List ℕ) → outerForm s ≡ Accepted → 8 ≤ length s
+unfolding outerForm
+form-short s e =
+    let one = accepted-andThen (refuseIf (ltb 262 (length s)) TooLong (Length (length s))) _ e in
+    let two = accepted-andThen (refuseIf (ltb (length s) 8) Ends (Length (length s))) _ (one .1) in
+    accepted-within (length s) 8 Ends (Length (length s)) (two .0)
 
 -- the three parts
 pub record Passed (s : List ℕ) : Type 0 where

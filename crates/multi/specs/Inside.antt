@@ -47,10 +47,14 @@ innerForm at u =
     ∷ sumVerdict (at + ncsAt u) (getD u (ncsAt u) 0)
     ∷ [])
 
+-- the rules over the user words, where the identifiers ask for them
+abbrev pub ownVerdict : ℕ → List ℕ → Verdict
+ownVerdict at u = onlyIf (subtitlingId (byteOf (getD u 1 0)) (byteOf (getD u 2 0))) (userVerdict (at + 3) (bytesIn u))
+
 unfoldable pub innerRules : ℕ → List ℕ → Verdict
 innerRules at u =
     first
     (refuseIf (not (eqb (byteOf (getD u 0 0) / 64) 0)) (Unfixed LineField) (Word at)
-    ∷ onlyIf (subtitlingId (byteOf (getD u 1 0)) (byteOf (getD u 2 0))) (userVerdict (at + 3) (bytesIn u))
+    ∷ ownVerdict at u
     ∷ refuseIf (not (eqb (getD u (ncsAt u) 0) (checksumOf (part 1 (ncsAt u) u)))) InnerChecksum (Word (at + ncsAt u))
     ∷ [])

@@ -1,8 +1,10 @@
 -- What writing a multipacket answers, and what the lent output then holds, for every value and output. RULES, "Order of
 -- checks": 15 of the priority; 26; inner packet by inner packet 15, 11, a subtitling packet's own; 13; 14.
-use Prim.Native.Nat.{ℕ}
-use mathlib.Core.List.{List}
-use lib.ListN.{length}
+use Prim.Native.Nat.{ℕ, _<_}
+use mathlib.Core.Path.{_≡_}
+use mathlib.Core.List.{List, [], _∷_}
+use lib.ListN.{length, getD}
+use Rattle.refusal.specs.declared.Refusal.{Refusal}
 use Rattle.refusal.specs.declared.Verdict.{Verdict}
 use Rattle.refusal.specs.declared.Written.{Written}
 use Rattle.refusal.specs.Checks.{first}
@@ -21,3 +23,10 @@ valueVerdict t room = first (writingChecks (t .priority) (t .heads) (t .words) (
 -- the promise of `write_from`
 abbrev pub Writes : Told → List ℕ → Written → List ℕ → Type 0
 Writes t out answer exit = Wrote (valueVerdict t (length out)) (layout (held t)) out answer exit
+
+-- the refusals that a value gets for itself, whatever the room: one of these numbers, without a place
+abbrev pub valueNumbers : List ℕ
+valueNumbers = 5 ∷ 6 ∷ 7 ∷ 11 ∷ 12 ∷ 13 ∷ 15 ∷ 20 ∷ 26 ∷ []
+
+abbrev pub ValueRefused : Refusal → Type 0
+ValueRefused r = (r .place ≡ 0) × ((i : ℕ) × (i < 9) × (getD valueNumbers i 0 ≡ r .number))

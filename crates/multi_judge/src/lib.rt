@@ -6,7 +6,7 @@ ghost use Prim.Native.Nat.{_+_, _≤_, _<_};
 ghost use lib.ListN.{length};
 ghost use Rattle.multi.specs.Order.{sizeIn};
 ghost use Rattle.multi.specs.Reading.{innerVerdict, innersVerdict, outerVerdict, multiVerdict};
-ghost use Rattle.multi.specs.Inside.{outerForm, outerHeader, innerForm, innerRules};
+ghost use Rattle.multi.specs.Inside.{outerForm, outerHeader, innerForm, innerRules, ownVerdict};
 use multi::HEADER_WORDS;
 use multi::INNER_WORDS;
 use multi::INNERS;
@@ -150,14 +150,26 @@ fn judge_rules(rest: &[u16], at: u16) -> Verdict
     if rest[0] % 256 / 64 != 0 {
         return Verdict::Refused(Reason::Unfixed(Fixed::LineField), Item::Word(at as usize));
     }
-    if multi::is_subtitling(rest[1] % 256, rest[2] % 256) {
-        let user = sdp_reader::judge_user(&rest[HEADER_WORDS..ncs], at + 3);
-        if let Verdict::Refused(_, _) = user {
-            return user;
-        }
+    let own = judge_own(rest, at);
+    if let Verdict::Refused(_, _) = own {
+        return own;
     }
     if rest[ncs] != anc::checksum(&rest[1..ncs]) {
         return Verdict::Refused(Reason::InnerChecksum, Item::Word(at as usize + ncs));
+    }
+    Verdict::Accepted
+}
+
+// The rules over the user words of a subtitling packet. Other packets are carried.
+fn judge_own(rest: &[u16], at: u16) -> Verdict
+    requires { ⌜ 4 ≤ length (now rest) ⌝ }
+    requires { ⌜ sizeIn (now rest) ≤ length (now rest) ⌝ }
+    requires { ⌜ at + length (now rest) < 65536 ⌝ }
+    ensures { λ r. ⌜ r ≡ ownVerdict at (now (rest .entry)) ⌝ }
+{
+    let ncs = HEADER_WORDS + (rest[3] % 256) as usize;
+    if multi::is_subtitling(rest[1] % 256, rest[2] % 256) {
+        return sdp_reader::judge_user(&rest[HEADER_WORDS..ncs], at + 3);
     }
     Verdict::Accepted
 }
