@@ -1,6 +1,6 @@
 -- One inner packet: what is legal is accepted and read as what it is, and words that are accepted are those of a legal one.
 -- Assumes nothing.
-use Prim.Native.Nat.{ℕ, _+_, _*_, _/_, _%_, _≤_, _<_}
+use Prim.Native.Nat.{ℕ, _+_, _-_, _*_, _/_, _%_, _≤_, _<_}
 use native.Mathlib.Omega.{arith}
 use mathlib.Core.Path.{_≡_, _∙_, ap, ap₂, sym, subst, refl}
 use mathlib.Core.Bool.{Bool, true, false, not, _&&_}
@@ -10,6 +10,7 @@ use lib.Dec.{eqb, ltb}
 use lib.ListN.{length, getD, take, drop, length-append, length-map}
 use Rattle.lists.specs.Bytes.{Bytes}
 use Rattle.lists.specs.Part.{part}
+use Rattle.lists.proofs.Part.{length-part}
 use Rattle.fields.specs.declared.OddEven.{OddEven}
 use Rattle.refusal.specs.declared.Verdict.{Verdict}
 use Rattle.refusal.specs.declared.Verdict.the-variants.{Accepted}
@@ -45,6 +46,16 @@ form-long at u e =
     let one = accepted-andThen _ _ e in
     let two = accepted-andThen _ _ (one .1) in
     (accepted-within (length u) 4 _ _ (one .0), accepted-within (length u) (sizeIn u) _ _ (two .0))
+
+-- NDC counts the user words of one that is all there
+pub bytes-count : (u : List ℕ) → sizeIn u ≤ length u → length (bytesIn u) ≡ byteOf (getD u 3 0)
+bytes-count u long =
+    let fits : ncsAt u ≤ length u = omega (arith, long) in
+    length-map (part 4 (ncsAt u) u) byteOf ∙ length-part u 4 (ncsAt u) fits ∙ (let same : 4 + byteOf (getD u 3 0) - 4 ≡ byteOf (getD u 3 0) = omega arith in same)
+
+pub inner-count : (u : List ℕ) → sizeIn u ≤ length u → innerWords (readInner u) ≡ sizeIn u
+unfolding readInner
+inner-count u long = ap (λ (n : ℕ). 5 + n) (bytes-count u long)
 
 -- THE RULES OF SUBTITLES
 

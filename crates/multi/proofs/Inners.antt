@@ -15,7 +15,7 @@ use Rattle.multi.specs.Value.{Inner, LegalInner, innerWords, innersWords
 use Rattle.multi.specs.Layout.{layoutInner, layoutInners}
 use Rattle.multi.specs.Order.{sizeIn, innerChecks, innersChecks}
 use Rattle.multi.specs.Reading.{innerVerdict, innersVerdict, readInner, cut, readInners}
-use Rattle.multi.proofs.Inner.{length-inner, inner-accepted, inner-size, inner-behind, inner-taken, inner-back, accepted-inner}
+use Rattle.multi.proofs.Inner.{inner-long, length-inner, inner-accepted, inner-size, inner-behind, inner-taken, inner-back, accepted-inner}
 
 -- WHAT IS LEFT GROWS SHORTER
 
@@ -183,6 +183,18 @@ made (suc k) at (w ∷ u) h e =
 
 pub accepted-inners : (at : ℕ) (u : List ℕ) → innersVerdict at u ≡ Accepted → Made u
 accepted-inners at u e = made (length u) at u (omega arith) e
+
+-- the first is all there, and those behind it are accepted
+pub record Next (at : ℕ) (u : List ℕ) : Type 0 where
+  pub header : 4 ≤ length u
+  pub long : sizeIn u ≤ length u
+  pub rest : innersVerdict (at + sizeIn u) (behind u) ≡ Accepted
+
+pub next-inner : (at : ℕ) (u : List ℕ) → (length u ≡ 0 → ⊥) → innersVerdict at u ≡ Accepted → Next at u
+next-inner at u some e =
+    let both = accepted-andThen (innerVerdict at u) (innersVerdict (at + sizeIn u) (behind u)) (sym (inners-next at u (omega (arith, some))) ∙ e) in
+    let long = inner-long at u (both .0) in
+    record { header = long .0; long = long .1; rest = both .1 }
 
 -- they are as many words as were given
 pub inners-words : (at : ℕ) (u : List ℕ) → innersVerdict at u ≡ Accepted → innersWords (inners u) ≡ length u

@@ -1,6 +1,6 @@
 -- Heads in lent memory, and the words that they tell of.
 -- Assumes nothing.
-use Prim.Native.Nat.{ℕ, suc, _+_, _-_, _≤_}
+use Prim.Native.Nat.{ℕ, suc, _+_, _-_, _/_, _%_, _≤_}
 use native.Mathlib.Omega.{arith}
 use mathlib.Core.Path.{_≡_, _∙_, ap, ap₂, sym, subst, refl}
 use mathlib.Core.List.{List, [], _∷_, _++_, map, append-assoc}
@@ -13,8 +13,10 @@ use Rattle.anc.specs.Words.{wordOf, byteOf, wordsVerdict, checksumOf}
 use Rattle.anc.proofs.Words.{words-bytes, words-accepted}
 use Rattle.multi.specs.Value.{Inner, LegalInner, Multi, Legal, innerWords, innersWords}
 use Rattle.multi.specs.Layout.{coveredInner, layoutInner, layoutInners, userWords, covered, layout}
+use Rattle.multi.specs.Order.{sizeIn, bytesIn}
+use Rattle.multi.specs.Reading.{readInner}
 use Rattle.multi.specs.Lent.{headOf, headsOf, noHead, Told, userOf, innerOf, held, Lent, LegalTold}
-use Rattle.multi.proofs.Inner.{length-inner}
+use Rattle.multi.proofs.Inner.{length-inner, bytes-count}
 
 pub length-heads : (at : ℕ) (xs : List Inner) → length (headsOf at xs) ≡ length xs
 length-heads at [] = refl
@@ -92,3 +94,23 @@ stored-legal v h =
       lent = heads-lent (layout v) 7 (v .inners) (checksumOf (covered v) ∷ []) refl (h .each);
       value = subst Legal (sym (stored-held v h)) h;
     }
+
+-- THE HEAD OF WORDS THAT ARE READ
+
+-- as it is stored
+abbrev pub headIn : ℕ → List ℕ → List ℕ
+headIn at u = (getD u 0 0 % 32) ∷ (getD u 0 0 / 32 % 2) ∷ (getD u 1 0 % 256) ∷ (getD u 2 0 % 256) ∷ (at + 4) ∷ (getD u 3 0 % 256) ∷ []
+
+-- the line and the field are in the low byte
+low-line : (w : ℕ) → w % 256 % 32 ≡ w % 32
+low-line w = omega arith
+
+low-field : (w : ℕ) → w % 256 / 32 % 2 ≡ w / 32 % 2
+low-field w = omega arith
+
+pub head-in : (at : ℕ) (u : List ℕ) → sizeIn u ≤ length u → headOf at (readInner u) ≡ headIn at u
+unfolding readInner
+head-in at u long =
+    let w = getD u 0 0 in
+    ap₂ (λ (l f : ℕ). l ∷ f ∷ (getD u 1 0 % 256) ∷ (getD u 2 0 % 256) ∷ (at + 4) ∷ length (bytesIn u) ∷ []) (low-line w) (low-field w)
+    ∙ ap (λ (n : ℕ). (w % 32) ∷ (w / 32 % 2) ∷ (getD u 1 0 % 256) ∷ (getD u 2 0 % 256) ∷ (at + 4) ∷ n ∷ []) (bytes-count u long)

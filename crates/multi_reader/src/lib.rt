@@ -2,7 +2,7 @@
 //
 // Normative references: docs/RULES.md, "Multipacket"; document 002 (RDD 8), clause 6.
 ghost use mathlib.Core.Path.{_≡_};
-ghost use Prim.Native.Nat.{_+_, _≤_, _<_};
+ghost use Prim.Native.Nat.{ℕ, _+_, _≤_, _<_};
 ghost use mathlib.Core.List.{[]};
 ghost use lib.ListN.{length, getD};
 ghost use Rattle.lists.specs.Room.{over};
@@ -68,16 +68,14 @@ pub fn inner<'a>(words: &'a [u16], i: usize) -> &'a [u16]
 
 // The part of the words that inner packet i is.
 fn hand<'a>(rest: &'a [u16], i: usize) -> &'a [u16]
+    requires { ⌜ ((at : ℕ) × (innersVerdict at (now rest) ≡ Accepted)) ⌝ }
     ensures { λ r. ⌜ now r ≡ getD (cut (length (now (rest .entry))) (now (rest .entry))) i [] ⌝ }
 {
     let n = rest.len();
-    if n < 4 {
+    if n == 0 {
         return &rest[0..0];
     }
     let size = INNER_WORDS + (rest[3] % 256) as usize;
-    if n < size {
-        return &rest[0..0];
-    }
     if i == 0 {
         return &rest[0..size];
     }
