@@ -1,10 +1,11 @@
 /*
- * captions.h: closed captions and teletext in five carriages, read, written and replaced; and teletext and film, from one
+ * captions.h: closed captions and teletext in six carriages, read, written and replaced; and teletext and film, from one
  * of them into another.
  *
  * Picture area       the user data behind an MPEG-2 picture header, with an SCTE 20 caption unit
  * GA94               ATSC caption data in a unit of the same picture area
  * Subtitling packet  RDD 8 (OP-47), as ancillary data words
+ * Multipacket        of RDD 8 too: subtitling packets and others, such as wide-screen signalling, in one packet
  * PES data field     EN 300 472, teletext for DVB; also from a subtitling packet
  * Line 21 payload    the ISMA RTP payload, what follows the RTP header; or a reel, many such payloads at once
  * Film               pictures of two or three fields, with an SCTE 20 caption unit each, into access units of that payload
@@ -16,7 +17,7 @@
  * nothing outside the library but C's memcpy and memset, so that any number of threads may call it.
  *
  * What a caller owes, since C cannot check it:
- *   - behind a pointer and a length stand that many bytes, words or units; only with length 0 may the pointer be null;
+ *   - behind a pointer and a length stand that many bytes, words or structs; only with length 0 may the pointer be null;
  *   - behind an array of fixed size stand all of its places, and behind `film` one struct;
  *   - memory that a call may store to (STORED below) overlaps no other argument of that call.
  *
@@ -56,27 +57,31 @@ extern "C" {
 
 /* ---- Refusals ---- */
 
-/* The numbers of a refusal (RULES, "Refusals"). 0 is no refusal, and 17 is not in use. */
+/* The numbers of a refusal (RULES, "Refusals"). 0 is no refusal, and 17 and 25 are not in use. */
 enum {
     CAPTIONS_ACCEPTED = 0,
-    CAPTIONS_TOO_LONG = 1,         /* above 16,384 bytes of an area, 245 words of a packet, 1,456 bytes of a payload */
+    CAPTIONS_TOO_LONG = 1,         /* above 16,384 bytes of an area, 245 words of a packet, 262 of a multipacket, 1,456
+                                      bytes of a payload */
     CAPTIONS_NO_START = 2,         /* no start code, flag words or flags byte where the input must begin with them */
     CAPTIONS_START_CODE = 3,       /* a 00 00 01 with no B2 behind it */
     CAPTIONS_SECOND_UNIT = 4,      /* more than one caption unit in an area, or more than one GA94 unit */
     CAPTIONS_ENDS = 5,             /* the input is over before an item is complete */
-    CAPTIONS_FIXED = 6,            /* a packet's identifier (DID, SDID, 51, 15), format or footer is another; or a data
-                                      field's data_identifier, the reserved bits or framing code of its teletext */
+    CAPTIONS_FIXED = 6,            /* a packet's identifier (DID, SDID, 51, 15), format or footer is another; b6 or b7 of
+                                      an inner packet's LINE/FIELD is not 0; or a data field's data_identifier, the
+                                      reserved bits or framing code of its teletext */
     CAPTIONS_FIELD_OR_LINE = 7,    /* a record of field 0; a descriptor of line 1 to 5 or 23 to 31; in a data field, line 1
                                       to 6 or 23 to 31 */
     CAPTIONS_ORDER = 8,            /* a record of a lower field than the one before, or of the same and no higher line */
     CAPTIONS_FIFTH_PRIORITY = 9,   /* more than four records of priority 0 in a field */
     CAPTIONS_SAMPLED_VIDEO = 10,   /* the count of sampled video is not 0 */
     CAPTIONS_WORD = 11,            /* a word of more than ten bits, or with wrong parity bits */
-    CAPTIONS_CHECKSUM = 12,        /* the sum of the user bytes, or CS, does not come out */
-    CAPTIONS_LENGTH = 13,          /* a length that fits nothing: DC, LENGTH, data_unit_length, or that of a payload */
+    CAPTIONS_CHECKSUM = 12,        /* the sum of the user bytes, CS, or NCS does not come out */
+    CAPTIONS_LENGTH = 13,          /* a length that fits nothing: DC, NDC, LENGTH, data_unit_length, or that of a payload;
+                                      more user words to write than a multipacket counts */
     CAPTIONS_NO_ROOM = 14,         /* the lent output is shorter than the result */
     CAPTIONS_UNHOLDABLE = 15,      /* a number out of range, records under flag 0, 09 or 0A behind 03, a mismarked slot;
-                                      a film state that no call leaves; a run of bytes that ends within a unit */
+                                      user words that are not among the lent ones; a film state that no call leaves; a
+                                      run of bytes that ends within a unit */
     CAPTIONS_ADDITIONAL_DATA = 16, /* GA94 with additional_data_flag set */
     CAPTIONS_MARKER = 18,          /* a construct's marker is not all ones, or GA94's closing byte is not FF */
     CAPTIONS_ZEROS = 19,           /* a bit of a unit's alignment or stuffing is not 0 */
@@ -84,7 +89,8 @@ enum {
     CAPTIONS_NOT_SHOWN = 21,       /* film: a record of field 3 in a picture that shows two */
     CAPTIONS_OTHER_LINE = 22,      /* film: a record on another line than the one that is carried */
     CAPTIONS_UNKNOWN_UNIT = 23,    /* a data_unit_id that is neither teletext (02, 03) nor stuffing (FF) */
-    CAPTIONS_SURPLUS_UNIT = 24     /* a byte behind the 31st unit of a data field */
+    CAPTIONS_SURPLUS_UNIT = 24,    /* a byte behind the 31st unit of a data field */
+    CAPTIONS_NO_INNER = 26         /* no inner packet in a multipacket, or one that is not all there */
 };
 
 /*
@@ -94,6 +100,7 @@ enum {
  *   in a unit's body   the bit of the area at which the item begins, with 19 the first bit that is not 0:
  *                      byte place / 8 of the area, and in it bit place % 8 from the most significant one
  *   in a packet        the word; with 1 and 5 the number of words
+ *   in a multipacket   the word, but with 1, and with 5 of the whole of it, the number of words
  *   in a data field    the byte at which the item begins
  *   in a payload       the number of bytes
  * With 1 to 4 of an area it is 0, and so where the value to write, the length of the result or the room is refused. In
@@ -279,6 +286,62 @@ captions_packet captions_packet_read(const uint16_t *words, size_t len,
 captions_written captions_packet_write(uint32_t counter, const captions_slot CAPTIONS_ARRAY(slots, CAPTIONS_SLOTS),
                                        const captions_row CAPTIONS_ARRAY(rows, CAPTIONS_SLOTS),
                                        uint16_t *CAPTIONS_STORED out, size_t room);
+
+/* ---- Multipacket (RDD 8, OP-47) ---- */
+
+enum {
+    CAPTIONS_MULTI_WORDS = 262, /* the longest multipacket: 7 words and 255 user words */
+    CAPTIONS_INNERS = 50        /* the most inner packets that it has */
+};
+
+/*
+ * One inner packet. Its user words are not copied: `at` and `count` say where they stand among lent words. These are the
+ * words that were read, or those that a writer is lent beside its inner packets.
+ */
+typedef struct captions_inner {
+    uint16_t line;  /* 0 to 31 */
+    uint16_t field; /* 1 odd, 0 even: the field of the frame, as `field` of a slot */
+    uint16_t did;   /* NDID without its parity bits, 0 to 255 */
+    uint16_t sdid;  /* NSDID, the same */
+    uint16_t at;    /* which of the lent words is its first user word, counted from 0 */
+    uint16_t count; /* how many user words it has: NDC */
+} captions_inner;
+
+/* What captions_multi_read answers. All zero but for the refusal where the call is refused. */
+typedef struct captions_multi {
+    captions_refusal refusal;
+    uint8_t priority; /* the byte as it is */
+    size_t n;         /* how many inner packets */
+} captions_multi;
+
+/*
+ * Reads a multipacket. Each 10-bit word stands in a 16-bit number. An inner packet of did 0x43 and sdid 0x02 is a
+ * subtitling packet, and its user words are judged as those of one. All others are carried, a multipacket too.
+ *
+ * Refuses with 1; 5; 2; 11 (DID to the priority, then CS); 6; 13; 26 where no inner packet follows; for each inner packet
+ * in its turn with 26 where it is not all there, 11 (LINE/FIELD to the last user word, then NCS), 6 (b6, b7), in a
+ * subtitling packet 5, 6, 13, 6, 7, 13, 20, 6, 12, and 12 (NCS); last with 12 (CS). The place is the word: with 26 that
+ * of LINE/FIELD, or 7 where there is no inner packet, and with 5 of a subtitling packet the one behind its last user word.
+ * With 1, and with 5 of the whole, it is len.
+ * Lent: all places of `inners` are stored to where the call is accepted, the n inner packets first and zeros behind them.
+ */
+captions_multi captions_multi_read(const uint16_t *words, size_t len,
+                                   captions_inner CAPTIONS_STORED_ARRAY(inners, CAPTIONS_INNERS));
+
+/*
+ * Writes a multipacket at the front of `out`: 8 words, and 5 + count for each of the n inner packets. Their user words
+ * stand among the `len` words that are lent, with their parity bits, and two may have some in common. What was read is
+ * written back with the same inner packets and the very words that were read.
+ *
+ * No number is narrowed: a priority of 256 is refused. No word is repaired.
+ * Refuses with 15 (priority above 255); with 26 (n is 0); for each inner packet in its turn with 15 (line above 31, field
+ * above 1, did or sdid above 255, at + count above len), with 11 (a user word that is no byte's), and for did 0x43 with
+ * sdid 0x02 with 5, 6, 13, 6, 7, 13, 20, 6, 12; then with 13 (more than 255 user words: 1, and 5 + count for each inner
+ * packet), then with 14. All are at 0.
+ * Lent: the first words of `out`, as many as the answer's `len`, are stored to.
+ */
+captions_written captions_multi_write(uint32_t priority, const captions_inner *inners, size_t n,
+                                      const uint16_t *words, size_t len, uint16_t *CAPTIONS_STORED out, size_t room);
 
 /* ---- PES data field (EN 300 472, teletext for DVB) ---- */
 
@@ -561,6 +624,19 @@ CAPTIONS_FIELD(captions_packet, refusal, 0, 16);
 CAPTIONS_FIELD(captions_packet, counter, 16, 4);
 CAPTIONS_FIELD(captions_packet, slots, 20, 20);
 CAPTIONS_SIZE(captions_packet, 40);
+
+CAPTIONS_FIELD(captions_inner, line, 0, 2);
+CAPTIONS_FIELD(captions_inner, field, 2, 2);
+CAPTIONS_FIELD(captions_inner, did, 4, 2);
+CAPTIONS_FIELD(captions_inner, sdid, 6, 2);
+CAPTIONS_FIELD(captions_inner, at, 8, 2);
+CAPTIONS_FIELD(captions_inner, count, 10, 2);
+CAPTIONS_SIZE(captions_inner, 12);
+
+CAPTIONS_FIELD(captions_multi, refusal, 0, 16);
+CAPTIONS_FIELD(captions_multi, priority, 16, 1);
+CAPTIONS_FIELD(captions_multi, n, 24, 8);
+CAPTIONS_SIZE(captions_multi, 32);
 
 CAPTIONS_FIELD(captions_teletext, field_parity, 0, 1);
 CAPTIONS_FIELD(captions_teletext, line_offset, 1, 1);

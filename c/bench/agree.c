@@ -8,10 +8,11 @@ size_t agree_numbers[256];
 /* Lent memory, one piece for each program, with the same bytes in it before a call. The third is for a variant. */
 static union lent {
     uint8_t bytes[REEL_BYTES + 64];
-    uint16_t words[CAPTIONS_PACKET_WORDS + 32];
+    uint16_t words[CAPTIONS_MULTI_WORDS + 32];
     captions_record records[CAPTIONS_RECORDS + 2];
     captions_ga94_record ga94[CAPTIONS_RECORDS + 2];
     captions_row rows[CAPTIONS_SLOTS + 1];
+    captions_inner inners[CAPTIONS_INNERS + 2];
     captions_data_unit data_units[CAPTIONS_PES_UNITS + 1];
     captions_access_unit units[CAPTIONS_ACCESS_UNITS + 2];
 } lent[3];
@@ -130,6 +131,22 @@ bool agree_packet_write(const packet_value *v, size_t room)
     fill(sizeof lent[0].words);
     captions_written a = plain_calls.packet_write(v->counter, v->slots, v->rows, lent[0].words, room);
     captions_written b = library_calls.packet_write(v->counter, v->slots, v->rows, lent[1].words, room);
+    return same_written(a, b) && same_lent(sizeof lent[0].words);
+}
+
+bool agree_multi_read(const multi_input *multi)
+{
+    fill(sizeof lent[0].inners);
+    captions_multi a = plain_calls.multi_read(multi->words, multi->len, lent[0].inners);
+    captions_multi b = library_calls.multi_read(multi->words, multi->len, lent[1].inners);
+    return same_refusal(a.refusal, b.refusal) && a.priority == b.priority && a.n == b.n && same_lent(sizeof lent[0].inners);
+}
+
+bool agree_multi_write(const multi_value *v, size_t room)
+{
+    fill(sizeof lent[0].words);
+    captions_written a = plain_calls.multi_write(v->priority, v->inners, v->n, v->words, v->len, lent[0].words, room);
+    captions_written b = library_calls.multi_write(v->priority, v->inners, v->n, v->words, v->len, lent[1].words, room);
     return same_written(a, b) && same_lent(sizeof lent[0].words);
 }
 
@@ -366,27 +383,79 @@ static void random_area(area_input *area)
     }
 }
 
-/* A changed byte gets its word or is left wrong; the sums are often made right again, so that later rules are met. */
+/* A changed byte gets its word or is left wrong. */
+static void mutate_words(uint16_t *words, size_t n)
+{
+    for (uint32_t left = below(3); left > 0 && n > 0; left--) {
+        size_t at = below(3) != 0 ? below((uint32_t)n) : below(24) % n;
+        uint8_t low = below(3) == 0 ? odd_byte() : (uint8_t)(words[at] ^ 1u << below(8));
+        uint16_t even = (uint16_t)(0x6996 >> ((low ^ low >> 4) & 15) & 1);
+        words[at] = below(6) == 0 ? (uint16_t)below(1100) : (uint16_t)(low | even << 8 | !even << 9);
+    }
+}
+
+/* The word behind n words becomes their CS. */
+static void mend_cs(uint16_t *words, size_t n)
+{
+    uint16_t sum = 0;
+    for (size_t i = 0; i < n; i++) {
+        sum = (sum + words[i]) & 511;
+    }
+    words[n] = (uint16_t)(sum | (~sum & 256) << 1);
+}
+
+/* The sums are often made right again, so that later rules are met. */
 static void random_packet(packet_input *packet)
 {
     packet_value v;
     make_packet(&v, below(6));
     carry_packet(&v, packet);
     size_t n = packet->len;
-    for (uint32_t left = below(3); left > 0; left--) {
-        size_t at = below(3) != 0 ? below((uint32_t)n) : below(24) % n;
-        uint8_t low = below(3) == 0 ? odd_byte() : (uint8_t)(packet->words[at] ^ 1u << below(8));
-        uint16_t even = (uint16_t)(0x6996 >> ((low ^ low >> 4) & 15) & 1);
-        packet->words[at] = below(6) == 0 ? (uint16_t)below(1100) : (uint16_t)(low | even << 8 | !even << 9);
-    }
+    mutate_words(packet->words, n);
     if (below(2) == 0) {
-        uint16_t sum = 0;
-        for (size_t i = 3; i < n - 1; i++) {
-            sum = (sum + packet->words[i]) & 511;
-        }
-        packet->words[n - 1] = (uint16_t)(sum | (~sum & 256) << 1);
+        mend_cs(packet->words + 3, n - 4);
     }
     packet->len = below(8) != 0 ? n : nearly(n, CAPTIONS_PACKET_WORDS + 16);
+}
+
+/* What is read, and then what is written: the value with some numbers and words changed. */
+static bool random_multi(void)
+{
+    static multi_value v;
+    static multi_input multi;
+    if (below(2) == 0) {
+        make_subtitles(&v, below(6));
+    } else {
+        size_t n = below(6) == 0 ? 47 + below(4) : 1 + below(6);
+        make_multi(&v, n, below(3) == 0 ? 0 : below((uint32_t)(254 / n - 4)));
+    }
+    carry_multi(&v, &multi);
+    size_t n = multi.len;
+    mutate_words(multi.words, n);
+    /* NCS of the last inner packet, and CS. */
+    if (below(2) == 0) {
+        size_t count = v.inners[v.n - 1].count;
+        mend_cs(multi.words + n - 5 - count, 3 + count);
+    }
+    if (below(2) == 0) {
+        mend_cs(multi.words + 3, n - 4);
+    }
+    multi.len = below(8) != 0 ? n : nearly(n, CAPTIONS_MULTI_WORDS + 16);
+    bool same = agree_multi_read(&multi);
+    if (below(4) == 0) {
+        mutate_words(v.words, v.len);
+    }
+    if (below(4) == 0) {
+        mutate(&v.inners[below((uint32_t)v.n)], sizeof v.inners[0]);
+    }
+    if (below(12) == 0) {
+        v.priority = below(600);
+        v.len -= below((uint32_t)v.len + 1);
+    }
+    if (below(8) == 0) {
+        v.n = below(sizeof v.inners / sizeof v.inners[0] + 1);
+    }
+    return same && agree_multi_write(&v, below(2) == 0 ? CAPTIONS_MULTI_WORDS : below(CAPTIONS_MULTI_WORDS));
 }
 
 /* The value to write as a packet, and to convert. Lines are 6 to 22, and a data field has no line 6. */
@@ -540,7 +609,7 @@ bool agree_on_random(size_t inputs)
 {
     static area_input area;
     static packet_input packet;
-    for (size_t i = 0; i < inputs; i += 18) {
+    for (size_t i = 0; i < inputs; i += 20) {
         unit_value v;
         ga94_value g;
         random_area(&area);
@@ -555,7 +624,7 @@ bool agree_on_random(size_t inputs)
         if (!agree_area_read(&area) || !agree_unit_write(&v, room) || !agree_area_replace(&area, &v, room) ||
             !agree_ga94_read(&area) || !agree_ga94_write(&g, room) || !agree_ga94_replace(&area, &g, room) ||
             !agree_packet_read(&packet) || !agree_pes_convert(&packet, below(3) != 0 ? CAPTIONS_PES_BYTES : below(240)) ||
-            !random_packet_value() || !random_pes() || !random_payload() || !random_reel() || !random_film()) {
+            !random_packet_value() || !random_multi() || !random_pes() || !random_payload() || !random_reel() || !random_film()) {
             return false;
         }
     }

@@ -16,6 +16,8 @@ bool agree_ga94_write(const ga94_value *v, size_t room);
 bool agree_ga94_replace(const area_input *area, const ga94_value *v, size_t room);
 bool agree_packet_read(const packet_input *packet);
 bool agree_packet_write(const packet_value *v, size_t room);
+bool agree_multi_read(const multi_input *multi);
+bool agree_multi_write(const multi_value *v, size_t room);
 bool agree_pes_read(const pes_input *pes);
 bool agree_pes_write(const pes_value *v, size_t room);
 bool agree_pes_convert(const packet_input *packet, size_t room);

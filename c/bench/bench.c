@@ -37,6 +37,8 @@ typedef struct sample {
     ga94_value ga94;
     packet_input packet;
     packet_value numbers;
+    multi_input multi;
+    multi_value inners;
     pes_input pes;
     pes_value teletext;
     payload_input payload;
@@ -48,17 +50,18 @@ typedef struct sample {
 /* What the calls store to. */
 static uint8_t out_bytes[CAPTIONS_AREA_BYTES];
 static uint8_t out_reel[REEL_BYTES];
-static uint16_t out_words[CAPTIONS_PACKET_WORDS];
+static uint16_t out_words[CAPTIONS_MULTI_WORDS];
 static captions_record out_records[CAPTIONS_RECORDS];
 static captions_ga94_record out_ga94[CAPTIONS_RECORDS];
 static captions_row out_rows[CAPTIONS_SLOTS];
+static captions_inner out_inners[CAPTIONS_INNERS];
 static captions_data_unit out_data_units[CAPTIONS_PES_UNITS];
 static captions_access_unit out_units[CAPTIONS_ACCESS_UNITS];
 
 /* Every answer goes in here, so that no call is without effect. */
 static volatile uint64_t sink;
 
-/* ---- The eighteen calls, `times` over the samples in turn ---- */
+/* ---- The twenty calls, `times` over the samples in turn ---- */
 
 static void run_area_read(const calls *c, const sample *samples, size_t times)
 {
@@ -128,6 +131,22 @@ static void run_packet_write(const calls *c, const sample *samples, size_t times
     for (size_t i = 0; i < times; i++) {
         const packet_value *v = &samples[i % SAMPLES].numbers;
         sink += c->packet_write(v->counter, v->slots, v->rows, out_words, CAPTIONS_PACKET_WORDS).len;
+    }
+}
+
+static void run_multi_read(const calls *c, const sample *samples, size_t times)
+{
+    for (size_t i = 0; i < times; i++) {
+        const multi_input *m = &samples[i % SAMPLES].multi;
+        sink += c->multi_read(m->words, m->len, out_inners).n + out_inners[0].line;
+    }
+}
+
+static void run_multi_write(const calls *c, const sample *samples, size_t times)
+{
+    for (size_t i = 0; i < times; i++) {
+        const multi_value *v = &samples[i % SAMPLES].inners;
+        sink += c->multi_write(v->priority, v->inners, v->n, v->words, v->len, out_words, CAPTIONS_MULTI_WORDS).len;
     }
 }
 
@@ -292,6 +311,26 @@ static void packet(sample *s, size_t n)
     carry_packet(&s->numbers, &s->packet);
 }
 
+/* One inner packet: a subtitling packet of n structures. */
+static void subtitles(sample *s, size_t n)
+{
+    make_subtitles(&s->inners, n);
+    carry_multi(&s->inners, &s->multi);
+}
+
+/* n inner packets that are carried, without user words, and with 45 each. */
+static void inners_alone(sample *s, size_t n)
+{
+    make_multi(&s->inners, n, 0);
+    carry_multi(&s->inners, &s->multi);
+}
+
+static void inners_of_45(sample *s, size_t n)
+{
+    make_multi(&s->inners, n, 45);
+    carry_multi(&s->inners, &s->multi);
+}
+
 /* One that a data field can have: without line 6. */
 static void packet_to_convert(sample *s, size_t n)
 {
@@ -401,6 +440,14 @@ static const row rows[] = {
     {"packet of 20 words: write", &plain_calls, packet, 0, run_packet_write},
     {"packet of 245 words: read", &plain_calls, packet, 5, run_packet_read},
     {"packet of 245 words: write", &plain_calls, packet, 5, run_packet_write},
+    {"multipacket: subtitles of 13 user words: read", &plain_calls, subtitles, 0, run_multi_read},
+    {"multipacket: subtitles of 13 user words: write", &plain_calls, subtitles, 0, run_multi_write},
+    {"multipacket: subtitles of 238 user words: read", &plain_calls, subtitles, 5, run_multi_read},
+    {"multipacket: subtitles of 238 user words: write", &plain_calls, subtitles, 5, run_multi_write},
+    {"multipacket: 50 without user words: read", &plain_calls, inners_alone, 50, run_multi_read},
+    {"multipacket: 50 without user words: write", &plain_calls, inners_alone, 50, run_multi_write},
+    {"multipacket: 5 of 45 user words: read", &plain_calls, inners_of_45, 5, run_multi_read},
+    {"multipacket: 5 of 45 user words: write", &plain_calls, inners_of_45, 5, run_multi_write},
     {"data field of 1 unit: read", &plain_calls, data_field, 1, run_pes_read},
     {"data field of 1 unit: write", &plain_calls, data_field, 1, run_pes_write},
     {"data field of 31 units: read", &plain_calls, data_field, 31, run_pes_read},
@@ -457,6 +504,12 @@ static bool agree_on_sample(const row *r, const sample *s)
     }
     if (r->run == run_packet_write) {
         return agree_packet_write(&s->numbers, CAPTIONS_PACKET_WORDS);
+    }
+    if (r->run == run_multi_read) {
+        return agree_multi_read(&s->multi);
+    }
+    if (r->run == run_multi_write) {
+        return agree_multi_write(&s->inners, CAPTIONS_MULTI_WORDS);
     }
     if (r->run == run_pes_read) {
         return agree_pes_read(&s->pes);

@@ -8,7 +8,8 @@
 const calls plain_calls = {
     plain_area_read,    plain_unit_write,    plain_area_replace, plain_ga94_read,
     plain_ga94_write,   plain_ga94_replace,  plain_packet_read,  plain_packet_write,
-    plain_pes_read,     plain_pes_write,     plain_pes_convert,  plain_pes_convert_value,
+    plain_multi_read,   plain_multi_write,   plain_pes_read,     plain_pes_write,
+    plain_pes_convert,  plain_pes_convert_value,
     plain_payload_read, plain_payload_write, plain_reel_write,   plain_reel_write_bytes,
     plain_film_picture, plain_film_close,
 };
@@ -16,7 +17,8 @@ const calls plain_calls = {
 const calls memchr_calls = {
     plain_area_read_memchr, plain_unit_write,    plain_area_replace, plain_ga94_read,
     plain_ga94_write,       plain_ga94_replace,  plain_packet_read,  plain_packet_write,
-    plain_pes_read,         plain_pes_write,     plain_pes_convert,  plain_pes_convert_value,
+    plain_multi_read,       plain_multi_write,   plain_pes_read,     plain_pes_write,
+    plain_pes_convert,      plain_pes_convert_value,
     plain_payload_read,     plain_payload_write, plain_reel_write,   plain_reel_write_bytes,
     plain_film_picture,     plain_film_close,
 };
@@ -24,7 +26,8 @@ const calls memchr_calls = {
 const calls library_calls = {
     captions_area_read,    captions_unit_write,    captions_area_replace, captions_ga94_read,
     captions_ga94_write,   captions_ga94_replace,  captions_packet_read,  captions_packet_write,
-    captions_pes_read,     captions_pes_write,     captions_pes_convert,  captions_pes_convert_value,
+    captions_multi_read,   captions_multi_write,   captions_pes_read,     captions_pes_write,
+    captions_pes_convert,  captions_pes_convert_value,
     captions_payload_read, captions_payload_write, captions_reel_write,   captions_reel_write_bytes,
     captions_film_picture, captions_film_close,
 };
@@ -108,6 +111,40 @@ void lift_line_6(packet_value *v)
     }
 }
 
+static captions_inner inner_at(uint16_t did, uint16_t sdid, size_t at, size_t count)
+{
+    return (captions_inner){(uint16_t)below(32), (uint16_t)below(2), did, sdid, (uint16_t)at, (uint16_t)count};
+}
+
+/* Wide-screen signalling. Its words are those of bytes. */
+void make_multi(multi_value *v, size_t n, size_t user)
+{
+    memset(v, 0, sizeof *v);
+    v->priority = byte();
+    for (v->n = 0; v->n < n; v->n++) {
+        v->inners[v->n] = inner_at(0x50, 0x01, v->len, user);
+        for (size_t i = 0; i < user; i++) {
+            uint16_t low = byte();
+            uint16_t even = (uint16_t)(0x6996 >> ((low ^ low >> 4) & 15) & 1);
+            v->words[v->len++] = (uint16_t)(low | even << 8 | !even << 9);
+        }
+    }
+}
+
+void make_subtitles(multi_value *v, size_t k)
+{
+    static packet_value packet;
+    static packet_input words;
+    make_packet(&packet, k);
+    carry_packet(&packet, &words);
+    memset(v, 0, sizeof *v);
+    v->priority = byte();
+    v->n = 1;
+    v->len = words.len - 7;
+    v->inners[0] = inner_at(0x43, 0x02, 0, v->len);
+    memcpy(v->words, words.words + 6, v->len * sizeof v->words[0]);
+}
+
 void make_pes(pes_value *v, size_t n)
 {
     memset(v, 0, sizeof *v);
@@ -169,6 +206,11 @@ void carry_ga94(const ga94_value *v, area_input *area)
 void carry_packet(const packet_value *v, packet_input *packet)
 {
     packet->len = plain_packet_write(v->counter, v->slots, v->rows, packet->words, CAPTIONS_PACKET_WORDS).len;
+}
+
+void carry_multi(const multi_value *v, multi_input *multi)
+{
+    multi->len = plain_multi_write(v->priority, v->inners, v->n, v->words, v->len, multi->words, CAPTIONS_MULTI_WORDS).len;
 }
 
 void carry_pes(const pes_value *v, pes_input *pes)

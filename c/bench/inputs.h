@@ -39,6 +39,20 @@ typedef struct packet_input {
     uint16_t words[CAPTIONS_PACKET_WORDS + 16];
 } packet_input;
 
+/* Inner packets whose user words stand one behind the other. */
+typedef struct multi_value {
+    uint32_t priority;
+    size_t n;
+    captions_inner inners[CAPTIONS_INNERS + 4]; /* also more than can be written */
+    size_t len;
+    uint16_t words[CAPTIONS_MULTI_WORDS + 64];
+} multi_value;
+
+typedef struct multi_input {
+    size_t len;
+    uint16_t words[CAPTIONS_MULTI_WORDS + 16];
+} multi_input;
+
 typedef struct pes_value {
     uint32_t data_identifier;
     size_t n;
@@ -81,7 +95,7 @@ typedef struct film_value {
     unit_value unit;
 } film_value;
 
-/* The eighteen calls of one program. */
+/* The twenty calls of one program. */
 typedef struct calls {
     captions_unit (*area_read)(const uint8_t *, size_t, captions_record *);
     captions_written (*unit_write)(uint32_t, uint32_t, size_t, size_t, const captions_record *, uint8_t *, size_t);
@@ -94,6 +108,8 @@ typedef struct calls {
                                      const captions_ga94_record *, uint8_t *, size_t);
     captions_packet (*packet_read)(const uint16_t *, size_t, captions_row *);
     captions_written (*packet_write)(uint32_t, const captions_slot *, const captions_row *, uint16_t *, size_t);
+    captions_multi (*multi_read)(const uint16_t *, size_t, captions_inner *);
+    captions_written (*multi_write)(uint32_t, const captions_inner *, size_t, const uint16_t *, size_t, uint16_t *, size_t);
     captions_pes (*pes_read)(const uint8_t *, size_t, captions_data_unit *);
     captions_written (*pes_write)(uint32_t, size_t, const captions_data_unit *, uint8_t *, size_t);
     captions_written (*pes_convert)(const uint16_t *, size_t, uint8_t *, size_t);
@@ -114,10 +130,12 @@ extern const calls library_calls;
 /* A number below n, which is not 0. */
 uint32_t below(uint32_t n);
 
-/* Legal values of n records, k structures, n units of teletext, m access units. */
+/* Legal values of n records, k structures, n inner packets, n units of teletext, m access units. */
 void make_unit(unit_value *v, size_t n, size_t z);
 void make_ga94(ga94_value *v, size_t n, size_t z);
 void make_packet(packet_value *v, size_t k);
+void make_multi(multi_value *v, size_t n, size_t user); /* each with `user` words that are carried */
+void make_subtitles(multi_value *v, size_t k);          /* one, which is a subtitling packet */
 void make_pes(pes_value *v, size_t n);
 void make_payload(payload_value *v, size_t m);
 
@@ -131,6 +149,7 @@ void make_picture(film_value *v, uint32_t top_field_first, uint32_t repeat_first
 void carry_unit(const unit_value *v, area_input *area);
 void carry_ga94(const ga94_value *v, area_input *area);
 void carry_packet(const packet_value *v, packet_input *packet);
+void carry_multi(const multi_value *v, multi_input *multi);
 void carry_pes(const pes_value *v, pes_input *pes);
 void carry_payload(const payload_value *v, payload_input *payload);
 

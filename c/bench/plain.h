@@ -1,5 +1,5 @@
 /*
- * plain.h: the eighteen calls of captions.h in plain C, to measure the library against.
+ * plain.h: the twenty calls of captions.h in plain C, to measure the library against.
  *
  * Each does the same work as its namesake: the checks of docs/RULES.md in their order, the same refusals and places,
  * the same answers, and no lent memory changed in a refusal.
@@ -45,6 +45,11 @@ captions_packet plain_packet_read(const uint16_t *words, size_t len,
 captions_written plain_packet_write(uint32_t counter, const captions_slot slots[static CAPTIONS_SLOTS],
                                     const captions_row rows[static CAPTIONS_SLOTS],
                                     uint16_t *out, size_t room);
+
+captions_multi plain_multi_read(const uint16_t *words, size_t len, captions_inner inners[static CAPTIONS_INNERS]);
+
+captions_written plain_multi_write(uint32_t priority, const captions_inner *inners, size_t n,
+                                   const uint16_t *words, size_t len, uint16_t *out, size_t room);
 
 captions_pes plain_pes_read(const uint8_t *field, size_t len, captions_data_unit units[static CAPTIONS_PES_UNITS]);
 

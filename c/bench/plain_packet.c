@@ -1,5 +1,6 @@
 /* plain_packet.c: the subtitling packet; see plain.h. Sections named in comments are those of docs/RULES.md. */
 #include "plain_packet.h"
+#include "plain_words.h"
 
 #include <string.h>
 
@@ -7,89 +8,16 @@ enum {
     DID = 3, /* index of the first word under CS */
     DC = 5,
     USER = 6, /* index of the first user word */
-    LENGTH = USER + 2,
-    FORMAT = USER + 3,
-    DESCRIPTORS = USER + 4,
-    STRUCTURES = DESCRIPTORS + CAPTIONS_SLOTS,
-    STRUCTURE_WORDS = 3 + CAPTIONS_ROW_BYTES,
+    DESCRIPTORS = USER + USER_DESCRIPTORS,
+    STRUCTURES = USER + USER_STRUCTURES,
     MIN_WORDS = 20
 };
 
-/* A byte as a word: b8 its even parity, b9 the inverse of b8. Shifts rather than a table, so that loops are vectorised. */
-static inline uint16_t word_of(uint16_t byte)
-{
-    uint16_t four = byte ^ byte >> 4;
-    uint16_t two = four ^ four >> 2;
-    uint16_t parity = (two ^ two >> 1) & 1;
-    return (uint16_t)(byte + 0x200 - 0x100 * parity);
-}
-
-/* Modulo 512 this is the sum of the low nine bits, and modulo 256 that of the bytes. */
-static uint16_t sum_of(const uint16_t *words, size_t len)
-{
-    uint16_t sum = 0;
-    for (size_t i = 0; i < len; i++) {
-        sum += words[i];
-    }
-    return sum;
-}
-
-static uint16_t cs_word(uint16_t sum)
-{
-    sum &= 0x1FF;
-    return (uint16_t)(sum | (~sum & 0x100) << 1);
-}
-
-/* What reading a packet says: 0 twice, or a number and the word. */
-static captions_refusal at_word(uint8_t number, size_t word)
-{
-    return (captions_refusal){number, word};
-}
-
-/* The first of the `count` words from `at` on that is not as in `right`, or the word behind them. */
-static size_t first_other(const uint16_t *words, size_t at, const uint16_t *right, size_t count)
-{
-    for (size_t i = 0; i < count; i++) {
-        if (words[at + i] != right[i]) {
-            return at + i;
-        }
-    }
-    return at + count;
-}
-
-/*
- * 11 ("Subtitling packet"). b8 of CS is a bit of the sum and no parity. Which word is wrong is asked only where one is, so
- * that the first loop is vectorised.
- */
-static captions_refusal judge_words(const uint16_t *words, size_t len)
-{
-    uint16_t wrong = 0;
-    for (size_t i = DID; i < len - 1; i++) {
-        wrong |= words[i] ^ word_of(words[i] & 0xFF);
-    }
-    if (wrong == 0) {
-        bool formed = words[len - 1] == cs_word(words[len - 1]);
-        return formed ? at_word(CAPTIONS_ACCEPTED, 0) : at_word(CAPTIONS_WORD, len - 1);
-    }
-    size_t first = DID;
-    while (words[first] == word_of(words[first] & 0xFF)) {
-        first++;
-    }
-    return at_word(CAPTIONS_WORD, first);
-}
-
-/* Legal are line 0, and lines 6 to 22 ("Subtitling packet"). */
-static bool line_holds(uint8_t line)
-{
-    return line == 0 || (line >= 6 && line <= 22);
-}
-
-/* "Order of checks", from 1 to DC against k. Every word's upper bits follow from its byte once 11 is judged. */
+/* "Order of checks", from 1 to DC. Every word's upper bits follow from its byte once 11 is judged. */
 static captions_refusal judge_head(const uint16_t *words, size_t len)
 {
     static const uint16_t flag[DID] = {0x000, 0x3FF, 0x3FF};
     static const uint16_t ids[2] = {0x143, 0x102};
-    static const uint16_t identifiers[2] = {0x151, 0x115};
     if (len > CAPTIONS_PACKET_WORDS) {
         return at_word(CAPTIONS_TOO_LONG, len);
     }
@@ -100,54 +28,27 @@ static captions_refusal judge_head(const uint16_t *words, size_t len)
     if (other < DID) {
         return at_word(CAPTIONS_NO_START, other);
     }
-    captions_refusal refusal = judge_words(words, len);
-    if (refusal.number != CAPTIONS_ACCEPTED) {
-        return refusal;
+    size_t wrong = first_wrong(words, DID, len - 1);
+    if (wrong < len - 1 || words[wrong] != cs_word(words[wrong])) {
+        return at_word(CAPTIONS_WORD, wrong);
     }
     other = first_other(words, DID, ids, 2);
     if (other < DC) {
         return at_word(CAPTIONS_FIXED, other);
     }
-    if ((words[DC] & 0xFF) != len - 7) {
-        return at_word(CAPTIONS_LENGTH, DC);
-    }
-    other = first_other(words, USER, identifiers, 2);
-    if (other < LENGTH) {
-        return at_word(CAPTIONS_FIXED, other);
-    }
-    if (words[LENGTH] != words[DC]) {
-        return at_word(CAPTIONS_LENGTH, LENGTH);
-    }
-    if (words[FORMAT] != 0x102) {
-        return at_word(CAPTIONS_FIXED, FORMAT);
-    }
-    size_t k = 0;
-    for (size_t i = DESCRIPTORS; i < STRUCTURES; i++) {
-        if (!line_holds(words[i] & 31)) {
-            return at_word(CAPTIONS_FIELD_OR_LINE, i);
-        }
-        k += (words[i] & 0xFF) != 0;
-    }
-    return len == MIN_WORDS + STRUCTURE_WORDS * k ? at_word(CAPTIONS_ACCEPTED, 0) : at_word(CAPTIONS_LENGTH, DC);
+    return (words[DC] & 0xFF) == len - 7 ? at_word(CAPTIONS_ACCEPTED, 0) : at_word(CAPTIONS_LENGTH, DC);
 }
 
-/* The rest of that order: the structures, the footer, the two sums. */
-static captions_refusal judge_tail(const uint16_t *words, size_t len)
+static captions_refusal judge_packet(const uint16_t *words, size_t len)
 {
-    static const uint16_t front[3] = {0x255, 0x255, 0x227};
-    size_t footer = len - 5;
-    for (size_t at = STRUCTURES; at < footer; at += STRUCTURE_WORDS) {
-        size_t other = first_other(words, at, front, 3);
-        if (other < at + 3) {
-            return at_word(CAPTIONS_RUN_IN, other);
-        }
+    captions_refusal refusal = judge_head(words, len);
+    if (refusal.number != CAPTIONS_ACCEPTED) {
+        return refusal;
     }
-    if (words[footer] != 0x274) {
-        return at_word(CAPTIONS_FIXED, footer);
-    }
-    uint16_t user = sum_of(words + USER, len - 1 - USER);
-    if ((user & 0xFF) != 0) {
-        return at_word(CAPTIONS_CHECKSUM, len - 2);
+    uint16_t user = 0;
+    refusal = judge_user(words + USER, len - 7, USER, &user);
+    if (refusal.number != CAPTIONS_ACCEPTED) {
+        return refusal;
     }
     uint16_t all = (uint16_t)(user + words[DID] + words[DID + 1] + words[DC]);
     return words[len - 1] == cs_word(all) ? at_word(CAPTIONS_ACCEPTED, 0) : at_word(CAPTIONS_CHECKSUM, len - 1);
@@ -156,10 +57,7 @@ static captions_refusal judge_tail(const uint16_t *words, size_t len)
 captions_packet plain_packet_read(const uint16_t *words, size_t len,
                                   captions_row rows[static CAPTIONS_SLOTS])
 {
-    captions_refusal refusal = judge_head(words, len);
-    if (refusal.number == CAPTIONS_ACCEPTED) {
-        refusal = judge_tail(words, len);
-    }
+    captions_refusal refusal = judge_packet(words, len);
     if (refusal.number != CAPTIONS_ACCEPTED) {
         return (captions_packet){.refusal = refusal};
     }

@@ -95,6 +95,8 @@ static const char *smallest_answer(operation op)
         return "ok len=0 out=-";
     if (op == AREA_READ || op == GA94_READ)
         return "ok none";
+    if (op == MULTI_READ)
+        return "ok priority=0 inners=0.0.00.00.-";
     if (op == PES_READ)
         return "ok identifier=16 units=-";
     if (op == PAYLOAD_READ)

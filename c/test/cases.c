@@ -4,6 +4,7 @@
 #include <string.h>
 
 #include "film_cases.h"
+#include "multi_cases.h"
 #include "mutate.h"
 #include "pes_cases.h"
 #include "reel_cases.h"
@@ -270,7 +271,8 @@ static operation some_operation(dice *d)
                                       PACKET_READ,  PACKET_READ,  PACKET_WRITE, PACKET_WRITE, PAYLOAD_READ, PAYLOAD_WRITE,
                                       FILM_RUN,     FILM_RUN,     PAYLOAD_REEL, PAYLOAD_REEL, PES_READ,     PES_READ,
                                       PES_READ,     PES_READ,     PES_WRITE,    PES_WRITE,    PES_CONVERT,  PES_CONVERT,
-                                      PES_CONVERT_VALUE,          PES_CONVERT_VALUE};
+                                      PES_CONVERT_VALUE,          PES_CONVERT_VALUE,          MULTI_READ,   MULTI_READ,
+                                      MULTI_READ,   MULTI_READ,   MULTI_WRITE,  MULTI_WRITE,  MULTI_WRITE,  MULTI_WRITE};
 
     return often[below(d, sizeof often / sizeof *often)];
 }
@@ -294,6 +296,8 @@ void make_case(dice *d, question *q)
         packet_read_case(d, q, legal);
     else if (q->op == PACKET_WRITE)
         packet_write_case(d, q, legal);
+    else if (q->op == MULTI_READ || q->op == MULTI_WRITE)
+        multi_case(d, q, legal);
     else if (q->op == PES_READ || q->op == PES_WRITE || q->op == PES_CONVERT || q->op == PES_CONVERT_VALUE)
         pes_case(d, q, legal);
     else if (q->op == PAYLOAD_READ)

@@ -15,6 +15,7 @@ static const char *number_name(operation op, size_t i)
     static const char *const unit[] = {"present", "reserved", "vbi_data_flag", "n", "z"};
     static const char *const ga94[] = {"present", "process_em_data_flag", "process_cc_data_flag", "additional_data_flag",
                                        "em_data", "n", "z"};
+    static const char *const multi[] = {"priority", "n"};
     static const char *const pes[] = {"data_identifier", "n"};
     static const char *const payload[] = {"flags", "m"};
     static const char *const slot[] = {"full", "line", "reserved", "field"};
@@ -30,6 +31,8 @@ static const char *number_name(operation op, size_t i)
         return unit[i - 2];
     if (op == GA94_READ)
         return ga94[i - 2];
+    if (op == MULTI_READ)
+        return multi[i - 2];
     if (op == PES_READ)
         return pes[i - 2];
     if (op == PAYLOAD_READ)
@@ -55,7 +58,7 @@ static uint8_t pattern_byte(const question *q, size_t i)
     uint16_t word = (uint16_t)(i / 2 * 37 + q->fill);
     uint8_t bytes[2];
 
-    if (q->op != PACKET_WRITE)
+    if (element_bytes(q->op) == 1)
         return (uint8_t)(i * 37 + q->fill);
     memcpy(bytes, &word, 2);
     return bytes[i % 2];

@@ -3,11 +3,9 @@
 #define CONVERT_NOTES_H
 
 #include "harness.h"
+#include "tell.h"
 
 enum { LINES = 32 };
-
-/* Takes a count under its name. */
-typedef void (*teller)(const char *, unsigned long);
 
 /* One conversion, by the model's outcome. */
 void note_conversion(const question *q, const outcome *by_model);
@@ -15,8 +13,7 @@ void note_conversion(const question *q, const outcome *by_model);
 /* Calls `with` for each count. */
 void tell_conversions(teller with);
 
-/* In pes_notes.c: the least of some counts; that of the legal lines, in both fields; and which lines a data field may have. */
-void tell_least(teller with, const char *name, const unsigned long *counts, size_t count);
+/* In pes_notes.c: the least count of the legal lines, in both fields; and which lines a data field may have. */
 void tell_lines(teller with, const char *name, unsigned long counts[2][LINES]);
 bool is_legal_line(unsigned line);
 

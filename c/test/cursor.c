@@ -1,6 +1,8 @@
 /* cursor.c: see cursor.h. */
 #include "cursor.h"
 
+#include <string.h>
+
 bool take(cursor *c, char wanted)
 {
     if (*c->at != wanted)
@@ -244,6 +246,79 @@ size_t take_data_unit_list(cursor *c, captions_data_unit *to)
                 to[len] = unit;
     } while (!c->bad && take(c, ','));
     return len;
+}
+
+/* `line.field.DID.SDID.` and the user bytes, without segments; `-` for none. A `*` behind them is of the inner packet. */
+static void take_inner(cursor *c, multi_value *to)
+{
+    captions_inner *inner = &to->inners[to->n];
+
+    inner->line = (uint16_t)take_number(c, UINT16_MAX);
+    need(c, '.');
+    inner->field = (uint16_t)take_number(c, UINT16_MAX);
+    need(c, '.');
+    inner->did = take_hex(c, 2);
+    need(c, '.');
+    inner->sdid = take_hex(c, 2);
+    need(c, '.');
+    inner->at = (uint16_t)to->len;
+    if (!take(c, '-'))
+        do {
+            to->words[to->len++] = layout_word((uint8_t)take_hex(c, 2));
+            c->bad = c->bad || to->len > UINT16_MAX;
+        } while (!c->bad && hex_digit(*c->at) >= 0);
+    inner->count = (uint16_t)(to->len - inner->at);
+    to->n++;
+}
+
+/* `*N` behind an inner packet: each has user words of its own. */
+static void repeat_inner(cursor *c, multi_value *to)
+{
+    for (size_t times = take_times(c); times > 1 && !c->bad; times--, to->n++) {
+        captions_inner inner = to->inners[to->n - 1];
+        if (to->n == MULTI_INNERS_MAX || to->len + inner.count > UINT16_MAX) {
+            c->bad = true;
+            return;
+        }
+        memcpy(to->words + to->len, to->words + inner.at, inner.count * sizeof *to->words);
+        inner.at = (uint16_t)to->len;
+        to->inners[to->n] = inner;
+        to->len += inner.count;
+    }
+}
+
+void take_inner_list(cursor *c, multi_value *to)
+{
+    to->n = to->len = 0;
+    if (take(c, '-'))
+        return;
+    do {
+        if (to->n == MULTI_INNERS_MAX)
+            c->bad = true;
+        else
+            take_inner(c, to);
+        if (!c->bad)
+            repeat_inner(c, to);
+    } while (!c->bad && take(c, ','));
+}
+
+void take_head_list(cursor *c, multi_value *to)
+{
+    to->n = 0;
+    if (take(c, '-'))
+        return;
+    do {
+        uint16_t numbers[6];
+        for (size_t i = 0; i < 6; i++) {
+            numbers[i] = (uint16_t)take_number(c, UINT16_MAX);
+            if (i < 5)
+                need(c, '.');
+        }
+        if (to->n == MULTI_INNERS_MAX)
+            c->bad = true;
+        else
+            memcpy(&to->inners[to->n++], numbers, sizeof numbers);
+    } while (!c->bad && take(c, ','));
 }
 
 /* A flag is one digit. A case may have one that is no bit. */

@@ -29,6 +29,13 @@ size_t take_ga94_list(cursor *c, captions_ga94_record *to);
 size_t take_unit_list(cursor *c, captions_access_unit *to, size_t most);
 size_t take_data_unit_list(cursor *c, captions_data_unit *to);
 
+/*
+ * Inner packets, their user words one behind the other in the words of the value, with the parity bits that they must have. And
+ * those that are told by the six numbers of C's struct, decimals joined by `.`.
+ */
+void take_inner_list(cursor *c, multi_value *to);
+void take_head_list(cursor *c, multi_value *to);
+
 /* GA94's three flags: digits 0 or 1 in stream order. Larger ones, which no file has, are decimals joined by `.`. */
 void take_flags(cursor *c, ga94_value *to);
 

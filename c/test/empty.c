@@ -11,53 +11,65 @@
 
 #include "harness.h"
 
+/* What has no elements. The input of a reel is its run; that of multi_write its words, beside which are inner packets. */
+enum { INPUT = 1, OUTPUT = 2, INNERS = 4 };
+
 typedef struct empty_case {
     const char *what;
     operation op;
-    bool input, output; /* which of them is empty; the input of a reel is its run */
-    bool legal;         /* whether the value to write is */
-    uint8_t number;     /* the refusal by RULES */
-    size_t len;         /* how many elements a writer wrote */
+    unsigned empty; /* one or more of these */
+    bool legal;     /* whether the value to write is */
+    uint8_t number; /* the refusal by RULES */
+    size_t len;     /* how many elements a writer wrote */
 } empty_case;
 
-enum { UNIT_BYTES = 11, GA94_BYTES = 15 };
+enum { UNIT_BYTES = 11, GA94_BYTES = 15, MULTI_WORDS = 13 };
 
 static const empty_case cases[] = {
-    {"area_read: area", AREA_READ, true, false, true, 0, 0},
-    {"unit_write: out", UNIT_WRITE, false, true, true, 14, 0},
-    {"unit_write: out, a value that is not legal", UNIT_WRITE, false, true, false, 15, 0},
-    {"area_replace: area", AREA_REPLACE, true, false, true, 0, UNIT_BYTES},
-    {"area_replace: area, a value that is not legal", AREA_REPLACE, true, false, false, 15, 0},
-    {"area_replace: out", AREA_REPLACE, false, true, true, 14, 0},
-    {"area_replace: area and out", AREA_REPLACE, true, true, true, 14, 0},
-    {"ga94_read: area", GA94_READ, true, false, true, 0, 0},
-    {"ga94_write: out", GA94_WRITE, false, true, true, 14, 0},
-    {"ga94_write: out, a value that is not legal", GA94_WRITE, false, true, false, 15, 0},
-    {"ga94_replace: area", GA94_REPLACE, true, false, true, 0, GA94_BYTES},
-    {"ga94_replace: area, a value that is not legal", GA94_REPLACE, true, false, false, 15, 0},
-    {"ga94_replace: out", GA94_REPLACE, false, true, true, 14, 0},
-    {"ga94_replace: area and out", GA94_REPLACE, true, true, true, 14, 0},
-    {"packet_read: words", PACKET_READ, true, false, true, 5, 0},
-    {"packet_write: out", PACKET_WRITE, false, true, true, 14, 0},
-    {"packet_write: out, a value that is not legal", PACKET_WRITE, false, true, false, 15, 0},
-    {"pes_read: field", PES_READ, true, false, true, 5, 0},
-    {"pes_write: out", PES_WRITE, false, true, true, 14, 0},
-    {"pes_write: out, a value that is not legal", PES_WRITE, false, true, false, 15, 0},
-    {"pes_convert: words", PES_CONVERT, true, false, true, 5, 0},
-    {"pes_convert: out", PES_CONVERT, false, true, true, 14, 0},
-    {"pes_convert: out, a line that is not legal", PES_CONVERT, false, true, false, 7, 0},
-    {"pes_convert: words and out", PES_CONVERT, true, true, true, 5, 0},
-    {"pes_convert_value: out", PES_CONVERT_VALUE, false, true, true, 14, 0},
-    {"pes_convert_value: out, a value that is not legal", PES_CONVERT_VALUE, false, true, false, 15, 0},
-    {"payload_read: payload", PAYLOAD_READ, true, false, true, 2, 0},
-    {"payload_write: out", PAYLOAD_WRITE, false, true, true, 14, 0},
-    {"payload_write: out, a value that is not legal", PAYLOAD_WRITE, false, true, false, 15, 0},
-    {"reel_write and _bytes: units", PAYLOAD_REEL, true, false, true, 0, 0},
-    {"reel_write and _bytes: units, a value that is not legal", PAYLOAD_REEL, true, false, false, 15, 0},
-    {"reel_write and _bytes: out", PAYLOAD_REEL, false, true, true, 14, 0},
-    {"reel_write and _bytes: out, a value that is not legal", PAYLOAD_REEL, false, true, false, 15, 0},
-    {"reel_write and _bytes: units and out", PAYLOAD_REEL, true, true, true, 0, 0},
-    {"reel_write and _bytes: units and out, a value that is not legal", PAYLOAD_REEL, true, true, false, 15, 0},
+    {"area_read: area", AREA_READ, INPUT, true, 0, 0},
+    {"unit_write: out", UNIT_WRITE, OUTPUT, true, 14, 0},
+    {"unit_write: out, a value that is not legal", UNIT_WRITE, OUTPUT, false, 15, 0},
+    {"area_replace: area", AREA_REPLACE, INPUT, true, 0, UNIT_BYTES},
+    {"area_replace: area, a value that is not legal", AREA_REPLACE, INPUT, false, 15, 0},
+    {"area_replace: out", AREA_REPLACE, OUTPUT, true, 14, 0},
+    {"area_replace: area and out", AREA_REPLACE, INPUT | OUTPUT, true, 14, 0},
+    {"ga94_read: area", GA94_READ, INPUT, true, 0, 0},
+    {"ga94_write: out", GA94_WRITE, OUTPUT, true, 14, 0},
+    {"ga94_write: out, a value that is not legal", GA94_WRITE, OUTPUT, false, 15, 0},
+    {"ga94_replace: area", GA94_REPLACE, INPUT, true, 0, GA94_BYTES},
+    {"ga94_replace: area, a value that is not legal", GA94_REPLACE, INPUT, false, 15, 0},
+    {"ga94_replace: out", GA94_REPLACE, OUTPUT, true, 14, 0},
+    {"ga94_replace: area and out", GA94_REPLACE, INPUT | OUTPUT, true, 14, 0},
+    {"packet_read: words", PACKET_READ, INPUT, true, 5, 0},
+    {"packet_write: out", PACKET_WRITE, OUTPUT, true, 14, 0},
+    {"packet_write: out, a value that is not legal", PACKET_WRITE, OUTPUT, false, 15, 0},
+    {"multi_read: words", MULTI_READ, INPUT, true, 5, 0},
+    {"multi_write: words", MULTI_WRITE, INPUT, true, 0, MULTI_WORDS},
+    {"multi_write: words, a value that is not legal", MULTI_WRITE, INPUT, false, 15, 0},
+    {"multi_write: out", MULTI_WRITE, OUTPUT, true, 14, 0},
+    {"multi_write: words and out", MULTI_WRITE, INPUT | OUTPUT, true, 14, 0},
+    {"multi_write: inners", MULTI_WRITE, INNERS, true, 26, 0},
+    {"multi_write: inners, a value that is not legal", MULTI_WRITE, INNERS, false, 15, 0},
+    {"multi_write: inners and words", MULTI_WRITE, INPUT | INNERS, true, 26, 0},
+    {"multi_write: inners, words and out", MULTI_WRITE, INPUT | INNERS | OUTPUT, true, 26, 0},
+    {"pes_read: field", PES_READ, INPUT, true, 5, 0},
+    {"pes_write: out", PES_WRITE, OUTPUT, true, 14, 0},
+    {"pes_write: out, a value that is not legal", PES_WRITE, OUTPUT, false, 15, 0},
+    {"pes_convert: words", PES_CONVERT, INPUT, true, 5, 0},
+    {"pes_convert: out", PES_CONVERT, OUTPUT, true, 14, 0},
+    {"pes_convert: out, a line that is not legal", PES_CONVERT, OUTPUT, false, 7, 0},
+    {"pes_convert: words and out", PES_CONVERT, INPUT | OUTPUT, true, 5, 0},
+    {"pes_convert_value: out", PES_CONVERT_VALUE, OUTPUT, true, 14, 0},
+    {"pes_convert_value: out, a value that is not legal", PES_CONVERT_VALUE, OUTPUT, false, 15, 0},
+    {"payload_read: payload", PAYLOAD_READ, INPUT, true, 2, 0},
+    {"payload_write: out", PAYLOAD_WRITE, OUTPUT, true, 14, 0},
+    {"payload_write: out, a value that is not legal", PAYLOAD_WRITE, OUTPUT, false, 15, 0},
+    {"reel_write and _bytes: units", PAYLOAD_REEL, INPUT, true, 0, 0},
+    {"reel_write and _bytes: units, a value that is not legal", PAYLOAD_REEL, INPUT, false, 15, 0},
+    {"reel_write and _bytes: out", PAYLOAD_REEL, OUTPUT, true, 14, 0},
+    {"reel_write and _bytes: out, a value that is not legal", PAYLOAD_REEL, OUTPUT, false, 15, 0},
+    {"reel_write and _bytes: units and out", PAYLOAD_REEL, INPUT | OUTPUT, true, 0, 0},
+    {"reel_write and _bytes: units and out, a value that is not legal", PAYLOAD_REEL, INPUT | OUTPUT, false, 15, 0},
 };
 
 static question q;
@@ -126,6 +138,25 @@ static captions_written eager_packet_write(uint32_t counter, const captions_slot
     return captions_packet_write(counter, slots, rows, out, room);
 }
 
+static captions_multi eager_multi_read(const uint16_t *words, size_t len, captions_inner *inners)
+{
+    touch(words);
+    return captions_multi_read(words, len, inners);
+}
+
+/* Only one of the three is touched, one that is empty if there is such. */
+static captions_written eager_multi_write(uint32_t priority, const captions_inner *inners, size_t n, const uint16_t *words,
+                                          size_t len, uint16_t *out, size_t room)
+{
+    if (n == 0)
+        touch(inners);
+    else if (len == 0)
+        touch(words);
+    else
+        touch(out);
+    return captions_multi_write(priority, inners, n, words, len, out, room);
+}
+
 static captions_pes eager_pes_read(const uint8_t *field, size_t len, captions_data_unit *units)
 {
     touch(field);
@@ -188,7 +219,8 @@ static captions_written eager_reel_write_bytes(uint32_t flags, size_t size, cons
 
 static const calls eager_calls = {eager_area_read,       eager_unit_write,    eager_area_replace, eager_ga94_read,
                                   eager_ga94_write,      eager_ga94_replace,  eager_packet_read,  eager_packet_write,
-                                  eager_pes_read,        eager_pes_write,     eager_pes_convert,  eager_pes_convert_value,
+                                  eager_multi_read,      eager_multi_write,   eager_pes_read,     eager_pes_write,
+                                  eager_pes_convert,     eager_pes_convert_value,
                                   eager_payload_read,    eager_payload_write, eager_reel_write,   eager_reel_write_bytes,
                                   captions_film_picture, captions_film_close};
 
@@ -212,17 +244,18 @@ static size_t packet_of_one_line(uint8_t line)
 static void make_question(const empty_case *c, side at, bool as_bytes)
 {
     static const uint8_t area[] = {0x00, 0x00, 0x01, 0xB2, 0x47};
+    bool input = c->empty & INPUT;
 
     memset(&q, 0, sizeof q);
     q.op = c->op;
     q.fill = FILL;
     q.at = at;
     q.nulls = true;
-    if (!c->input) {
+    if (!input) {
         memcpy(q.bytes, area, sizeof area);
         q.len = sizeof area;
     }
-    q.room = c->output ? 0 : 64;
+    q.room = c->empty & OUTPUT ? 0 : 64;
     q.unit.reserved = c->legal ? 64 : 128;
     q.unit.vbi_data_flag = 1;
     q.unit.n = 1;
@@ -232,15 +265,20 @@ static void make_question(const empty_case *c, side at, bool as_bytes)
     q.ga94.n = 1;
     q.ga94.records[0] = (captions_ga94_record){1, 0, 0x94, 0x2C};
     q.packet.counter = c->legal ? 4660 : 65536;
-    if (q.op == PES_CONVERT && !c->input)
+    if (q.op == PES_CONVERT && !input)
         q.len = packet_of_one_line(c->legal ? 7 : 6);
+    q.multi.priority = c->legal ? 1 : 256;
+    q.multi.n = c->empty & INNERS ? 0 : 1;
+    q.multi.inners[0] = (captions_inner){10, 1, 0x50, 0x01, 0, input ? 0 : 1};
+    q.multi.len = input ? 0 : 1;
+    q.multi.words[0] = layout_word(0x08);
     q.pes.data_identifier = c->legal ? 16 : 272;
     q.payload.flags = c->legal ? 0 : 256;
     q.payload.m = 1;
     q.payload.units[0] = (captions_access_unit){1, 0, 0, 0x94, 0x2C, 0x00, 0x00};
     q.as_bytes = as_bytes;
     q.reel.size = c->legal ? CAPTIONS_ACCESS_UNITS : CAPTIONS_ACCESS_UNITS + 1;
-    q.reel.n = c->input ? 0 : 1;
+    q.reel.n = input ? 0 : 1;
     q.reel.units[0] = q.payload.units[0];
 }
 

@@ -100,6 +100,36 @@ static void packets()
     expect_refused("a packet and no room", made.refusal, CAPTIONS_NO_ROOM);
 }
 
+static void multipackets()
+{
+    const std::vector<uint16_t> none;
+    const std::vector<captions_inner> no_inners;
+    const std::vector<captions_inner> one(1, captions_inner{10, 1, 0x50, 0x01, 0, 0});
+    std::vector<uint16_t> no_room, out(32, 0xA5A5);
+    captions_inner inners[CAPTIONS_INNERS];
+
+    std::memset(inners, 0xA5, sizeof inners);
+    captions_multi multi = captions_multi_read(none.data(), none.size(), inners);
+    expect_refused("a multipacket of no words", multi.refusal, CAPTIONS_ENDS);
+    expect("a refused multipacket leaves the inner packets alone", is_all(inners, 0xA5));
+    captions_written made = captions_multi_write(1, no_inners.data(), no_inners.size(), none.data(), none.size(), no_room.data(),
+                                                 no_room.size());
+    expect_refused("a multipacket of no inner packets", made.refusal, CAPTIONS_NO_INNER);
+    made = captions_multi_write(256, no_inners.data(), no_inners.size(), none.data(), none.size(), no_room.data(), no_room.size());
+    expect_refused("a priority of 256 and no inner packets", made.refusal, CAPTIONS_UNHOLDABLE);
+    made = captions_multi_write(1, one.data(), one.size(), none.data(), none.size(), no_room.data(), no_room.size());
+    expect_refused("a multipacket and no room", made.refusal, CAPTIONS_NO_ROOM);
+    made = captions_multi_write(1, one.data(), one.size(), none.data(), none.size(), out.data(), out.size());
+    expect_refused("a multipacket without user words", made.refusal, CAPTIONS_ACCEPTED);
+    const uint16_t right[] = {0x000, 0x3FF, 0x3FF, 0x143, 0x203, 0x206, 0x101, 0x12A, 0x250, 0x101, 0x200, 0x151, 0x219};
+    expect("the words of that multipacket", made.len == 13 && std::memcmp(out.data(), right, sizeof right) == 0);
+    expect("what stands behind that multipacket", out[13] == 0xA5A5);
+    multi = captions_multi_read(out.data(), made.len, inners);
+    expect_refused("that multipacket is read", multi.refusal, CAPTIONS_ACCEPTED);
+    expect("its inner packet", multi.priority == 1 && multi.n == 1 && inners[0].line == 10 && inners[0].field == 1 &&
+                                   inners[0].did == 0x50 && inners[0].sdid == 0x01 && inners[0].at == 11 && inners[0].count == 0);
+}
+
 static void data_fields()
 {
     const std::vector<uint8_t> none;
@@ -183,6 +213,7 @@ int main()
     areas();
     ga94();
     packets();
+    multipackets();
     data_fields();
     payloads();
     reels();

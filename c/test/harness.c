@@ -8,21 +8,27 @@
 
 const calls library_calls = {captions_area_read,    captions_unit_write,    captions_area_replace, captions_ga94_read,
                              captions_ga94_write,   captions_ga94_replace,  captions_packet_read,  captions_packet_write,
-                             captions_pes_read,     captions_pes_write,     captions_pes_convert,  captions_pes_convert_value,
+                             captions_multi_read,   captions_multi_write,   captions_pes_read,     captions_pes_write,
+                             captions_pes_convert,  captions_pes_convert_value,
                              captions_payload_read, captions_payload_write, captions_reel_write,   captions_reel_write_bytes,
                              captions_film_picture, captions_film_close};
 const calls model_calls = {model_area_read,    model_unit_write,    model_area_replace, model_ga94_read,
                            model_ga94_write,   model_ga94_replace,  model_packet_read,  model_packet_write,
-                           model_pes_read,     model_pes_write,     model_pes_convert,  model_pes_convert_value,
+                           model_multi_read,   model_multi_write,   model_pes_read,     model_pes_write,
+                           model_pes_convert,  model_pes_convert_value,
                            model_payload_read, model_payload_write, model_reel_write,   model_reel_write_bytes,
                            model_film_picture, model_film_close};
 
-const char *const operation_names[OPERATIONS] = {"area read",    "unit write",    "area replace", "ga94 read",
-                                                 "ga94 write",   "ga94 replace",  "packet read",  "packet write",
-                                                 "pes read",     "pes write",     "pes convert",  "pes convertvalue",
-                                                 "payload read", "payload write", "payload reel", "film run"};
+const char *const operation_names[OPERATIONS] = {"area read",   "unit write",       "area replace", "ga94 read",
+                                                 "ga94 write",  "ga94 replace",     "packet read",  "packet write",
+                                                 "multi read",  "multi write",      "pes read",     "pes write",
+                                                 "pes convert", "pes convertvalue", "payload read", "payload write",
+                                                 "payload reel", "film run"};
 
-/* What one call is lent: an input, a second one (records, units, or slots with rows apart), and one output. */
+/*
+ * What one call is lent: an input, a second one (records, units, inner packets, or slots with rows apart), and one output. The
+ * words beside inner packets that are written are the first input.
+ */
 static arena first_arena, second_arena, rows_arena, output_arena;
 
 typedef struct loan {
@@ -33,8 +39,8 @@ typedef struct loan {
 
 void harness_open(void)
 {
-    arena_open(&first_arena, INPUT_MAX);
-    arena_open(&second_arena, sizeof(reel_value));
+    arena_open(&first_arena, MULTI_LENT_MAX * sizeof(uint16_t)); /* and not INPUT_MAX, which is less */
+    arena_open(&second_arena, MULTI_INNERS_MAX * sizeof(captions_inner)); /* nor a reel, which is less */
     arena_open(&rows_arena, CAPTIONS_SLOTS * sizeof(captions_row));
     arena_open(&output_arena, OUTPUT_MAX);
     film_open();
@@ -43,7 +49,7 @@ void harness_open(void)
 
 bool is_writer(operation op)
 {
-    return takes_unit(op) || takes_ga94(op) || takes_packet(op) || op == PES_WRITE || op == PES_CONVERT ||
+    return takes_unit(op) || takes_ga94(op) || takes_packet(op) || op == MULTI_WRITE || op == PES_WRITE || op == PES_CONVERT ||
            op == PAYLOAD_WRITE || op == PAYLOAD_REEL;
 }
 
@@ -54,7 +60,7 @@ bool takes_input(operation op)
 
 bool takes_words(operation op)
 {
-    return op == PACKET_READ || op == PES_CONVERT;
+    return op == PACKET_READ || op == MULTI_READ || op == PES_CONVERT;
 }
 
 bool takes_unit(operation op)
@@ -74,7 +80,7 @@ bool takes_packet(operation op)
 
 size_t element_bytes(operation op)
 {
-    return op == PACKET_WRITE ? 2 : 1;
+    return op == PACKET_WRITE || op == MULTI_WRITE ? 2 : 1;
 }
 
 /* ---- Lending ---- */
@@ -88,6 +94,8 @@ static size_t output_size(const question *q)
         return CAPTIONS_RECORDS * sizeof(captions_ga94_record);
     case PACKET_READ:
         return CAPTIONS_SLOTS * sizeof(captions_row);
+    case MULTI_READ:
+        return CAPTIONS_INNERS * sizeof(captions_inner);
     case PES_READ:
         return CAPTIONS_PES_UNITS * sizeof(captions_data_unit);
     case PAYLOAD_READ:
@@ -99,7 +107,7 @@ static size_t output_size(const question *q)
 
 static void fill_pattern(const question *q, uint8_t *to, size_t size)
 {
-    if (q->op == PACKET_WRITE) {
+    if (element_bytes(q->op) == 2) {
         for (size_t i = 0; i < size / 2; i++) {
             uint16_t word = (uint16_t)(i * 37 + q->fill);
             memcpy(to + 2 * i, &word, 2);
@@ -135,6 +143,11 @@ static void choose_inputs(const question *q, loan *l)
         l->second = q->packet.slots;
         l->second_size = sizeof q->packet.slots;
         l->rows_size = sizeof q->packet.rows;
+    } else if (q->op == MULTI_WRITE) {
+        l->first = q->multi.words;
+        l->first_size = q->multi.len * sizeof *q->multi.words;
+        l->second = q->multi.inners;
+        l->second_size = q->multi.n * sizeof *q->multi.inners;
     } else if (q->op == PES_WRITE) {
         l->second = q->pes.units;
         l->second_size = sizeof q->pes.units;
@@ -233,6 +246,13 @@ static void set_packet(outcome *got, captions_packet answer)
     }
 }
 
+static void set_multi(outcome *got, captions_multi answer)
+{
+    set_refusal(got, answer.refusal);
+    got->numbers[2] = answer.priority;
+    got->numbers[3] = answer.n;
+}
+
 static void set_pes(outcome *got, captions_pes answer)
 {
     set_refusal(got, answer.refusal);
@@ -257,6 +277,7 @@ static void call(const calls *who, const question *q, const loan *l, outcome *go
 {
     const unit_value *u = &q->unit;
     const ga94_value *g = &q->ga94;
+    const multi_value *m = &q->multi;
     const reel_value *r = &q->reel;
     void *output = given(who, q, l->output_lent, l->output_size);
     const void *first = given(who, q, l->first_lent, l->first_size), *second = given(who, q, l->second_lent, l->second_size);
@@ -288,6 +309,12 @@ static void call(const calls *who, const question *q, const loan *l, outcome *go
         break;
     case PACKET_WRITE:
         set_written(got, who->packet_write(q->packet.counter, second, rows, output, q->room));
+        break;
+    case MULTI_READ:
+        set_multi(got, who->multi_read(first, q->len, output));
+        break;
+    case MULTI_WRITE:
+        set_written(got, who->multi_write(m->priority, second, m->n, first, m->len, output, q->room));
         break;
     case PES_READ:
         set_pes(got, who->pes_read(first, q->len, output));
@@ -353,7 +380,7 @@ static bool do_spoil(spoil spoiling, const question *q, const loan *l, const out
 
 static size_t number_count(operation op)
 {
-    static const size_t counts[OPERATIONS] = {7, 3, 3, 9, 3, 3, 23, 3, 4, 3, 3, 3, 4, 3, 3, 0};
+    static const size_t counts[OPERATIONS] = {7, 3, 3, 9, 3, 3, 23, 3, 4, 3, 4, 3, 3, 3, 4, 3, 3, 0};
 
     return counts[op];
 }

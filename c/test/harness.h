@@ -19,6 +19,8 @@ typedef enum operation {
     GA94_REPLACE,
     PACKET_READ,
     PACKET_WRITE,
+    MULTI_READ,
+    MULTI_WRITE,
     PES_READ,
     PES_WRITE,
     PES_CONVERT,       /* from a packet's words */
@@ -33,11 +35,11 @@ typedef enum operation {
 enum {
     INPUT_MAX = 70000,  /* bytes of the longest input */
     OUTPUT_MAX = 90000, /* bytes of the longest lent output */
-    WORDS_MAX = 1000,   /* words of the longest packet input or output */
+    WORDS_MAX = 1000,   /* words of the longest packet or multipacket, as an input or an output */
     FILM_NUMBERS = 3,   /* numbers of one answer of film: number, place, m */
     FILM_BYTES = CAPTIONS_FILM_UNITS * sizeof(captions_access_unit), /* bytes of the output of one call of film */
     NUMBERS_MAX = FILM_NUMBERS * FILM_CALLS_MAX,
-    REFUSAL_MAX = CAPTIONS_SURPLUS_UNIT, /* the highest number of a refusal */
+    REFUSAL_MAX = CAPTIONS_NO_INNER, /* the highest number of a refusal */
     FILL = 11 /* the pattern of vectors/: element i is i * 37 + 11 */
 };
 
@@ -46,12 +48,13 @@ typedef struct question {
     uint16_t fill;            /* what the pattern of the lent output begins with */
     side at;                  /* which side of each lent piece is untouchable */
     bool nulls;               /* the library is given a null pointer for an input or an output of no elements */
-    size_t len;               /* elements of the input: bytes, or words of a packet */
+    size_t len;               /* elements of the input: bytes, or words of a packet or a multipacket */
     uint8_t bytes[INPUT_MAX]; /* an area, a data field or a payload */
     uint16_t words[WORDS_MAX];
     unit_value unit;
     ga94_value ga94;
     packet_value packet;
+    multi_value multi;
     pes_value pes;
     payload_value payload;
     reel_value reel;
@@ -64,13 +67,13 @@ typedef struct outcome {
     size_t count;
     uint64_t numbers[NUMBERS_MAX]; /* number, place, and all else that the answer holds, in the order of captions.h */
     size_t size;
-    uint8_t memory[OUTPUT_MAX]; /* the lent output in bytes: records, rows, units, or what was written */
+    uint8_t memory[OUTPUT_MAX]; /* the lent output in bytes: records, rows, inner packets, units, or what was written */
     captions_film states[FILM_CALLS_MAX]; /* of film: the state behind each call */
     bool all_states;                      /* whether all of them are known. A line of the vectors gives the last one alone. */
     const char *damage;                   /* what became of memory that was not to be stored to; null where nothing did */
 } outcome;
 
-/* The eighteen calls of the library or of the model. */
+/* The twenty calls of the library or of the model. */
 typedef struct calls {
     captions_unit (*area_read)(const uint8_t *, size_t, captions_record *);
     captions_written (*unit_write)(uint32_t, uint32_t, size_t, size_t, const captions_record *, uint8_t *, size_t);
@@ -83,6 +86,8 @@ typedef struct calls {
                                      const captions_ga94_record *, uint8_t *, size_t);
     captions_packet (*packet_read)(const uint16_t *, size_t, captions_row *);
     captions_written (*packet_write)(uint32_t, const captions_slot *, const captions_row *, uint16_t *, size_t);
+    captions_multi (*multi_read)(const uint16_t *, size_t, captions_inner *);
+    captions_written (*multi_write)(uint32_t, const captions_inner *, size_t, const uint16_t *, size_t, uint16_t *, size_t);
     captions_pes (*pes_read)(const uint8_t *, size_t, captions_data_unit *);
     captions_written (*pes_write)(uint32_t, size_t, const captions_data_unit *, uint8_t *, size_t);
     captions_written (*pes_convert)(const uint16_t *, size_t, uint8_t *, size_t);
@@ -127,8 +132,8 @@ uint64_t refusal_of(const question *q, const outcome *o);
 const char *difference(const question *q, const outcome *expected, const outcome *got);
 
 bool is_writer(operation op);
-bool takes_input(operation op);  /* an area, a packet, a data field or a payload: each reader, replacing, and converting words */
-bool takes_words(operation op);  /* a packet as its input */
+bool takes_input(operation op);  /* what is read: each reader has it, replacing, and converting words */
+bool takes_words(operation op);  /* a packet or a multipacket as its input */
 bool takes_unit(operation op);   /* the value of an SCTE 20 caption unit */
 bool takes_ga94(operation op);   /* the value of a GA94 unit */
 bool takes_packet(operation op); /* the value of a packet */

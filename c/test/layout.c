@@ -128,14 +128,20 @@ void layout_sdp_checksum(uint16_t *words, size_t len)
     words[len - 2] = layout_word((uint8_t)(256 - sum % 256));
 }
 
-void layout_cs(uint16_t *words, size_t len)
+/* CS of the words that it covers: their nine-bit sum, and b9 the inverse of b8. */
+static uint16_t cs_of(const uint16_t *words, size_t count)
 {
     unsigned sum = 0;
 
-    for (size_t i = 3; i < len - 1; i++)
+    for (size_t i = 0; i < count; i++)
         sum += words[i] & 0x1FF;
     sum %= 512;
-    words[len - 1] = (uint16_t)(sum | (sum < 0x100 ? 0x200 : 0));
+    return (uint16_t)(sum | (sum < 0x100 ? 0x200 : 0));
+}
+
+void layout_cs(uint16_t *words, size_t len)
+{
+    words[len - 1] = cs_of(words + 3, len - 4);
 }
 
 static size_t put_structure(const captions_row *row, uint16_t *out)
@@ -169,6 +175,51 @@ size_t layout_packet(const packet_value *value, uint16_t *out)
     len += 2; /* SDP checksum, CS */
     out[5] = out[8] = layout_word((uint8_t)(len - 7)); /* DC and LENGTH are 13 + 45k, the packet has 20 + 45k words */
     layout_sdp_checksum(out, len);
+    layout_cs(out, len);
+    return len;
+}
+
+/* ---- Multipacket (RULES, "Multipacket") ---- */
+
+/* LINE/FIELD is not among the words that NCS covers: those are NDID, NSDID, NDC and the user words. */
+void layout_ncs(uint16_t *inner, size_t count)
+{
+    inner[LAYOUT_NUSER + count] = cs_of(inner + 1, LAYOUT_NDC + count);
+}
+
+size_t layout_inner(const captions_inner *inner, const uint16_t *words, uint16_t *out)
+{
+    out[0] = layout_word((uint8_t)((inner->line & 31) | (inner->field & 1) << 5));
+    out[1] = layout_word((uint8_t)inner->did);
+    out[2] = layout_word((uint8_t)inner->sdid);
+    out[LAYOUT_NDC] = layout_word((uint8_t)inner->count);
+    memcpy(out + LAYOUT_NUSER, words + inner->at, inner->count * sizeof *out);
+    layout_ncs(out, inner->count);
+    return LAYOUT_INNER + (size_t)inner->count;
+}
+
+size_t layout_multi_user(const multi_value *value)
+{
+    size_t count = 1;
+
+    for (size_t i = 0; i < value->n; i++)
+        count += LAYOUT_INNER + (size_t)value->inners[i].count;
+    return count;
+}
+
+size_t layout_multi(const multi_value *value, uint16_t *out)
+{
+    size_t len = LAYOUT_INNERS;
+
+    out[0] = 0x000;
+    out[1] = out[2] = 0x3FF;
+    out[3] = layout_word(0x43); /* DID */
+    out[4] = layout_word(0x03); /* SDID */
+    out[LAYOUT_DC] = layout_word((uint8_t)layout_multi_user(value));
+    out[LAYOUT_USER] = layout_word((uint8_t)value->priority);
+    for (size_t i = 0; i < value->n; i++)
+        len += layout_inner(&value->inners[i], value->words, out + len);
+    len++;
     layout_cs(out, len);
     return len;
 }

@@ -10,8 +10,8 @@
 #include "captions.h"
 
 /*
- * The values of RULES: what a unit of either kind, a packet, a data field, a payload and a reel of them are written from, and
- * what a run of film is given.
+ * The values of RULES: what a unit of either kind, a packet, a multipacket, a data field, a payload and a reel of them are
+ * written from, and what a run of film is given.
  */
 typedef struct unit_value {
     uint32_t reserved;
@@ -36,6 +36,20 @@ typedef struct packet_value {
     captions_slot slots[CAPTIONS_SLOTS];
     captions_row rows[CAPTIONS_SLOTS];
 } packet_value;
+
+/* Inner packets, and the words among which their user words stand. Some may stand nowhere, and two may share theirs. */
+enum {
+    MULTI_INNERS_MAX = 13200, /* without user words they take more words than 16 bits count */
+    MULTI_LENT_MAX = 66000    /* and so does one inner packet that has all of these */
+};
+
+typedef struct multi_value {
+    uint32_t priority;
+    size_t n;
+    captions_inner inners[MULTI_INNERS_MAX];
+    size_t len;
+    uint16_t words[MULTI_LENT_MAX];
+} multi_value;
 
 typedef struct pes_value {
     uint32_t data_identifier;
@@ -89,10 +103,17 @@ enum {
     LAYOUT_GA94_FIRST = 7,    /* the byte of a GA94 body at which the first construct begins */
     LAYOUT_GA94_TRIPLE = 3,   /* bytes of a GA94 construct */
     LAYOUT_UNIT_MAX = 4 + 104 + CAPTIONS_AREA_BYTES, /* bytes of the longest unit that layout_unit or layout_ga94 stores */
-    LAYOUT_USER = 6,          /* the word of a packet at which the user words begin */
+    LAYOUT_DC = 5,            /* the word of a packet or a multipacket that counts its user words */
+    LAYOUT_USER = 6,          /* the word at which they begin */
     LAYOUT_DESCRIPTORS = 10,  /* the word of the first descriptor */
     LAYOUT_STRUCTURES = 15,   /* the word at which the structures begin */
     LAYOUT_STRUCTURE = 45,    /* words of a structure */
+    LAYOUT_SUBTITLES = 13,    /* the fewest user words of a packet */
+    LAYOUT_INNERS = 7,        /* the word of a multipacket at which the inner packets begin, behind the priority */
+    LAYOUT_NDC = 3,           /* the word of an inner packet that counts its user words */
+    LAYOUT_NUSER = 4,         /* the word at which they begin */
+    LAYOUT_INNER = 5,         /* words of an inner packet without user words */
+    LAYOUT_MULTI_USER = 255,  /* the most user words of a multipacket, its priority among them */
     LAYOUT_DATA_UNIT = 46,    /* bytes of a unit of a data field; the first begins with byte 1 */
     LAYOUT_TELETEXT_ID = 3,   /* the data_unit_id that a conversion gives */
     LAYOUT_STUFFING_ID = 255  /* that of stuffing */
@@ -117,9 +138,21 @@ size_t layout_packet(const packet_value *value, uint16_t *out);
 /* The word of a byte: the byte, b8 its even parity, b9 the inverse of b8 (SMPTE 291M). */
 uint16_t layout_word(uint8_t byte);
 
-/* Stores anew the SDP checksum and CS of a packet of len words, 20 at least. */
+/* Stores anew the SDP checksum and CS of a packet of len words, 20 at least. CS of a multipacket is stored alike. */
 void layout_sdp_checksum(uint16_t *words, size_t len);
 void layout_cs(uint16_t *words, size_t len);
+
+/* Stores anew NCS of an inner packet that has `count` user words, whatever its NDC says. */
+void layout_ncs(uint16_t *inner, size_t count);
+
+/* Stores an inner packet, 5 words and its user words, which are among `words`. Gives how many they are in all. */
+size_t layout_inner(const captions_inner *inner, const uint16_t *words, uint16_t *out);
+
+/* Stores a multipacket and gives its words. The caller has the room, and all user words are among those that are lent. */
+size_t layout_multi(const multi_value *value, uint16_t *out);
+
+/* How many user words it has: the priority, and the inner packets. */
+size_t layout_multi_user(const multi_value *value);
 
 /* A byte with its bits in the other order, as the teletext of a data field has it. */
 uint8_t layout_reversed(uint8_t byte);

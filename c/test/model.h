@@ -1,5 +1,5 @@
 /*
- * model.h: the eighteen calls of captions.h once more, written from documents 01, 02 and 003, the sources of docs/RULES.md.
+ * model.h: the twenty calls of captions.h once more, written from documents 01, 02 and 003, the sources of docs/RULES.md.
  *
  * The model shares nothing with the library but the types of captions.h. It is meant to be read beside RULES: one check
  * after the other, in the order of checks, bit by bit, and slow.
@@ -34,6 +34,24 @@ captions_packet model_packet_read(const uint16_t *words, size_t len, captions_ro
 
 captions_written model_packet_write(uint32_t counter, const captions_slot *slots, const captions_row *rows,
                                     uint16_t *out, size_t room);
+
+/* What a packet and a multipacket share. A word of SMPTE 291M: b8 the even parity of b7 to b0, b9 the inverse of b8. */
+bool model_word_is_right(uint16_t word);
+
+/* CS by itself, b8 of which belongs to the sum and is no parity; and CS behind the words that it covers, nine bits of each. */
+bool model_cs_is_formed(uint16_t word);
+bool model_cs_is_right(const uint16_t *words, size_t count, uint16_t cs);
+
+/*
+ * What the rules over the user words of a subtitling packet refuse them with, 13 of them at least: user byte i is
+ * bytes[LAYOUT_USER + i]. The place is the word of a packet that has them.
+ */
+captions_refusal model_judge_user(const uint8_t *bytes, size_t count);
+
+captions_multi model_multi_read(const uint16_t *words, size_t len, captions_inner *inners);
+
+captions_written model_multi_write(uint32_t priority, const captions_inner *inners, size_t n, const uint16_t *words, size_t len,
+                                   uint16_t *out, size_t room);
 
 captions_pes model_pes_read(const uint8_t *field, size_t len, captions_data_unit *units);
 

@@ -38,8 +38,7 @@ static unsigned bit_of(uint16_t word, unsigned bit)
     return word >> bit & 1;
 }
 
-/* b8 is the even parity of b7 to b0, b9 the inverse of b8. */
-static bool word_is_right(uint16_t word)
+bool model_word_is_right(uint16_t word)
 {
     unsigned ones = 0;
 
@@ -48,8 +47,7 @@ static bool word_is_right(uint16_t word)
     return word <= 1023 && bit_of(word, 8) == ones % 2 && bit_of(word, 9) != bit_of(word, 8);
 }
 
-/* b8 of CS belongs to the sum: it is no parity. */
-static bool cs_is_formed(uint16_t word)
+bool model_cs_is_formed(uint16_t word)
 {
     return word <= 1023 && bit_of(word, 9) != bit_of(word, 8);
 }
@@ -57,9 +55,9 @@ static bool cs_is_formed(uint16_t word)
 static captions_refusal judge_words(const uint16_t *words, size_t len)
 {
     for (size_t i = 3; i < len - 1; i++)
-        if (!word_is_right(words[i]))
+        if (!model_word_is_right(words[i]))
             return at_word(11, i);
-    return cs_is_formed(words[len - 1]) ? not_refused() : at_word(11, len - 1);
+    return model_cs_is_formed(words[len - 1]) ? not_refused() : at_word(11, len - 1);
 }
 
 static captions_refusal judge_flag_words(const uint16_t *words)
@@ -92,27 +90,26 @@ static captions_refusal judge_structures(const uint8_t *bytes, size_t structures
 }
 
 /* The user bytes from 51 to the SDP checksum add up to 0 modulo 256. */
-static bool sdp_checksum_is_right(const uint8_t *bytes, size_t len)
+static bool sdp_checksum_is_right(const uint8_t *bytes, size_t count)
 {
     unsigned sum = 0;
 
-    for (size_t i = LAYOUT_USER; i <= len - 2; i++)
-        sum += bytes[i];
+    for (size_t i = 0; i < count; i++)
+        sum += bytes[LAYOUT_USER + i];
     return sum % 256 == 0;
 }
 
-/* CS: the sum of nine bits of each word, DID the first and the last user word the last, modulo 512. */
-static bool cs_is_right(const uint16_t *words, size_t len)
+bool model_cs_is_right(const uint16_t *words, size_t count, uint16_t cs)
 {
     unsigned sum = 0;
 
-    for (size_t i = 3; i <= len - 2; i++)
+    for (size_t i = 0; i < count; i++)
         sum += words[i] & 0x1FF;
-    return sum % 512 == (words[len - 1] & 0x1FF);
+    return sum % 512 == (cs & 0x1FF);
 }
 
 /* The descriptors, and the structures for which they stand against DC, which is at fault where the two differ. */
-static captions_refusal judge_descriptors(const uint8_t *bytes)
+static captions_refusal judge_descriptors(const uint8_t *bytes, size_t count)
 {
     size_t structures = 0;
 
@@ -122,25 +119,35 @@ static captions_refusal judge_descriptors(const uint8_t *bytes)
         if (bytes[i] != 0)
             structures++;
     }
-    if (bytes[5] != 13 + 45 * structures)
-        return at_word(13, 5);
+    if (count != 13 + 45 * structures)
+        return at_word(13, LAYOUT_DC);
     return judge_structures(bytes, structures);
 }
 
-/* From DID to the format, when every word has its right parity; bytes[i] is b7 to b0 of word i. */
+captions_refusal model_judge_user(const uint8_t *bytes, size_t count)
+{
+    static const uint8_t identifiers[] = {0x51, 0x15}, format[] = {0x02};
+    captions_refusal wrong = judge_fixed(bytes, LAYOUT_USER, identifiers, 2, 6);
+
+    if (wrong.number == 0 && bytes[LAYOUT_USER + 2] != count) /* LENGTH */
+        wrong = at_word(13, LAYOUT_USER + 2);
+    if (wrong.number == 0)
+        wrong = judge_fixed(bytes, LAYOUT_USER + 3, format, 1, 6);
+    if (wrong.number == 0)
+        wrong = judge_descriptors(bytes, count);
+    if (wrong.number == 0 && !sdp_checksum_is_right(bytes, count))
+        wrong = at_word(12, LAYOUT_DC + count);
+    return wrong;
+}
+
+/* DID, SDID and DC, when every word has its right parity; bytes[i] is b7 to b0 of word i. */
 static captions_refusal judge_head(const uint8_t *bytes, size_t len)
 {
-    static const uint8_t ids[] = {0x43, 0x02}, identifiers[] = {0x51, 0x15}, format[] = {0x02};
-    captions_refusal wrong = judge_fixed(bytes, 3, ids, 2, 6); /* DID, SDID */
+    static const uint8_t ids[] = {0x43, 0x02};
+    captions_refusal wrong = judge_fixed(bytes, 3, ids, 2, 6);
 
-    if (wrong.number == 0 && bytes[5] != len - 7) /* DC */
-        wrong = at_word(13, 5);
-    if (wrong.number == 0)
-        wrong = judge_fixed(bytes, 6, identifiers, 2, 6);
-    if (wrong.number == 0 && bytes[8] != bytes[5]) /* LENGTH */
-        wrong = at_word(13, 8);
-    if (wrong.number == 0)
-        wrong = judge_fixed(bytes, 9, format, 1, 6);
+    if (wrong.number == 0 && bytes[LAYOUT_DC] != len - 7)
+        wrong = at_word(13, LAYOUT_DC);
     return wrong;
 }
 
@@ -160,10 +167,8 @@ static captions_refusal judge_packet(const uint16_t *words, size_t len, uint8_t 
     if (wrong.number == 0)
         wrong = judge_head(bytes, len);
     if (wrong.number == 0)
-        wrong = judge_descriptors(bytes);
-    if (wrong.number == 0 && !sdp_checksum_is_right(bytes, len))
-        wrong = at_word(12, len - 2);
-    if (wrong.number == 0 && !cs_is_right(words, len))
+        wrong = model_judge_user(bytes, len - 7);
+    if (wrong.number == 0 && !model_cs_is_right(words + 3, len - 4, words[len - 1]))
         wrong = at_word(12, len - 1);
     return wrong;
 }

@@ -63,6 +63,25 @@ static void packet_fields(cursor *c, packet_value *to)
 }
 
 /*
+ * ` heads=` and ` words=` in place of ` inners=` are in no file: inner packets as C tells them, and the words that are lent
+ * beside them, where user words may stand anywhere, and wrong ones too.
+ */
+static void multi_fields(cursor *c, multi_value *to)
+{
+    to->priority = (uint32_t)number_field(c, "priority", UINT32_MAX);
+    if (strncmp(c->at, " heads=", 7) == 0) {
+        field(c, "heads");
+        take_head_list(c, to);
+        field(c, "words");
+        to->len = c->bad ? 0 : take_elements(c, 4, to->words, MULTI_LENT_MAX);
+        return;
+    }
+    field(c, "inners");
+    if (!c->bad)
+        take_inner_list(c, to);
+}
+
+/*
  * As many units as are listed. A count of its own, ` n=`, is in no file: a value to write can have one that no list has.
  * Places that the line does not give would be refused if they were looked at.
  */
@@ -133,6 +152,8 @@ static void question_fields(cursor *c, question *q)
         ga94_fields(c, MORE_ALLOWED, &q->ga94);
     if (takes_packet(q->op))
         packet_fields(c, &q->packet);
+    if (q->op == MULTI_WRITE)
+        multi_fields(c, &q->multi);
     if (q->op == PES_WRITE)
         pes_fields(c, &q->pes);
     if (q->op == PAYLOAD_WRITE)
@@ -184,11 +205,11 @@ static void written_answer(cursor *c, const question *q, outcome *to)
     size_t len = number_field(c, "len", q->room), listed;
 
     field(c, "out");
-    listed = c->bad ? 0 : take_elements(c, q->op == PACKET_WRITE ? 4 : 2, elements, q->room);
+    listed = c->bad ? 0 : take_elements(c, 2 * (unsigned)element_bytes(q->op), elements, q->room);
     if (c->wide || listed != len)
         c->bad = true;
     for (size_t i = 0; i < listed && !c->bad; i++) {
-        if (q->op == PACKET_WRITE)
+        if (element_bytes(q->op) == 2)
             memcpy(to->memory + 2 * i, &elements[i], 2);
         else
             to->memory[i] = (uint8_t)elements[i];
@@ -263,6 +284,35 @@ static void payload_answer(cursor *c, outcome *to)
     to->numbers[3] = value.m;
 }
 
+/*
+ * Inner packet after inner packet from word 7 on. A line has their user bytes: these must be the words of the input, which the
+ * answer points to.
+ */
+static void multi_answer(cursor *c, const question *q, outcome *to)
+{
+    static multi_value value;
+    size_t at = LAYOUT_INNERS;
+
+    multi_fields(c, &value);
+    if (c->bad || c->wide || value.n > CAPTIONS_INNERS) {
+        c->bad = true;
+        return;
+    }
+    for (size_t i = 0; i < value.n; i++) {
+        captions_inner inner = value.inners[i];
+        const uint16_t *user = value.words + inner.at;
+        inner.at = (uint16_t)(at + LAYOUT_NUSER);
+        at += LAYOUT_INNER + (size_t)inner.count;
+        if (at > q->len || memcmp(q->words + inner.at, user, inner.count * sizeof *user) != 0) {
+            c->bad = true;
+            return;
+        }
+        memcpy(to->memory + i * sizeof inner, &inner, sizeof inner);
+    }
+    to->numbers[2] = value.priority;
+    to->numbers[3] = value.n;
+}
+
 static void pes_answer(cursor *c, outcome *to)
 {
     pes_value value;
@@ -292,6 +342,8 @@ static void accepted_answer(cursor *c, const question *q, outcome *to)
         ga94_answer(c, to);
     else if (q->op == PACKET_READ)
         packet_answer(c, to);
+    else if (q->op == MULTI_READ)
+        multi_answer(c, q, to);
     else if (q->op == PES_READ)
         pes_answer(c, to);
     else
@@ -354,12 +406,12 @@ static parsed skipped(vector_line *to, const char *why)
 }
 
 /*
- * ` STATE ` behind the operation: `1-7`, the rules with requests 1 to 7. By others the same input may have another answer.
+ * ` STATE ` behind the operation: `1-8`, the rules with requests 1 to 8. By others the same input may have another answer.
  * Gives the TAG, or null.
  */
 static const char *behind_state(const char *at)
 {
-    static const char state[] = " 1-7 ";
+    static const char state[] = " 1-8 ";
 
     return strncmp(at, state, strlen(state)) == 0 ? at + strlen(state) : NULL;
 }

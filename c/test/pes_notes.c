@@ -314,16 +314,6 @@ void note_pes(const question *q, const outcome *by_model)
 
 /* ---- Telling ---- */
 
-void tell_least(teller with, const char *name, const unsigned long *counts, size_t count)
-{
-    unsigned long least = counts[0];
-
-    for (size_t i = 1; i < count; i++)
-        if (counts[i] < least)
-            least = counts[i];
-    with(name, least);
-}
-
 void tell_lines(teller with, const char *name, unsigned long counts[2][LINES])
 {
     unsigned long legal[2 * LINES];

@@ -4,9 +4,9 @@
  *     random [COUNT [SEED [FIRST]]]
  *
  * The status is 1 where an answer or a round trip differs, fewer than a third of an operation's cases are accepted, a refusal
- * that an operation has arose at too few places, or data groups, or something of data fields, of reels or of film, were met too
- * seldom. Case i depends on SEED and i alone: `random 1 SEED i` asks it again and shows it, and demands of it only that nothing
- * differs. A case of film is a run; in the tables its calls are counted.
+ * that an operation has arose at too few places, or data groups, or something of multipackets, of data fields, of reels or of
+ * film, were met too seldom. Case i depends on SEED and i alone: `random 1 SEED i` asks it again and shows it, and demands of it
+ * only that nothing differs. A case of film is a run; in the tables its calls are counted.
  */
 #include <stdio.h>
 #include <stdlib.h>
@@ -15,6 +15,7 @@
 #include "cases.h"
 #include "film_notes.h"
 #include "groups.h"
+#include "multi_notes.h"
 #include "pes_notes.h"
 #include "reel_notes.h"
 #include "show.h"
@@ -115,6 +116,8 @@ static void note_case(row *r)
         note_groups(&q, &by_model, r == &rows[ROW_REPLACE_AREA]);
         if (q.op == PAYLOAD_REEL)
             note_reel(&q, &by_model);
+        if (q.op == MULTI_READ || q.op == MULTI_WRITE)
+            note_multi(&q, &by_model);
         if (is_of_pes(q.op))
             note_pes(&q, &by_model);
         return;
@@ -165,8 +168,9 @@ static const char *row_name(int i)
 /*
  * At how many places each refusal that RULES has for an operation must arise at least; all others are 0. A writer has one
  * place, and an area one for what is not inside a body. A packet has few words for some numbers: nearly all must arise. In a
- * data field all do: each of 31 units has one place for 7, 13 and 23, two for 6 and four for 5, and its first byte is one more
- * for 5 and 6. A conversion has the places of a packet, and 0.
+ * multipacket those of inner packets arise in many words. In a data field all places do: each of 31 units has one place for 7,
+ * 13 and 23, two for 6 and four for 5, and its first byte is one more for 5 and 6. A conversion has the places of a packet, and
+ * 0.
  */
 static const uint8_t places_wanted[ROWS][REFUSALS] = {
     [AREA_READ] = {[1] = 1, [2] = 1, [3] = 1, [4] = 1, [5] = 25, [7] = 15, [8] = 30, [9] = 4, [10] = 8, [18] = 20, [19] = 60},
@@ -180,6 +184,8 @@ static const uint8_t places_wanted[ROWS][REFUSALS] = {
     [ROW_GA94_REPLACE_AREA] = {[1] = 1, [2] = 1, [3] = 1, [4] = 1, [5] = 25, [16] = 1, [18] = 25, [19] = 50},
     [PACKET_READ] = {[1] = 3, [2] = 3, [5] = 10, [6] = 10, [7] = 5, [11] = 100, [12] = 10, [13] = 2, [20] = 12},
     [PACKET_WRITE] = {[7] = 1, [14] = 1, [15] = 1},
+    [MULTI_READ] = {[1] = 4, [2] = 3, [5] = 100, [6] = 150, [7] = 100, [11] = 200, [12] = 150, [13] = 60, [20] = 100, [26] = 150},
+    [MULTI_WRITE] = {[5] = 1, [6] = 1, [7] = 1, [11] = 1, [12] = 1, [13] = 1, [14] = 1, [15] = 1, [20] = 1, [26] = 1},
     [PES_READ] = {[5] = 125, [6] = 63, [7] = 31, [13] = 31, [23] = 31, [24] = 1},
     [PES_WRITE] = {[7] = 1, [14] = 1, [15] = 1},
     [PES_CONVERT] = {[1] = 3, [2] = 3, [5] = 10, [6] = 10, [7] = 6, [11] = 100, [12] = 10, [13] = 2, [14] = 1, [20] = 12},
@@ -246,8 +252,9 @@ static bool enough_accepted(int i)
 
 static const int order[ROWS] = {AREA_READ,     UNIT_WRITE,   AREA_REPLACE,          ROW_REPLACE_AREA,  GA94_READ,
                                 GA94_WRITE,    GA94_REPLACE, ROW_GA94_REPLACE_AREA, PACKET_READ,       PACKET_WRITE,
-                                PES_READ,      PES_WRITE,    PES_CONVERT,           PES_CONVERT_VALUE, PAYLOAD_READ,
-                                PAYLOAD_WRITE, PAYLOAD_REEL, ROW_REEL_BYTES,        FILM_RUN,          ROW_FILM_CLOSE};
+                                MULTI_READ,    MULTI_WRITE,  PES_READ,              PES_WRITE,         PES_CONVERT,
+                                PES_CONVERT_VALUE,           PAYLOAD_READ,          PAYLOAD_WRITE,     PAYLOAD_REEL,
+                                ROW_REEL_BYTES,              FILM_RUN,              ROW_FILM_CLOSE};
 
 static void print_heads(void)
 {
@@ -298,10 +305,12 @@ static bool report(bool whole)
     print_numbers();
     print_places();
     print_groups();
+    print_multi();
     print_pes();
     print_reels();
     print_film();
     good = !whole || enough_groups();
+    good = (!whole || enough_multi()) && good;
     good = (!whole || enough_pes()) && good;
     good = (!whole || enough_reels()) && good;
     good = (!whole || enough_film()) && good;

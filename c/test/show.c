@@ -64,6 +64,18 @@ static void show_packet(const packet_value *p)
     }
 }
 
+/* As C tells it: a line of the files has no user words that are wrong, or that stand nowhere. */
+static void show_multi(const multi_value *m)
+{
+    printf(" priority=%u heads=%s", m->priority, m->n == 0 ? "-" : "");
+    for (size_t i = 0; i < m->n; i++) {
+        const captions_inner *h = &m->inners[i];
+        printf("%s%u.%u.%u.%u.%u.%u", i > 0 ? "," : "", h->line, h->field, h->did, h->sdid, h->at, h->count);
+    }
+    printf(" words=");
+    show_words((const uint8_t *)m->words, m->len);
+}
+
 static void show_data_unit(const captions_data_unit *u)
 {
     const captions_teletext *t = &u->of.teletext;
@@ -144,7 +156,7 @@ static void show_film(const film_run *run)
 
 void show_question(const question *q, const char *tag)
 {
-    printf("%s 1-7 %s%s", operation_names[q->op], tag, q->op == PAYLOAD_REEL && q->as_bytes ? "-as-bytes" : "");
+    printf("%s 1-8 %s%s", operation_names[q->op], tag, q->op == PAYLOAD_REEL && q->as_bytes ? "-as-bytes" : "");
     if (takes_input(q->op)) {
         printf(" in=");
         if (takes_words(q->op))
@@ -158,6 +170,8 @@ void show_question(const question *q, const char *tag)
         show_ga94(&q->ga94);
     if (takes_packet(q->op))
         show_packet(&q->packet);
+    if (q->op == MULTI_WRITE)
+        show_multi(&q->multi);
     if (q->op == PES_WRITE)
         show_pes(&q->pes);
     if (q->op == PAYLOAD_WRITE)
@@ -177,7 +191,7 @@ void show_outcome(const question *q, const char *who, const outcome *o)
     for (size_t i = 0; i < o->count; i++)
         printf(" %llu", (unsigned long long)o->numbers[i]);
     printf("; output ");
-    if (q->op == PACKET_WRITE)
+    if (element_bytes(q->op) == 2)
         show_words(o->memory, o->size / 2);
     else
         show_bytes(o->memory, o->size);

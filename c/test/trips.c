@@ -5,6 +5,7 @@
 
 #include "film_trips.h"
 #include "model_area.h"
+#include "multi_trips.h"
 #include "pes_trips.h"
 #include "reel_trips.h"
 
@@ -315,7 +316,8 @@ const char *round_trip(const question *q, const outcome *got, unsigned long *mad
     static const char *(*const trips[OPERATIONS])(const question *, const outcome *, unsigned long *) = {
         after_area_read,    after_unit,          after_replace,     after_area_read,
         after_unit,         after_replace,       after_packet_read, after_packet_write,
-        pes_read_trip,      pes_write_trip,      pes_convert_trip,  pes_convert_value_trip,
+        multi_read_trip,    multi_write_trip,    pes_read_trip,     pes_write_trip,
+        pes_convert_trip,   pes_convert_value_trip,
         after_payload_read, after_payload_write, reel_trip,         film_trip};
 
     return trips[q->op](q, got, made);

@@ -1,4 +1,4 @@
-/* wrong_calls.c: see wrong_calls.h. */
+/* wrong_calls.c: stand-ins for the calls of data fields. See wrong_calls.h. */
 #include "wrong_calls.h"
 
 #include <string.h>
@@ -338,12 +338,12 @@ static captions_written word_dropped(const uint16_t *words, size_t len, uint8_t 
 
 /* ---- All ---- */
 
-#define READ(what, call) {what, PES_READ, call, NULL, NULL, NULL, 0, 0}
-#define WRITE(what, call) {what, PES_WRITE, NULL, call, NULL, NULL, 0, 0}
-#define CONVERT(what, call) {what, PES_CONVERT, NULL, NULL, call, NULL, 0, 0}
-#define CONVERT_VALUE(what, call) {what, PES_CONVERT_VALUE, NULL, NULL, NULL, call, 0, 0}
+#define READ(which, call) {.what = which, .op = PES_READ, .read = call}
+#define WRITE(which, call) {.what = which, .op = PES_WRITE, .write = call}
+#define CONVERT(which, call) {.what = which, .op = PES_CONVERT, .convert = call}
+#define CONVERT_VALUE(which, call) {.what = which, .op = PES_CONVERT_VALUE, .convert_value = call}
 
-stand_in stand_ins[STAND_INS] = {
+stand_in pes_stand_ins[PES_STAND_INS] = {
     READ("a row as it is in the stream", rows_as_in_stream),
     READ("stuffing turned round", stuffing_turned),
     READ("field_parity turned", parity_turned),

@@ -11,3 +11,5 @@ pub mod Writing
 pub mod BothWays
 pub mod Determined
 pub mod Judged
+pub mod Laid
+pub mod Types

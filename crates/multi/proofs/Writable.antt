@@ -3,7 +3,7 @@
 use Prim.Native.Nat.{ℕ, zero, suc, _+_, _≤_, _<_}
 use native.Mathlib.Omega.{arith}
 use native.Mathlib.Numerals.{add-one}
-use mathlib.Core.Path.{_≡_, _∙_, ap, sym, refl}
+use mathlib.Core.Path.{_≡_, _∙_, ap, ap₂, sym, refl}
 use mathlib.Core.Bool.{Bool, true, false, not}
 use mathlib.Core.List.{List, [], _∷_, _++_, map}
 use borrow.Author.Tests.{eq-eqb, ne-eqb, eqb-false, lt-ltb, le-ltb}
@@ -21,7 +21,7 @@ use Rattle.refusal.specs.declared.Excess.the-variants.{PriorityWord, InnerLine,
 use Rattle.refusal.specs.declared.Item.the-variants.{Whole}
 use Rattle.refusal.specs.Checks.{refuseIf, andThen, first}
 use Rattle.refusal.specs.Order.{eachOf}
-use Rattle.refusal.proofs.Checks.{refused-not-accepted, accepted-refuseIf, refuseIf-accepted, accepted-all, all-accepted, accepted-within, accepted-each, each-accepted, andThen-last}
+use Rattle.refusal.proofs.Checks.{refused-not-accepted, accepted-refuseIf, refuseIf-accepted, accepted-all, all-accepted, accepted-within, accepted-andThen, accepted-each, each-accepted, andThen-last}
 use Rattle.refusal.proofs.Sequence.{first-append, first-each}
 use Rattle.anc.specs.Words.{byteOf, wordsVerdict}
 use Rattle.anc.proofs.Words.{bytes-bytes}
@@ -30,7 +30,7 @@ use Rattle.multi.specs.Value.{Inner, LegalInner, Multi, Legal, userCount
 use Rattle.multi.specs.Layout.{userWords, layout}
 use Rattle.multi.specs.Order.{subtitlingId, onlyIf, unplaced, headChecks, writingChecks}
 use Rattle.multi.specs.Lent.{Told, userOf, innerOf, held, Lent, LegalTold}
-use Rattle.multi.specs.Writing.{headVerdict, valueVerdict}
+use Rattle.multi.specs.Writing.{headVerdict, headsVerdict, valueVerdict}
 use Rattle.multi.proofs.Inner.{own-accepted, accepted-own}
 use Rattle.multi.proofs.Whole.{length-user}
 
@@ -125,9 +125,6 @@ module _ (words h : List ℕ) where
 
 -- ALL OF THEM
 
-abbrev pub headsVerdict : List ℕ → List (List ℕ) → Verdict
-headsVerdict words heads = first (map (headVerdict words) heads)
-
 -- the heads from i on: the one at i decides first
 pub heads-from : (words : List ℕ) (heads : List (List ℕ)) (i : ℕ) → i < length heads
     → headsVerdict words (drop i heads) ≡ andThen (headVerdict words (getD heads i [])) (headsVerdict words (drop (i + 1) heads))
@@ -158,11 +155,16 @@ regroup Accepted Accepted (Refused reason item) d e = refl
 regroup Accepted (Refused reason item) c d e = refl
 regroup (Refused reason item) b c d e = refl
 
+ungroup : (c d e : Verdict) → andThen (andThen c (andThen d Accepted)) e ≡ andThen c (andThen d e)
+ungroup Accepted Accepted e = refl
+ungroup Accepted (Refused reason item) e = refl
+ungroup (Refused reason item) d e = refl
+
 module _ (t : Told) (room : ℕ) where
-  abbrev user-count : ℕ
+  abbrev pub user-count : ℕ
   user-count = length (userWords (held t))
 
-  abbrev laid : ℕ
+  abbrev pub laid : ℕ
   laid = length (layout (held t))
 
   -- the checks of the value itself, and of the room
@@ -238,3 +240,37 @@ module _ (t : Told) (room : ℕ) where
         heads = each-accepted (headVerdict (t .words)) (t .heads) (legal-each (t .words) (t .heads) (h .value .each) (h .lent));
         few = omega (arith, h .value .fits, length-user (held t));
       }
+
+  pub accepted-value : valueVerdict t room ≡ Accepted → Holds × (laid ≤ room)
+  accepted-value e =
+      let both = accepted-andThen (first own) roomCheck (sym value-own ∙ e) in
+      (accepted-own-checks (both .0), accepted-within room laid _ _ (both .1))
+
+  -- in the order of the code
+  pub value-priority : 255 < t .priority → valueVerdict t room ≡ Refused (Unholdable PriorityWord) Whole
+  value-priority h = value-own ∙ simp (lt-ltb 255 (t .priority) h)
+
+  module _ (priority : t .priority ≤ 255) where
+    pub value-none : length (t .heads) ≡ 0 → valueVerdict t room ≡ Refused NoInner Whole
+    value-none h = value-own ∙ simp (le-ltb 255 (t .priority) priority, eq-eqb (length (t .heads)) 0 h)
+
+    module _ (some : length (t .heads) ≡ 0 → ⊥) where
+      pub value-heads : valueVerdict t room ≡ andThen (headsVerdict (t .words) (t .heads)) (andThen (refuseIf (ltb 255 user-count) (Unfit UserWords) Whole) roomCheck)
+      value-heads =
+          value-own
+          ∙ ap₂ (λ (a b : Verdict). andThen (andThen a (andThen b (andThen (headsVerdict (t .words) (t .heads)) (andThen (refuseIf (ltb 255 user-count) (Unfit UserWords) Whole) Accepted)))) roomCheck)
+          (refuseIf-accepted _ _ _ (le-ltb 255 (t .priority) priority)) (refuseIf-accepted _ _ _ (ne-eqb (length (t .heads)) 0 some))
+          ∙ ungroup (headsVerdict (t .words) (t .heads)) (refuseIf (ltb 255 user-count) (Unfit UserWords) Whole) roomCheck
+
+      module _ (heads : headsVerdict (t .words) (t .heads) ≡ Accepted) where
+        left : valueVerdict t room ≡ andThen (refuseIf (ltb 255 user-count) (Unfit UserWords) Whole) roomCheck
+        left = value-heads ∙ ap (λ (v : Verdict). andThen v (andThen (refuseIf (ltb 255 user-count) (Unfit UserWords) Whole) roomCheck)) heads
+
+        pub value-many : 255 < user-count → valueVerdict t room ≡ Refused (Unfit UserWords) Whole
+        value-many h = left ∙ simp (lt-ltb 255 user-count h)
+
+        pub value-no-room : user-count ≤ 255 → room < laid → valueVerdict t room ≡ Refused NoRoom Whole
+        value-no-room h g = left ∙ simp (le-ltb 255 user-count h, lt-ltb room laid g)
+
+        pub value-fits : user-count ≤ 255 → laid ≤ room → valueVerdict t room ≡ Accepted
+        value-fits h g = left ∙ simp (le-ltb 255 user-count h, le-ltb room laid g)

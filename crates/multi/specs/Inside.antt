@@ -1,7 +1,9 @@
 -- What private functions promise each other. No theorem for a signer speaks of it.
-use Prim.Native.Nat.{ℕ, _+_, _-_, _/_}
+use Prim.Native.Nat.{ℕ, _+_, _-_, _*_, _/_, _<_}
+use mathlib.Core.Path.{_≡_}
+use mathlib.Core.Logic.{_⊎_}
 use mathlib.Core.Bool.{not}
-use mathlib.Core.List.{List, [], _∷_}
+use mathlib.Core.List.{List, [], _∷_, map}
 use lib.Dec.{eqb, ltb}
 use lib.ListN.{length, getD, take}
 use Rattle.lists.specs.Part.{part}
@@ -11,7 +13,7 @@ use Rattle.refusal.specs.declared.Fixed.the-variants.{Identifier, LineField}
 use Rattle.refusal.specs.declared.Misfit.the-variants.{DataCount}
 use Rattle.refusal.specs.declared.Item.the-variants.{Word, Length}
 use Rattle.refusal.specs.Checks.{refuseIf, first}
-use Rattle.anc.specs.Words.{byteOf, wordsVerdict, sumVerdict, checksumOf}
+use Rattle.anc.specs.Words.{wordOf, byteOf, wordsVerdict, sumVerdict, checksumOf}
 use Rattle.sdp.specs.User.{userVerdict}
 use Rattle.multi.specs.Order.{subtitlingId, onlyIf, ncsAt, sizeIn, bytesIn, lastWord}
 
@@ -58,3 +60,16 @@ innerRules at u =
     ∷ ownVerdict at u
     ∷ refuseIf (not (eqb (getD u (ncsAt u) 0) (checksumOf (part 1 (ncsAt u) u)))) InnerChecksum (Word (at + ncsAt u))
     ∷ [])
+
+-- the words of the inner packets that heads tell of, by their counts
+abbrev pub headsWords : List (List ℕ) → ℕ
+headsWords [] = 0
+headsWords (h ∷ heads) = 5 + getD h 5 0 + headsWords heads
+
+-- a count of the user words that need not go on above 255
+abbrev pub CountsUser : List (List ℕ) → ℕ → Type 0
+CountsUser heads n = (n ≡ 1 + headsWords heads) ⊎ ((255 < n) × (255 < 1 + headsWords heads))
+
+-- LINE/FIELD, NDID, NSDID and NDC, as a head tells them
+abbrev pub headerWords : List ℕ → List ℕ
+headerWords h = map wordOf ((getD h 0 0 + 32 * getD h 1 0) ∷ getD h 2 0 ∷ getD h 3 0 ∷ getD h 5 0 ∷ [])

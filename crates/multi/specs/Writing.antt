@@ -2,7 +2,7 @@
 -- checks": 15 of the priority; 26; inner packet by inner packet 15, 11, a subtitling packet's own; 13; 14.
 use Prim.Native.Nat.{ℕ, _<_}
 use mathlib.Core.Path.{_≡_}
-use mathlib.Core.List.{List, [], _∷_}
+use mathlib.Core.List.{List, [], _∷_, map}
 use lib.ListN.{length, getD}
 use Rattle.refusal.specs.declared.Refusal.{Refusal}
 use Rattle.refusal.specs.declared.Verdict.{Verdict}
@@ -16,6 +16,10 @@ use Rattle.multi.specs.Lent.{Told, held}
 -- one inner packet
 unfoldable pub headVerdict : List ℕ → List ℕ → Verdict
 headVerdict words h = first (headChecks words h)
+
+-- each of them in order
+abbrev pub headsVerdict : List ℕ → List (List ℕ) → Verdict
+headsVerdict words heads = first (map (headVerdict words) heads)
 
 unfoldable pub valueVerdict : Told → ℕ → Verdict
 valueVerdict t room = first (writingChecks (t .priority) (t .heads) (t .words) (held t) room)

@@ -2,16 +2,16 @@
 //
 // Normative references: docs/RULES.md, "Multipacket" and "Order of checks"; document 002 (RDD 8), clause 6; SMPTE 291M.
 ghost use mathlib.Core.Path.{_≡_};
-ghost use mathlib.Core.Logic.{_⊎_};
-ghost use Prim.Native.Nat.{_+_, _≤_, _<_};
-ghost use mathlib.Core.List.{map};
-ghost use lib.ListN.{length, getD, take};
+ghost use Prim.Native.Nat.{_+_, _*_, _≤_, _<_};
+ghost use mathlib.Core.List.{[], _∷_, map};
+ghost use lib.ListN.{length, getD};
 ghost use Rattle.lists.specs.Room.{over};
 ghost use Rattle.refusal.specs.declared.Verdict.the-variants.{Accepted};
-ghost use Rattle.multi.specs.Value.{userCount};
-ghost use Rattle.multi.specs.Layout.{layout, layoutInner};
-ghost use Rattle.multi.specs.Lent.{Told, held, innerOf};
-ghost use Rattle.multi.specs.Writing.{headVerdict, valueVerdict, Writes};
+ghost use Rattle.anc.specs.Words.{wordOf};
+ghost use Rattle.multi.specs.Layout.{layoutInner, layoutInners};
+ghost use Rattle.multi.specs.Lent.{innerOf};
+ghost use Rattle.multi.specs.Writing.{headVerdict, headsVerdict, valueVerdict, Writes};
+ghost use Rattle.multi.specs.Inside.{headsWords, CountsUser, headerWords};
 use multi::HEAD;
 use multi::HEADER_WORDS;
 use multi::INNER_WORDS;
@@ -104,6 +104,7 @@ fn judge_head(head: [u16; HEAD], words: &[u16]) -> Verdict
 
 // How many user words the multipacket has, the priority among them. It stops counting above 255.
 fn user_words(heads: &[[u16; HEAD]]) -> usize
+    ensures { λ r. ⌜ CountsUser (now (heads .entry)) r ⌝ }
 {
     let mut user = 1;
     let mut i = 0;
@@ -111,14 +112,24 @@ fn user_words(heads: &[[u16; HEAD]]) -> usize
         if MAX_USER_WORDS < user {
             return user;
         }
-        user += INNER_WORDS + heads[i][5] as usize;
+        user += inner_words(heads[i]);
         i += 1;
     }
     user
 }
 
+// How many words an inner packet has, by its head.
+fn inner_words(head: [u16; HEAD]) -> usize
+    ensures { λ r. ⌜ r ≡ 5 + getD head 5 0 ⌝ }
+    ensures { λ r. ⌜ r < 65541 ⌝ }
+{
+    INNER_WORDS + head[5] as usize
+}
+
 // The flag, DID, SDID, DC and the priority.
 fn put_header(priority: u8, dc: u8, out: &mut [u16])
+    requires { ⌜ 7 ≤ length (now out) ⌝ }
+    ensures { λ _. ⌜ now (out .exit) ≡ over (0x000 ∷ 0x3FF ∷ 0x3FF ∷ map wordOf (0x43 ∷ 0x03 ∷ dc ∷ priority ∷ [])) (now (out .entry)) ⌝ }
 {
     out[0] = 0x000;
     out[1] = 0x3FF;
@@ -131,33 +142,52 @@ fn put_header(priority: u8, dc: u8, out: &mut [u16])
 
 // The inner packets, one behind the other.
 fn put_inners(heads: &[[u16; HEAD]], words: &[u16], out: &mut [u16])
+    requires { ⌜ headsVerdict (now words) (now heads) ≡ Accepted ⌝ }
+    requires { ⌜ headsWords (now heads) < 255 ⌝ }
+    requires { ⌜ headsWords (now heads) ≤ length (now out) ⌝ }
+    ensures { λ _. ⌜ now (out .exit) ≡ over (layoutInners (map (innerOf (now (words .entry))) (now (heads .entry)))) (now (out .entry)) ⌝ }
 {
     let mut at = 0;
     let mut i = 0;
     while i < heads.len() {
-        let head = heads[i];
-        put_inner(head, words, &mut out[at..]);
-        at += INNER_WORDS + head[5] as usize;
+        put_inner(heads[i], words, &mut out[at..]);
+        at += inner_words(heads[i]);
         i += 1;
     }
 }
 
-// One inner packet. Its user words are words of bytes already.
+// One inner packet. Its user words are words of bytes already, and are stored as they are.
 fn put_inner(head: [u16; HEAD], words: &[u16], out: &mut [u16])
+    requires { ⌜ headVerdict (now words) head ≡ Accepted ⌝ }
+    requires { ⌜ getD head 5 0 < 256 ⌝ }
+    requires { ⌜ 5 + getD head 5 0 ≤ length (now out) ⌝ }
+    ensures { λ _. ⌜ now (out .exit) ≡ over (layoutInner (innerOf (now (words .entry)) head)) (now (out .entry)) ⌝ }
 {
     let at = head[4] as usize;
-    let count = head[5] as usize;
-    let ncs = HEADER_WORDS + count;
+    let end = at + head[5] as usize;
+    let ncs = HEADER_WORDS + head[5] as usize;
+    put_head(head, out);
+    carry(&words[at..end], &mut out[HEADER_WORDS..ncs]);
+    out[ncs] = anc::checksum(&out[1..ncs]);
+}
+
+// LINE/FIELD, NDID, NSDID and NDC.
+fn put_head(head: [u16; HEAD], out: &mut [u16])
+    requires { ⌜ getD head 0 0 + 32 * getD head 1 0 < 64 ⌝ }
+    requires { ⌜ (getD head 2 0 < 256) × (getD head 3 0 < 256) × (getD head 5 0 < 256) ⌝ }
+    requires { ⌜ 4 ≤ length (now out) ⌝ }
+    ensures { λ _. ⌜ now (out .exit) ≡ over (headerWords head) (now (out .entry)) ⌝ }
+{
     out[0] = anc::word((head[0] + 32 * head[1]) as u8);
     out[1] = anc::word(head[2] as u8);
     out[2] = anc::word(head[3] as u8);
-    out[3] = anc::word(count as u8);
-    carry(&words[at..at + count], &mut out[HEADER_WORDS..ncs]);
-    out[ncs] = anc::checksum(&out[1..ncs]);
+    out[3] = anc::word(head[5] as u8);
 }
 
 // Stores words as they are.
 fn carry(user: &[u16], out: &mut [u16])
+    requires { ⌜ length (now user) ≡ length (now out) ⌝ }
+    ensures { λ _. ⌜ now (out .exit) ≡ now (user .entry) ⌝ }
 {
     let mut i = 0;
     while i < out.len() {
