@@ -39,8 +39,8 @@ typedef struct loan {
 
 void harness_open(void)
 {
-    arena_open(&first_arena, MULTI_LENT_MAX * sizeof(uint16_t)); /* and not INPUT_MAX, which is less */
-    arena_open(&second_arena, MULTI_INNERS_MAX * sizeof(captions_inner)); /* nor a reel, which is less */
+    arena_open(&first_arena, MULTI_LENT_MAX * sizeof(uint16_t)); /* more than INPUT_MAX */
+    arena_open(&second_arena, MULTI_INNERS_MAX * sizeof(captions_inner)); /* more than the units of a reel */
     arena_open(&rows_arena, CAPTIONS_SLOTS * sizeof(captions_row));
     arena_open(&output_arena, OUTPUT_MAX);
     film_open();

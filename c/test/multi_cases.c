@@ -50,10 +50,10 @@ static void mend_all(question *q, const inner_map *map)
 
 /* ---- Faults of the words ---- */
 
-/* CS or NCS with another sum, b9 and b8 still each other's inverse. */
+/* CS or NCS with another sum, b9 and b8 still each other's inverse. Often its byte is right, and b8 is not. */
 static uint16_t other_sum(dice *d, uint16_t cs)
 {
-    unsigned sum = (cs + 1 + (chance(d, 50) ? 0 : below(d, 511))) % 512;
+    unsigned sum = (cs + (chance(d, 30) ? 256 : chance(d, 50) ? 1 : 1 + below(d, 511))) % 512;
 
     return (uint16_t)(sum | (sum < 0x100 ? 0x200 : 0));
 }
@@ -197,9 +197,9 @@ static inner_fault some_inner_fault(dice *d)
 /* Any but OUTER_INNER; the length seldom, since all that is behind it counts no more. */
 static outer_fault some_outer_fault(dice *d)
 {
-    static const outer_fault often[] = {OUTER_FLAG, OUTER_FLAG, OUTER_WORD, OUTER_WORD,  OUTER_CS_FORM, OUTER_CS_FORM, OUTER_ID,
-                                        OUTER_ID,   OUTER_DC,   OUTER_DC,   OUTER_NONE,  OUTER_NONE,    OUTER_CS,      OUTER_CS,
-                                        OUTER_LONG, OUTER_SHORT, OUTER_SHORT};
+    static const outer_fault often[] = {OUTER_FLAG,    OUTER_FLAG, OUTER_WORD, OUTER_WORD, OUTER_CS_FORM, OUTER_CS_FORM, OUTER_ID,
+                                        OUTER_ID,      OUTER_DC,   OUTER_DC,   OUTER_NONE, OUTER_NONE,    OUTER_CS,      OUTER_CS,
+                                        OUTER_CS,      OUTER_CS,   OUTER_LONG, OUTER_SHORT, OUTER_SHORT};
 
     return often[below(d, sizeof often / sizeof *often)];
 }
@@ -234,7 +234,7 @@ static void planned_case(dice *d, question *q)
     size_t count = 1 + chance(d, 75), target = below(d, q->multi.n);
     inner_map map;
 
-    plans[0] = some_plan(d, target, 20);
+    plans[0] = some_plan(d, target, 25);
     plans[1] = some_plan(d, chance(d, 40) ? target : target + 1 + below(d, 4), plans[0].outer ? 60 : 15);
     for (size_t i = 0; i < count; i++)
         if (!plans[i].outer && is_user_fault(plans[i].inner))

@@ -40,8 +40,10 @@ typedef enum meeting {
     BITS_C0,
     NCS_ABOVE,
     NCS_B9,
+    NCS_B8,
     CS_ABOVE,
     CS_B9,
+    CS_B8,
     LONG_AND_OTHER,
     SHORT_AND_FLAG,
     MEETINGS
@@ -78,8 +80,10 @@ static const char *const meeting_names[MEETINGS] = {
     "read: b6 and b7",
     "read: NCS above 1023",
     "read: NCS with b9 as b8",
+    "read: NCS with another b8, and its byte right",
     "read: CS above 1023",
     "read: CS with b9 as b8",
+    "read: CS with another b8, and its byte right",
     "two faults: too long, then another",
     "two faults: too short, then flag",
 };
@@ -178,6 +182,16 @@ static void note_word(const question *q, size_t at, size_t place)
         met.meetings[q->words[ncs] > 1023 ? NCS_ABOVE : NCS_B9]++;
 }
 
+/* Whether CS, behind so many words, has the byte that it should have. */
+static bool byte_is_right(const uint16_t *words, size_t count)
+{
+    unsigned sum = 0;
+
+    for (size_t i = 0; i < count; i++)
+        sum += words[i] & 0xFF;
+    return sum % 256 == (words[count] & 0xFF);
+}
+
 /* The inner packet at word `at`, of n in all, is the k-th, and the first that is wrong. */
 static void note_wrong_inner(const question *q, const outcome *got, size_t at, size_t k, size_t n)
 {
@@ -203,6 +217,7 @@ static void note_wrong_inner(const question *q, const outcome *got, size_t at, s
         note_ends(q, at);
     if (got->numbers[0] == 11)
         note_word(q, at, got->numbers[1]);
+    met.meetings[NCS_B8] += first == INNER_NCS && byte_is_right(q->words + at + 1, LAYOUT_NDC + count);
     met.meetings[WORDS_12] += first == USER_SHORT && count == 12;
     met.meetings[WORDS_14] += is_user_fault((inner_fault)first) && count == 14;
     if (first == INNER_BITS)
@@ -263,6 +278,7 @@ static void note_refused(const question *q, const outcome *got)
     met.meetings[READ_51] += first == OUTER_LONG && right_inners(q) == 51;
     met.meetings[READ_7] += q->len == 7;
     met.meetings[READ_8] += first == OUTER_NONE;
+    met.meetings[CS_B8] += first == OUTER_CS && byte_is_right(q->words + 3, q->len - 4);
     if (first == OUTER_CS_FORM)
         met.meetings[q->words[q->len - 1] > 1023 ? CS_ABOVE : CS_B9]++;
 }

@@ -21,7 +21,7 @@ typedef struct stand_in {
     unsigned long asked, noticed;
 } stand_in;
 
-enum { PES_STAND_INS = 32, MULTI_READ_STAND_INS = 25, MULTI_WRITE_STAND_INS = 25 };
+enum { PES_STAND_INS = 32, MULTI_READ_STAND_INS = 27, MULTI_WRITE_STAND_INS = 25 };
 
 /* In wrong_calls.c, wrong_multi.c and wrong_multi_write.c. */
 extern stand_in pes_stand_ins[PES_STAND_INS];

@@ -83,6 +83,33 @@ static captions_multi cs_passed(const uint16_t *words, size_t len, captions_inne
     return captions_multi_read(copy, len, inners);
 }
 
+/* CS or NCS gets the right b8 where its byte is right. */
+static void mend_b8(uint16_t *words, size_t len, size_t at, size_t ncs)
+{
+    uint16_t before = words[ncs];
+
+    mend_ncs(words, len, at, ncs);
+    if ((words[ncs] & 0xFF) == (before & 0xFF))
+        return;
+    words[len - 1] = moved(words[len - 1], (before & 0x1FFu) + 512 - (words[ncs] & 0x1FF));
+    words[ncs] = before;
+}
+
+static captions_multi ncs_by_byte(const uint16_t *words, size_t len, captions_inner *inners)
+{
+    return read_mended(words, len, inners, mend_b8);
+}
+
+static captions_multi cs_by_byte(const uint16_t *words, size_t len, captions_inner *inners)
+{
+    memcpy(copy, words, len * sizeof *words);
+    if (len > LAYOUT_INNERS && is_formed(words[len - 1]))
+        layout_cs(copy, len);
+    if (len > 0 && (copy[len - 1] & 0xFF) != (words[len - 1] & 0xFF))
+        copy[len - 1] = words[len - 1];
+    return captions_multi_read(copy, len, inners);
+}
+
 /* LINE/FIELD is not covered by NCS, but by CS. */
 static void clear_bits(uint16_t *words, size_t len, size_t at, uint8_t bits)
 {
@@ -373,6 +400,8 @@ static captions_multi inners_left(const uint16_t *words, size_t len, captions_in
 stand_in multi_read_stand_ins[MULTI_READ_STAND_INS] = {
     READ("NCS not judged", ncs_passed),
     READ("CS not judged", cs_passed),
+    READ("NCS judged by its byte alone", ncs_by_byte),
+    READ("CS judged by its byte alone", cs_by_byte),
     READ("b6 let through", b6_passed),
     READ("b7 let through", b7_passed),
     READ("subtitles carried", subtitles_carried),

@@ -1,10 +1,12 @@
 -- Which words are accepted, and with which answer.
 -- Assumes nothing.
-use Prim.Native.Nat.{ℕ, _<_}
-use mathlib.Core.Path.{_≡_, _∙_, ap, sym, subst, refl}
+use Prim.Native.Nat.{ℕ, _≤_}
+use native.Mathlib.Omega.{arith}
+use mathlib.Core.Path.{_≡_, _∙_, ap, sym, refl}
 use mathlib.Core.Logic.{_↔_}
-use mathlib.Core.List.{List, [], _∷_, map}
+use mathlib.Core.List.{List, [], map}
 use lib.ListN.{length, getD}
+use Rattle.lists.specs.Bytes.{Bytes}
 use Rattle.lists.specs.Room.{filled}
 use Rattle.refusal.specs.declared.Refusal.{Refusal}
 use Rattle.refusal.specs.declared.Verdict.{Verdict}
@@ -14,12 +16,12 @@ use Rattle.refusal.specs.Numbers.{refusalOf}
 use Rattle.refusal.specs.Answers.{accepted, lentOf}
 use Rattle.refusal.proofs.Acceptance.{told-accepted}
 use Rattle.multi.specs.declared.Answer.{Answer}
-use Rattle.multi.specs.Value.{Inner, Multi, Legal, LegalInner, innersWords}
-use Rattle.multi.specs.Layout.{layoutInner, layoutInners, layout}
-use Rattle.multi.specs.Order.{innersIn, readingChecks}
+use Rattle.multi.specs.Value.{Inner, Multi, Legal, LegalInner, withBytes}
+use Rattle.multi.specs.Layout.{layoutInner, layout}
+use Rattle.multi.specs.Order.{readingChecks}
 use Rattle.multi.specs.Reading.{multiVerdict, cut, valueOf}
 use Rattle.multi.specs.Lent.{headsOf, noHead, answerOf, handedOf, ReadsInto, Hands}
-use Rattle.multi.proofs.Inners.{cut-back}
+use Rattle.multi.proofs.Inners.{few-inners, cut-back}
 use Rattle.multi.proofs.Whole.{short, multi-accepted, value-back, layout-inners, accepted-multi}
 
 pub reading-order : (s : List ℕ) → multiVerdict s ≡ first (readingChecks s)
@@ -76,6 +78,14 @@ the-answer v h lent r exit reads =
 
 pub only-one : (v w : Multi) → Legal v → Legal w → layout v ≡ layout w → v ≡ w
 only-one v w h g e = sym (value-back v h) ∙ ap valueOf e ∙ value-back w g
+
+-- what is not a subtitling packet's is carried
+pub any-bytes : (x : Inner) (bytes : List ℕ) → Bytes bytes → (x .did ≡ 0x43 → x .sdid ≡ 0x02 → ⊥) → LegalInner x → LegalInner (withBytes x bytes)
+any-bytes x bytes b other h =
+    record { line = h .line; field = h .field; did = h .did; sdid = h .sdid; bytes = b; subtitles = λ e f. absurd (other e f) }
+
+pub most-inners : (v : Multi) → Legal v → length (v .inners) ≤ 50
+most-inners v h = omega (arith, few-inners (v .inners), h .fits)
 
 -- INNER PACKETS THAT ARE HANDED OUT
 

@@ -2,20 +2,19 @@
 -- Assumes nothing.
 use Prim.Native.Nat.{ℕ, _≤_}
 use mathlib.Core.Path.{_≡_, _∙_, ap, ap₂, sym, subst, refl}
-use mathlib.Core.List.{List, map}
+use mathlib.Core.List.{List}
 use lib.ListN.{length, take, length-map}
 use Rattle.lists.specs.Room.{filled, over}
 use Rattle.lists.proofs.Lay.{take-over}
 use Rattle.refusal.specs.declared.Written.{Written}
 use Rattle.refusal.specs.Answers.{accepted, written}
 use Rattle.multi.specs.declared.Answer.{Answer}
-use Rattle.multi.specs.Value.{Multi}
 use Rattle.multi.specs.Layout.{layout}
 use Rattle.multi.specs.Reading.{valueOf}
-use Rattle.multi.specs.Lent.{headsOf, noHead, Told, innerOf, held, ReadsInto}
+use Rattle.multi.specs.Lent.{headsOf, noHead, Told, innerOf, stored, held, ReadsInto}
 use Rattle.multi.specs.Writing.{Writes}
 use Rattle.multi.proofs.Whole.{accepted-multi}
-use Rattle.multi.proofs.Lending.{heads-front, stored, stored-held, stored-legal}
+use Rattle.multi.proofs.Lending.{heads-front, stored-held, stored-legal}
 use Rattle.multi.proofs.Accepting.{the-answer, answered, verdict-accepted}
 use Rattle.multi.proofs.Writing.{writes-exactly, written-front}
 

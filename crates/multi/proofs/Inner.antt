@@ -6,15 +6,13 @@ use mathlib.Core.Path.{_≡_, _∙_, ap, ap₂, sym, subst, refl}
 use mathlib.Core.Bool.{Bool, true, false, not, _&&_}
 use mathlib.Core.List.{List, [], _∷_, _++_, map}
 use borrow.Author.Tests.{eq-eqb, eqb-true, le-ltb}
-use lib.Dec.{eqb, ltb}
+use lib.Dec.{eqb}
 use lib.ListN.{length, getD, take, drop, length-append, length-map}
 use Rattle.lists.specs.Bytes.{Bytes}
 use Rattle.lists.specs.Part.{part}
 use Rattle.lists.proofs.Part.{length-part}
-use Rattle.fields.specs.declared.OddEven.{OddEven}
-use Rattle.refusal.specs.declared.Verdict.{Verdict}
 use Rattle.refusal.specs.declared.Verdict.the-variants.{Accepted}
-use Rattle.refusal.specs.Checks.{refuseIf, andThen, first}
+use Rattle.refusal.specs.Checks.{andThen, first}
 use Rattle.refusal.proofs.Checks.{both-hold, refuseIf-accepted, accepted-all, all-accepted, accepted-equal, accepted-within, accepted-andThen, andThen-assoc}
 use Rattle.anc.specs.Words.{wordOf, byteOf, wordsVerdict, sumVerdict, checksumOf}
 use Rattle.anc.proofs.Words.{word-byte, words-bytes, bytes-bytes, words-accepted, accepted-words, sum-accepted}
@@ -25,7 +23,7 @@ use Rattle.multi.specs.Layout.{lineField, coveredInner, layoutInner}
 use Rattle.multi.specs.Order.{subtitlingId, onlyIf, ncsAt, sizeIn, bytesIn, innerChecks}
 use Rattle.multi.specs.Reading.{innerVerdict, readInner}
 use Rattle.multi.specs.Inside.{innerForm, innerRules}
-use Rattle.multi.proofs.Shape.{shaped, shaped-front, shaped-user, shaped-cover, shaped-ncs, shaped-whole, shaped-behind, shaped-length, Shaped, shape}
+use Rattle.multi.proofs.Shape.{shaped, shaped-front, shaped-user, shaped-cover, shaped-ncs, shaped-whole, shaped-behind, shaped-length, shape}
 
 -- the checks in two halves
 pub inner-halves : (at : ℕ) (u : List ℕ) → innerVerdict at u ≡ andThen (innerForm at u) (innerRules at u)
@@ -149,8 +147,8 @@ module _ (x : Inner) (h : LegalInner x) (short : length (x .bytes) < 256) (rest 
                   own,
                   (
                     refuseIf-accepted _ _ _
-                    (ap not (eq-eqb (getD laid (ncsAt laid) 0) (checksumOf (part 1 (ncsAt laid) laid))
-                    (shaped-ncs (wordOf (lineField x)) (wordOf (x .did)) (wordOf (x .sdid)) (wordOf (length (x .bytes))) (map wordOf (x .bytes)) cs rest counted ∙ ap checksumOf (sym (shaped-cover (wordOf (lineField x)) (wordOf (x .did)) (wordOf (x .sdid)) (wordOf (length (x .bytes))) (map wordOf (x .bytes)) cs rest counted))))),
+                        (ap not (eq-eqb (getD laid (ncsAt laid) 0) (checksumOf (part 1 (ncsAt laid) laid))
+                        (shaped-ncs (wordOf (lineField x)) (wordOf (x .did)) (wordOf (x .sdid)) (wordOf (length (x .bytes))) (map wordOf (x .bytes)) cs rest counted ∙ ap checksumOf (sym (shaped-cover (wordOf (lineField x)) (wordOf (x .did)) (wordOf (x .sdid)) (wordOf (length (x .bytes))) (map wordOf (x .bytes)) cs rest counted))))),
                     tt,
                   ),
                 ),

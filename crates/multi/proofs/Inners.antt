@@ -4,12 +4,12 @@ use Prim.Native.Nat.{ℕ, zero, suc, _+_, _*_, _≤_, _<_}
 use native.Mathlib.Omega.{arith}
 use mathlib.Core.Path.{_≡_, _∙_, ap, ap₂, sym, subst, refl}
 use mathlib.Core.List.{List, [], _∷_, _++_, map}
-use lib.ListN.{length, getD, take, drop, length-append, length-drop, take-append-drop}
+use lib.ListN.{length, take, drop, length-append, length-drop, take-append-drop}
 use Rattle.lists.specs.Each.{Each}
 use Rattle.refusal.specs.declared.Verdict.{Verdict}
 use Rattle.refusal.specs.declared.Verdict.the-variants.{Accepted}
 use Rattle.refusal.specs.Checks.{andThen, first}
-use Rattle.refusal.proofs.Checks.{accepted-andThen, andThen-accepted}
+use Rattle.refusal.proofs.Checks.{accepted-andThen}
 use Rattle.refusal.proofs.Sequence.{first-append}
 use Rattle.multi.specs.Value.{Inner, LegalInner, innerWords, innersWords}
 use Rattle.multi.specs.Layout.{layoutInner, layoutInners}

@@ -4,10 +4,9 @@ use Prim.Native.Nat.{ℕ, _+_, _-_, _*_, _≤_, _<_}
 use native.Mathlib.Omega.{arith}
 use native.Mathlib.Numerals.{add-one}
 use mathlib.Core.Path.{_≡_, _∙_, ap, ap₂, sym, refl}
-use mathlib.Core.Logic.{⊎-elim}
 use mathlib.Core.List.{List, [], _∷_, _++_, map, append-assoc, append-nil}
 use lib.ListN.{length, getD, take, drop, length-map, length-append, take-append-drop}
-use lib.Seq.{take-suc, take-all}
+use lib.Seq.{take-suc}
 use borrow.Rule.Slice.PartMut.{putMid}
 use Rattle.lists.specs.Each.{Each}
 use Rattle.lists.specs.Room.{over, overAt}
@@ -18,13 +17,13 @@ use Rattle.refusal.specs.declared.Verdict.the-variants.{Accepted}
 use Rattle.refusal.proofs.Checks.{accepted-each}
 use Rattle.anc.specs.Words.{wordOf, byteOf, checksumOf}
 use Rattle.anc.proofs.Words.{accepted-words}
-use Rattle.multi.specs.Value.{Inner, innerWords, innersWords, userCount}
-use Rattle.multi.specs.Layout.{coveredInner, layoutInner, layoutInners, userWords, covered, layout}
+use Rattle.multi.specs.Value.{innerWords, innersWords}
+use Rattle.multi.specs.Layout.{layoutInner, layoutInners, userWords, layout}
 use Rattle.multi.specs.Lent.{Told, userOf, innerOf, held}
 use Rattle.multi.specs.Writing.{headVerdict, headsVerdict}
-use Rattle.multi.specs.Inside.{headsWords, CountsUser, headerWords}
+use Rattle.multi.specs.Inside.{headsWords, headerWords}
 use Rattle.multi.proofs.Inners.{length-inners}
-use Rattle.multi.proofs.Writable.{Writable, accepted-head}
+use Rattle.multi.proofs.Writable.{accepted-head}
 
 -- ONE INNER PACKET
 

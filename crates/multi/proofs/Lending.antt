@@ -8,14 +8,13 @@ use lib.ListN.{length, getD, take, drop, length-append, length-drop, length-map}
 use lib.Seq.{take-at, drop-at, drop-drop}
 use Rattle.lists.specs.Each.{Each}
 use Rattle.lists.specs.Room.{filled}
-use Rattle.refusal.specs.declared.Verdict.the-variants.{Accepted}
 use Rattle.anc.specs.Words.{wordOf, byteOf, wordsVerdict, checksumOf}
 use Rattle.anc.proofs.Words.{words-bytes, words-accepted}
-use Rattle.multi.specs.Value.{Inner, LegalInner, Multi, Legal, innerWords, innersWords}
-use Rattle.multi.specs.Layout.{coveredInner, layoutInner, layoutInners, userWords, covered, layout}
+use Rattle.multi.specs.Value.{Inner, LegalInner, Multi, Legal, innerWords}
+use Rattle.multi.specs.Layout.{coveredInner, layoutInner, layoutInners, covered, layout}
 use Rattle.multi.specs.Order.{sizeIn, bytesIn}
 use Rattle.multi.specs.Reading.{readInner}
-use Rattle.multi.specs.Lent.{headOf, headsOf, noHead, Told, userOf, innerOf, held, Lent, LegalTold}
+use Rattle.multi.specs.Lent.{headOf, headsOf, noHead, userOf, innerOf, stored, held, Lent, LegalTold}
 use Rattle.multi.proofs.Inner.{length-inner, bytes-count}
 
 pub length-heads : (at : ℕ) (xs : List Inner) → length (headsOf at xs) ≡ length xs
@@ -78,10 +77,6 @@ module _ (s : List ℕ) where
   heads-lent at (x ∷ xs) rest here h =
       let mine : drop at s ≡ layoutInner x ++ (layoutInners xs ++ rest) = here ∙ append-assoc (layoutInner x) (layoutInners xs) rest in
       (head-lent s at x (layoutInners xs ++ rest) mine (h .0), heads-lent (at + innerWords x) xs rest (next-at s at x (layoutInners xs ++ rest) mine) (h .1))
-
--- a value, told by its heads and the words of its layout
-abbrev pub stored : Multi → Told
-stored v = record { priority = v .priority; heads = headsOf 7 (v .inners); words = layout v }
 
 pub stored-held : (v : Multi) → Legal v → held (stored v) ≡ v
 stored-held v h =

@@ -13,3 +13,5 @@ pub mod Determined
 pub mod Judged
 pub mod Laid
 pub mod Types
+pub mod Placed
+pub mod Theorems

@@ -2,13 +2,13 @@
 -- Assumes nothing.
 use Prim.Native.Nat.{ℕ, suc, _+_, _-_, _≤_, _<_}
 use native.Mathlib.Omega.{arith}
-use mathlib.Core.Path.{_≡_, _∙_, ap, ap₂, sym, refl}
+use mathlib.Core.Path.{_≡_, _∙_, ap, sym, refl}
 use mathlib.Core.List.{List, [], _∷_, _++_}
 use lib.ListN.{length, getD, take, drop, length-append, take-append-drop}
 use lib.Seq.{take-at, drop-at, getD-at, append-snoc, drop-cons, length-take-le}
 use Rattle.lists.specs.Part.{part}
 use Rattle.anc.specs.Words.{byteOf}
-use Rattle.multi.specs.Order.{countIn, ncsAt, sizeIn}
+use Rattle.multi.specs.Order.{ncsAt, sizeIn}
 
 -- LINE/FIELD, NDID, NSDID, NDC, the user words, NCS, and what is behind it
 abbrev pub shaped : ℕ → ℕ → ℕ → ℕ → List ℕ → ℕ → List ℕ → List ℕ

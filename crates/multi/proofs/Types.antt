@@ -2,14 +2,13 @@
 -- Assumes nothing.
 use Prim.Native.Nat.{ℕ, _<_}
 use native.Mathlib.Omega.{arith}
-use mathlib.Core.Path.{_≡_}
 use mathlib.Core.List.{List, [], _∷_}
 use mir.Syntax.{w16}
 use mir.Val.{Val}
 use denote.Shadow.{shadow}
 use denote.Plain.{UInt}
 use denote.Array.{Array, each}
-use lib.ListN.{length, getD}
+use lib.ListN.{getD}
 use Rattle.lists.specs.Each.{Each}
 use Rattle.lists.proofs.Each.{each-at}
 

@@ -8,7 +8,6 @@ use mathlib.Core.List.{List, [], _∷_, _++_, map}
 use borrow.Author.Tests.{eq-eqb, ne-eqb, eqb-false, le-ltb}
 use lib.Dec.{eqb, ltb}
 use lib.ListN.{length, getD}
-use Rattle.lists.specs.Each.{Each}
 use Rattle.lists.specs.Part.{part}
 use Rattle.refusal.specs.declared.Verdict.{Verdict}
 use Rattle.refusal.specs.declared.Verdict.the-variants.{Accepted}
@@ -19,9 +18,9 @@ use Rattle.refusal.proofs.Checks.{accepted-refuseIf, refuseIf-accepted, accepte
 use Rattle.refusal.proofs.Sequence.{first-append}
 use Rattle.anc.specs.Words.{parityOf, wordOf, byteOf, wordsVerdict, sumVerdict, checksumOf}
 use Rattle.anc.proofs.Words.{word-byte, words-accepted, accepted-words, sum-accepted}
-use Rattle.multi.specs.Value.{Inner, Multi, Legal, LegalInner, innersWords, userCount}
+use Rattle.multi.specs.Value.{Inner, Multi, Legal, innersWords, userCount}
 use Rattle.multi.specs.Layout.{layoutInners, userWords, covered, layout}
-use Rattle.multi.specs.Order.{innersIn, coveredIn, lastWord, outerChecks, innersChecks, readingChecks}
+use Rattle.multi.specs.Order.{innersIn, coveredIn, lastWord, outerChecks, innersChecks}
 use Rattle.multi.specs.Reading.{innersVerdict, outerVerdict, multiVerdict, valueOf}
 use Rattle.multi.specs.Inside.{outerForm, outerHeader}
 use Rattle.multi.proofs.Frame.{framed, framed-length, framed-inners, framed-covered, framed-last, frame}
@@ -46,11 +45,11 @@ multi-parts s =
     (first-append own (sumCheck s ∷ []) ∙ ap (λ (v : Verdict). andThen (first own) v) (andThen-last (sumCheck s)))
 
 -- the words of the identifiers
-did-word : wordOf 0x43 ≡ 0x143
+pub did-word : wordOf 0x43 ≡ 0x143
 unfolding wordOf parityOf
 did-word = refl
 
-sdid-word : wordOf 0x03 ≡ 0x203
+pub sdid-word : wordOf 0x03 ≡ 0x203
 unfolding wordOf parityOf
 sdid-word = refl
 

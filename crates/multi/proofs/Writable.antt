@@ -4,20 +4,17 @@ use Prim.Native.Nat.{ℕ, zero, suc, _+_, _≤_, _<_}
 use native.Mathlib.Omega.{arith}
 use native.Mathlib.Numerals.{add-one}
 use mathlib.Core.Path.{_≡_, _∙_, ap, ap₂, sym, refl}
-use mathlib.Core.Bool.{Bool, true, false, not}
-use mathlib.Core.List.{List, [], _∷_, _++_, map}
+use mathlib.Core.List.{List, [], _∷_, map}
 use borrow.Author.Tests.{eq-eqb, ne-eqb, eqb-false, lt-ltb, le-ltb}
 use lib.Dec.{eqb, ltb}
 use lib.ListN.{length, getD, drop, length-map}
 use lib.Seq.{drop-cons}
 use Rattle.lists.specs.Each.{Each}
-use Rattle.lists.specs.Bytes.{Bytes}
-use Rattle.lists.proofs.Each.{each-both, each-map}
 use Rattle.refusal.specs.declared.Verdict.{Verdict}
 use Rattle.refusal.specs.declared.Verdict.the-variants.{Accepted, Refused}
 use Rattle.refusal.specs.declared.Reason.the-variants.{Unfit, NoRoom, Unholdable, NoInner}
 use Rattle.refusal.specs.declared.Misfit.the-variants.{UserWords}
-use Rattle.refusal.specs.declared.Excess.the-variants.{PriorityWord, InnerLine, InnerField, InnerIdentifier, InnerPart}
+use Rattle.refusal.specs.declared.Excess.the-variants.{PriorityWord}
 use Rattle.refusal.specs.declared.Item.the-variants.{Whole}
 use Rattle.refusal.specs.Checks.{refuseIf, andThen, first}
 use Rattle.refusal.specs.Order.{eachOf}
@@ -26,9 +23,9 @@ use Rattle.refusal.proofs.Sequence.{first-append, first-each}
 use Rattle.anc.specs.Words.{byteOf, wordsVerdict}
 use Rattle.anc.proofs.Words.{bytes-bytes}
 use Rattle.sdp.specs.User.{userVerdict}
-use Rattle.multi.specs.Value.{Inner, LegalInner, Multi, Legal, userCount}
+use Rattle.multi.specs.Value.{LegalInner}
 use Rattle.multi.specs.Layout.{userWords, layout}
-use Rattle.multi.specs.Order.{subtitlingId, onlyIf, unplaced, headChecks, writingChecks}
+use Rattle.multi.specs.Order.{subtitlingId, onlyIf, unplaced, headChecks}
 use Rattle.multi.specs.Lent.{Told, userOf, innerOf, held, Lent, LegalTold}
 use Rattle.multi.specs.Writing.{headVerdict, headsVerdict, valueVerdict}
 use Rattle.multi.proofs.Inner.{own-accepted, accepted-own}

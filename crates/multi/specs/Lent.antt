@@ -14,6 +14,7 @@ use Rattle.refusal.specs.Answers.{lentOf}
 use Rattle.anc.specs.Words.{byteOf, wordsVerdict}
 use Rattle.multi.specs.declared.Answer.{Answer}
 use Rattle.multi.specs.Value.{Inner, Multi, Legal, innerWords}
+use Rattle.multi.specs.Layout.{layout}
 use Rattle.multi.specs.Order.{innersIn}
 use Rattle.multi.specs.Reading.{multiVerdict, cut, valueOf}
 
@@ -35,6 +36,10 @@ pub record Told : Type 0 where
   pub priority : ℕ
   pub heads : List (List ℕ)
   pub words : List ℕ
+
+-- a value, told by its heads and the words of its layout
+abbrev pub stored : Multi → Told
+stored v = record { priority = v .priority; heads = headsOf 7 (v .inners); words = layout v }
 
 -- the user words of a head
 abbrev pub userOf : List ℕ → List ℕ → List ℕ

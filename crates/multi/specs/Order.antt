@@ -1,7 +1,7 @@
 -- RULES, "Order of checks", for the multipacket: all checks of reading and of writing, each of the input alone, in the
 -- order of RULES. Reading and writing give the first that finds a fault. 11 of a row of words is `wordsVerdict`, word
 -- after word (`anc`), and the rules over a subtitling packet's user words are `userVerdict` (`sdp`), from left to right.
-use Prim.Native.Nat.{ℕ, zero, suc, _+_, _-_, _/_, _%_}
+use Prim.Native.Nat.{ℕ, zero, suc, _+_, _-_, _/_}
 use mathlib.Core.Bool.{Bool, true, false, not, _&&_}
 use mathlib.Core.List.{List, [], _∷_, _++_, map}
 use lib.Dec.{eqb, ltb}
@@ -65,8 +65,8 @@ innerChecks at u =
     ∷ refuseIf (not (eqb (getD u (ncsAt u) 0) (checksumOf (part 1 (ncsAt u) u)))) InnerChecksum (Word (at + ncsAt u))
     ∷ []
 
--- inner packet after inner packet, on what is left of the user words, up to their end. Each takes a word or more, so that
--- there are no more of them than k, the number of words
+-- one inner packet after the other, each on the words behind those before it, up to the end. Each takes a word or more,
+-- so that there are no more of them than k, the number of words
 abbrev pub innersChecks : ℕ → ℕ → List ℕ → List Verdict
 innersChecks zero at u = []
 innersChecks (suc k) at [] = []

@@ -46,6 +46,14 @@ pub record FlagBroken (s : List ℕ) (word : ℕ) : Type 0 where
   pub other : getD s word 0 ≡ getD flagWords word 0 → ⊥
   pub before : (i : ℕ) → i < word → getD s i 0 ≡ getD flagWords i 0
 
+-- what is so whatever the value is: the flag, DID and SDID; and in each inner packet b6 and b7 of LINE/FIELD, and that NCS
+-- is the sum over the words from NDID to the last user word
+pub record FixedWords (s : List ℕ) : Type 0 where
+  pub flag : (i : ℕ) → i < 3 → getD s i 0 ≡ getD flagWords i 0
+  pub identifiers : (i : ℕ) → i < 2 → byteOf (getD s (3 + i) 0) ≡ getD identifierBytes i 0
+  pub unused : (at : ℕ) → Complete s at → byteOf (getD s at 0) / 64 ≡ 0
+  pub sums : (at : ℕ) → Complete s at → getD s (ncs s at) 0 ≡ checksumOf (part (at + 1) (ncs s at) s)
+
 -- WHAT STANDS AT A PLACE
 
 -- what is wrong at a word, for each number that reading gives

@@ -37,6 +37,10 @@ pub record LegalInner (x : Inner) : Type 0 where
   pub bytes : Bytes (x .bytes)
   pub subtitles : x .did ≡ 0x43 → x .sdid ≡ 0x02 → Subtitles (x .bytes)
 
+-- the same inner packet with other user bytes
+abbrev pub withBytes : Inner → List ℕ → Inner
+withBytes x bytes = record { line = x .line; field = x .field; did = x .did; sdid = x .sdid; bytes = bytes }
+
 -- how many words an inner packet has: LINE/FIELD, NDID, NSDID, NDC and NCS beside its user words
 abbrev pub innerWords : Inner → ℕ
 innerWords x = 5 + length (x .bytes)

@@ -89,8 +89,8 @@ fn judge_header(words: &[u16]) -> Verdict
     Verdict::Accepted
 }
 
-// The inner packets, on what is left of the user words, which grows shorter each time: the first stands in word `at`, and those behind it are
-// judged by this function itself.
+// The inner packets, of which the first stands in word `at`. Those behind it are judged by this function itself, on the part of the words that
+// remains: it is shorter by the first, so that this ends.
 fn judge_inners(rest: &[u16], at: u16) -> Verdict
     requires { ⌜ at + length (now rest) < 65536 ⌝ }
     ensures { λ r. ⌜ r ≡ innersVerdict at (now (rest .entry)) ⌝ }

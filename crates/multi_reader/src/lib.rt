@@ -51,7 +51,14 @@ fn put_heads(rest: &[u16], at: u16, heads: &mut [[u16; HEAD]]) -> usize
         return 0;
     }
     let count = rest[3] % 256;
-    heads[0] = [rest[0] % 32, rest[0] / 32 % 2, rest[1] % 256, rest[2] % 256, at + 4, count];
+    heads[0] = [
+        rest[0] % 32,
+        rest[0] / 32 % 2,
+        rest[1] % 256,
+        rest[2] % 256,
+        at + 4,
+        count,
+    ];
     let size = INNER_WORDS as u16 + count;
     1 + put_heads(&rest[size as usize..n], at + size, &mut heads[1..])
 }

@@ -1,20 +1,20 @@
 -- `multi_judge::judge` meets its contract: the four parts of `multiVerdict`, one behind the other.
 -- Assumes nothing.
-use Prim.Native.Nat.{ℕ, _-_, _≤_, _<_}
+use Prim.Native.Nat.{ℕ, _-_, _≤_}
 use native.Mathlib.Omega.{arith}
 use mathlib.Core.Path.{_≡_, _∙_, ap, sym}
 use mathlib.Core.List.{List}
 use borrow.Author.Needs.{needs}
 use borrow.Author.Tests.{eq-eqb, ne-eqb}
 use denote.Ref.{now}
-use lib.ListN.{length, length-drop}
+use lib.ListN.{length}
 use Rattle.lists.proofs.Part.{length-part}
 use Rattle.refusal.specs.declared.Verdict.{Verdict}
 use Rattle.refusal.specs.declared.Verdict.the-variants.{Accepted}
 use Rattle.refusal.specs.Checks.{andThen}
 use Rattle.refusal.proofs.Checks.{refused-first, accepted-first, andThen-accepted, andThen-assoc}
 use Rattle.multi.specs.Order.{innersIn}
-use Rattle.multi.specs.Reading.{innersVerdict, outerVerdict, multiVerdict}
+use Rattle.multi.specs.Reading.{innersVerdict, multiVerdict}
 use Rattle.multi.specs.Inside.{outerForm, outerHeader}
 use Rattle.multi.proofs.Whole.{sumCheck, outer-halves, multi-parts, Outer, accepted-outer, form-short}
 use Rattle.multi_judge.proofs.judge.Statement.{statement}

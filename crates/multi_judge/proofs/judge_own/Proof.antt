@@ -1,6 +1,6 @@
 -- `multi_judge::judge_own` meets its contract: the words that are lent to `judge_user` are the user words.
 -- Assumes nothing.
-use mathlib.Core.Path.{_≡_, _∙_, ap, sym}
+use mathlib.Core.Path.{_∙_, ap, sym}
 use mathlib.Core.Bool.{Bool}
 use borrow.Author.Needs.{needs}
 use denote.Ref.{now}

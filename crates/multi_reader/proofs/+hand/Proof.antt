@@ -140,8 +140,7 @@ hand-hand-requires t c κs =
     let past = c .before .before .before in
     let start = past .before .before in
     let u = now (start .args .rest) in
-    let next = next-inner (start .pre .1 .0) u (past .if1 .left) (start .pre .1 .1) in
-    (
+    let next = next-inner (start .pre .1 .0) u (past .if1 .left) (start .pre .1 .1) in (
       omega (arith, start .pre .0, next .header, next .long, length-rest u (sizeIn u)),
       (start .pre .1 .0 + sizeIn u, ap (innersVerdict (start .pre .1 .0 + sizeIn u)) (rest-whole u (sizeIn u)) ∙ next .rest),
     )

@@ -1,11 +1,11 @@
 -- `multi_reader::put_heads` meets its contract. The measure is the number of words that are left; the rest of the array is lent with them.
 -- Assumes nothing.
-use Prim.Native.Nat.{ℕ, _+_, _-_, _/_, _%_, _≤_, _<_}
+use Prim.Native.Nat.{ℕ, _+_, _-_, _≤_, _<_}
 use native.Mathlib.Omega.{arith}
 use mathlib.Core.Path.{_≡_, _∙_, ap, ap₂, sym, subst, refl}
 use mathlib.Core.List.{List, [], _∷_}
 use denote.Ref.{now}
-use lib.ListN.{length, getD, take, drop, set, length-set}
+use lib.ListN.{length, take, drop, set, length-set}
 use Rattle.lists.specs.Room.{over}
 use Rattle.lists.proofs.Lay.{length-over, rest-whole, length-rest, store-next, laid-more}
 use Rattle.multi.specs.Value.{Inner, innerWords}
@@ -238,15 +238,14 @@ put-heads-put-heads-requires t c κs =
     let heads = now (start .args .heads) in
     let fits = room (start .args .at) u heads (past .if1 .left) (start .pre .1 .1 .1) in
     let xs = set heads 0 (headIn (start .args .at) u) in
-    let left = rest-whole u (sizeIn u) in
-    (
+    let left = rest-whole u (sizeIn u) in (
       omega (arith, start .pre .0, next .header, next .long, length-rest u (sizeIn u)),
       (
         omega (arith, start .pre .1 .0, next .long, length-rest u (sizeIn u)),
         (
           ap (innersVerdict (start .args .at + sizeIn u)) left ∙ next .rest,
           subst (λ (ws : List ℕ). length (inners ws) ≤ length (take (length xs - 1) (drop 1 xs))) (sym left)
-          (omega (arith, fits .1, fits .0, length-rest xs 1, length-set heads 0 (headIn (start .args .at) u))),
+              (omega (arith, fits .1, fits .0, length-rest xs 1, length-set heads 0 (headIn (start .args .at) u))),
         ),
       ),
     )
@@ -286,14 +285,13 @@ put-heads-returns-2 t c =
     let left = rest-whole u (sizeIn u) in
     let all = read-next u (some _ (past .if1 .left)) in
     let piece = headsOf (at + sizeIn u) (inners (behind u)) in
-    let count : innerWords (readInner u) ≡ sizeIn u = inner-count u (next .long) in
-    (
+    let count : innerWords (readInner u) ≡ sizeIn u = inner-count u (next .long) in (
       omega (arith, call .put-heads .ensures .0, ap (λ (ws : List ℕ). length (inners ws)) left, ap length all),
       laid-more (h ∷ []) piece heads xs _ 1 (store-next [] heads h 0 refl (fits .0)) refl
-      (call .put-heads .ensures .1 ∙ ap (λ (ws : List ℕ). over (headsOf (at + sizeIn u) (inners ws)) (take (length xs - 1) (drop 1 xs))) left)
-      ∙ sym
-      (ap (λ (ys : List Inner). over (headsOf at ys) heads) all
-      ∙ ap₂ (λ (p : List ℕ) (k : ℕ). over (p ∷ headsOf (at + k) (inners (behind u))) heads) (head-in at u (next .long)) count),
+          (call .put-heads .ensures .1 ∙ ap (λ (ws : List ℕ). over (headsOf (at + sizeIn u) (inners ws)) (take (length xs - 1) (drop 1 xs))) left)
+          ∙ sym
+          (ap (λ (ys : List Inner). over (headsOf at ys) heads) all
+          ∙ ap₂ (λ (p : List ℕ) (k : ℕ). over (p ∷ headsOf (at + k) (inners (behind u))) heads) (head-in at u (next .long)) count),
     )
 
 put-heads-same-length : (t : ℕ) → put-heads-lts.Need-same-length (

@@ -1,15 +1,11 @@
 -- `multi_reader::inner` meets its contract: of what is refused nothing is handed out, and of what is accepted the part that `hand` finds.
 -- Assumes nothing.
-use Prim.Native.Nat.{ℕ, _-_}
+use Prim.Native.Nat.{_-_}
 use native.Mathlib.Omega.{arith}
-use mathlib.Core.Path.{_≡_, _∙_, ap, sym}
-use mathlib.Core.List.{List}
+use mathlib.Core.Path.{_∙_, ap, sym}
 use borrow.Author.Needs.{needs}
 use denote.Ref.{now}
-use lib.ListN.{length}
 use Rattle.refusal.specs.declared.Verdict.{Verdict}
-use Rattle.refusal.specs.declared.Verdict.the-variants.{Accepted}
-use Rattle.multi.specs.Reading.{multiVerdict}
 use Rattle.multi.specs.Lent.{handedOf}
 use Rattle.multi.proofs.Whole.{Passed, passed}
 use Rattle.multi_reader.proofs.inner.Statement.{statement}

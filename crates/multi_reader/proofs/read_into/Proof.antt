@@ -2,12 +2,12 @@
 -- Assumes nothing.
 use Prim.Native.Nat.{ℕ, _-_, _≤_}
 use native.Mathlib.Omega.{arith}
-use mathlib.Core.Path.{_≡_, _∙_, ap, sym}
+use mathlib.Core.Path.{_≡_, _∙_, sym}
 use mathlib.Core.List.{List}
 use borrow.Author.Needs.{needs}
 use denote.Ref.{now}
 use lib.ListN.{length}
-use Rattle.lists.specs.Room.{over, filled}
+use Rattle.lists.specs.Room.{over}
 use Rattle.lists.proofs.Lay.{over-blank}
 use Rattle.lists.proofs.Part.{length-part}
 use Rattle.refusal.specs.declared.Verdict.the-variants.{Accepted}

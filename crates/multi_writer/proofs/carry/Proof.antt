@@ -38,8 +38,7 @@ loop-again c =
     let turn = c .before in
     let at = turn .before in
     let i = at .loop .i in
-    let inside : i < length (out at) = omega (arith, turn .loop-test .taken, kept at) in
-    (
+    let inside : i < length (out at) = omega (arith, turn .loop-test .taken, kept at) in (
       omega arith,
       ap (λ (xs : List ℕ). set xs i (getD (user at) i 0)) (at .loop .inv .1) ∙ front-next (user at) (out at) i 0 (omega (arith, same at)) inside,
     )

@@ -1,6 +1,6 @@
 -- `multi_writer::judge_head` meets its contract: at each return the tests that led there pick that check of `headVerdict`.
 -- Assumes nothing.
-use Prim.Native.Nat.{ℕ, _+_, _≤_, _<_}
+use Prim.Native.Nat.{ℕ, _<_}
 use native.Mathlib.Omega.{arith}
 use mathlib.Core.Path.{_≡_, _∙_, ap, sym}
 use mathlib.Core.Bool.{Bool}

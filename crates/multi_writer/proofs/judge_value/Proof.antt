@@ -12,7 +12,7 @@ use Rattle.refusal.specs.declared.Verdict.the-variants.{Accepted}
 use Rattle.refusal.specs.Checks.{andThen}
 use Rattle.refusal.proofs.Checks.{refused-first, accepted-first}
 use Rattle.multi.specs.Lent.{Told, held}
-use Rattle.multi.specs.Writing.{headVerdict, headsVerdict, valueVerdict}
+use Rattle.multi.specs.Writing.{headVerdict, headsVerdict}
 use Rattle.multi.specs.Inside.{headsWords}
 use Rattle.multi.proofs.Whole.{length-user, length-multi}
 use Rattle.multi.proofs.Writable.{user-count, laid, heads-from, value-priority, value-none, value-heads, value-many, value-no-room, value-fits}

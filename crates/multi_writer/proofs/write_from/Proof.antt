@@ -1,7 +1,7 @@
 -- `multi_writer::write_from` meets its contract: it stores where the refusal's number is 0, which is where the verdict accepts. Header, inner
 -- packets and CS are laid one behind the other.
 -- Assumes nothing.
-use Prim.Native.Nat.{ℕ, _+_, _-_, _≤_, _<_}
+use Prim.Native.Nat.{ℕ, _+_, _-_, _≤_}
 use native.Mathlib.Omega.{arith}
 use mathlib.Core.Path.{_≡_, _∙_, ap, ap₂, sym, subst, subst₃, refl}
 use mathlib.Core.Logic.{⊎-elim}
@@ -14,7 +14,6 @@ use Rattle.lists.specs.Room.{over}
 use Rattle.lists.proofs.Lay.{length-over, length-rest, store-next, laid-more}
 use Rattle.refusal.specs.declared.Refusal.{Refusal}
 use Rattle.refusal.specs.declared.Verdict.{Verdict}
-use Rattle.refusal.specs.declared.Verdict.the-variants.{Accepted}
 use Rattle.refusal.specs.Numbers.{refusalOf}
 use Rattle.refusal.specs.Answers.{Wrote}
 use Rattle.refusal.proofs.Acceptance.{told-accepted}
@@ -25,7 +24,6 @@ use Rattle.multi.specs.Lent.{Told, held}
 use Rattle.multi.specs.Writing.{valueVerdict}
 use Rattle.multi.specs.Inside.{headsWords}
 use Rattle.multi.proofs.Whole.{length-user, length-multi}
-use Rattle.multi.proofs.Inners.{length-inners}
 use Rattle.multi.proofs.Writable.{Holds, accepted-value}
 use Rattle.multi.proofs.Laid.{heads-words, covered-front, front, value-laid}
 use Rattle.multi_writer.proofs.write_from.Statement.{statement}
@@ -111,8 +109,7 @@ module _ (c : tie.After-put-header) where
 put-inners-requires : tie.Need-put-inners-requires
 put-inners-requires c κs =
     let first = c .before .before .before in
-    let n = count first in
-    (
+    let n = count first in (
       both n .0 .heads,
       (omega (arith, counted n, exact n, few n), omega (arith, counted n, exact n, length-rest (headed first) 7, kept first, room n)),
     )
