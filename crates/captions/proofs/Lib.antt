@@ -5,4 +5,5 @@ pub mod BothWays
 pub mod Determined
 pub mod Ga94
 pub mod Runs
+pub mod Inside
 pub mod Theorems

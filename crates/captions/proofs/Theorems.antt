@@ -8,7 +8,8 @@
 -- `reel_units`' page, for `captions_reel_write` (`ReelWrites`); those of `film_lent` for
 -- `captions_film_picture` (`PictureInto`) and `captions_film_close` (`CloseInto`); those of `pes` for
 -- `captions_pes_read` and `captions_pes_write`; those of `pes_convert` for `captions_pes_convert` (`Converts`) and
--- `captions_pes_convert_value` (`ConvertsValue`). Here stands what the boundary adds and, for the calls of the
+-- `captions_pes_convert_value` (`ConvertsValue`); those of `multi` for `captions_multi_read` and
+-- `captions_multi_write`. Here stands what the boundary adds and, for the calls of the
 -- carriages, of plain numbers and lent bytes: when each succeeds, both round trips, and that two answers are equal.
 -- When a value fits is said in specs/Arguments.
 -- How to read it: docs/NOTATION.md.
@@ -17,7 +18,7 @@ use Prim.Native.Nat.{ℕ, _*_, _≤_, _<_}
 use mathlib.Core.Path.{_≡_}
 use mathlib.Core.Logic.{_↔_, _⊎_}
 use mathlib.Core.Bool.{true}
-use mathlib.Core.List.{List}
+use mathlib.Core.List.{List, _∷_}
 use lib.ListN.{length, take}
 use Rattle.lists.specs.Flat.{flat}
 use Rattle.lists.specs.Room.{filled, over}
@@ -59,6 +60,12 @@ use Rattle.pes.specs.Lent as pes-reading
 use Rattle.pes.specs.Writing as pes-writing
 use Rattle.pes.proofs.Theorems as data-field
 use Rattle.pes_convert.specs.Converting.{Converts, ConvertsValue}
+use Rattle.multi.specs.declared.Answer as multi-answer
+use Rattle.multi.specs.Value as multi
+use Rattle.multi.specs.Layout as multi-layout
+use Rattle.multi.specs.Lent as multi-lent
+use Rattle.multi.specs.Writing as multi-writing
+use Rattle.multi.proofs.Theorems as multipacket
 use Rattle.pes_convert.proofs.Theorems as converting
 use Rattle.captions.specs.declared.UnitHead.{UnitHead}
 use Rattle.captions.specs.declared.Ga94Head.{Ga94Head}
@@ -73,6 +80,7 @@ use Rattle.captions.proofs.Succeeding as succeeding
 use Rattle.captions.proofs.BothWays as both-ways
 use Rattle.captions.proofs.Ga94 as atsc
 use Rattle.captions.proofs.Runs as reels
+use Rattle.captions.proofs.Inside as packets-inside
 use Rattle.captions.proofs.Determined as determined
 
 -- NUMBERS
@@ -147,6 +155,11 @@ pub pes-read-exactly : (s lent : List ℕ) (r : pes-head.Head) (exit : List ℕ)
     → r .refusal .number ≡ 0 ↔ ((v : pes.DataField) × pes.Legal v × (pes-layout.layout v ≡ s))
 pes-read-exactly = data-field.accepted-exactly
 
+pub multi-read-exactly : (s : List ℕ) (lent : List (List ℕ)) (r : multi-answer.Answer) (exit : List (List ℕ))
+    → multi-lent.ReadsInto s lent r exit
+    → r .refusal .number ≡ 0 ↔ ((v : multi.Multi) × multi.Legal v × (multi-layout.layout v ≡ s))
+multi-read-exactly = multipacket.accepted-exactly
+
 -- A write call succeeds exactly when the value that its numbers and bytes tell is legal, and the result fits limit and
 -- buffer: the numbers as they are passed (`plain`), not as a byte would cut them.
 pub unit-write-exactly : (reserved flag n z : ℕ) (records out : List ℕ) (r : Written) (exit : List ℕ)
@@ -187,6 +200,12 @@ pub pes-write-exactly : (identifier n : ℕ) (units out : List ℕ) (r : Written
     → pes-writing.Writes (fieldIn identifier n units) out r exit
     → r .refusal .number ≡ 0 ↔ FitsField identifier n units out
 pes-write-exactly = succeeding.pes-write-exactly
+
+pub multi-write-exactly : (t : multi-lent.Told) (out : List ℕ) (r : Written) (exit : List ℕ)
+    → multi-writing.Writes t out r exit
+    → r .refusal .number ≡ 0
+    ↔ (multi-lent.LegalTold t × (length (multi-layout.layout (multi-lent.held t)) ≤ length out))
+multi-write-exactly = multipacket.writes-exactly
 
 -- BOTH WAYS
 
@@ -247,6 +266,14 @@ pub pes-written-read : (identifier n : ℕ) (units out : List ℕ) (w : Written)
     × (exit ≡ filled (take (45 * n) units) 1395 0)
 pes-written-read = data-field.written-read
 
+pub multi-written-read : (t : multi-lent.Told) (out : List ℕ) (w : Written) (end : List ℕ)
+    → multi-writing.Writes t out w end → w .refusal .number ≡ 0
+    → (lent : List (List ℕ)) (r : multi-answer.Answer) (exit : List (List ℕ))
+    → multi-lent.ReadsInto (take (w .len) end) lent r exit
+    → (r ≡ record { refusal = accepted; priority = t .priority; n = length (t .heads) })
+    × (exit ≡ filled (multi-lent.headsOf 7 (multi-lent.held t .inners)) 50 multi-lent.noHead)
+multi-written-read = multipacket.written-read
+
 -- Writing what was read gives the input back: of an area the unit's bytes,
 pub area-read-written : (before : List (List ℕ)) (c : Content) (after : List (List ℕ))
     → area.Legal Scte20 (captioned before c after)
@@ -303,13 +330,30 @@ pub payload-read-written : (s lent : List ℕ) (a : Head) (kept : List ℕ) → 
     → length s ≤ length out → (r ≡ written (length s)) × (exit ≡ over s out)
 payload-read-written = both-ways.payload-read-written
 
--- and of a data field its bytes.
+-- of a data field its bytes,
 pub pes-read-written : (s lent : List ℕ) (a : pes-head.Head) (kept : List ℕ) → pes-reading.ReadsInto s lent a kept
     → a .refusal .number ≡ 0
     → (out : List ℕ) (r : Written) (end : List ℕ)
     → pes-writing.Writes (fieldIn (a .«data_identifier») (a .n) kept) out r end
     → length s ≤ length out → (r ≡ written (length s)) × (end ≡ over s out)
 pes-read-written = data-field.read-written
+
+-- and of a multipacket its words, with the very words that were read.
+pub multi-read-written : (s : List ℕ) (lent : List (List ℕ)) (a : multi-answer.Answer) (kept : List (List ℕ))
+    → multi-lent.ReadsInto s lent a kept → a .refusal .number ≡ 0
+    → (out : List ℕ) (r : Written) (end : List ℕ)
+    → multi-writing.Writes (record { priority = a .priority; heads = take (a .n) kept; words = s }) out r end
+    → length s ≤ length out → (r ≡ written (length s)) × (end ≡ over s out)
+multi-read-written = multipacket.read-written
+
+-- FROM A MULTIPACKET TO A PACKET
+
+-- An inner packet of 143, 102 is a subtitling packet: the flag, and behind it its words from NDID to NCS, are the
+-- layout of a legal packet, so that `captions_packet_read` accepts them.
+pub inner-packet : (x : multi.Inner) → multi.LegalInner x → x .did ≡ 0x43 → x .sdid ≡ 0x02
+    → (v : Sdp) × sdp.Legal v
+    × (0x000 ∷ 0x3FF ∷ 0x3FF ∷ multi-layout.checked (multi-layout.coveredInner x) ≡ packet-layout.layout v)
+inner-packet = packets-inside.inner-packet
 
 -- ONE ANSWER
 
@@ -389,6 +433,16 @@ pub pes-write-determined : (identifier n : ℕ) (units out : List ℕ) (a : Writ
     → (b : Written) (end : List ℕ) → pes-writing.Writes (fieldIn identifier n units) out a exit
     → pes-writing.Writes (fieldIn identifier n units) out b end → (a ≡ b) × (exit ≡ end)
 pes-write-determined = determined.pes-write-determined
+
+pub multi-read-determined : (s : List ℕ) (lent : List (List ℕ)) (a : multi-answer.Answer) (exit : List (List ℕ))
+    → (b : multi-answer.Answer) (end : List (List ℕ))
+    → multi-lent.ReadsInto s lent a exit → multi-lent.ReadsInto s lent b end → (a ≡ b) × (exit ≡ end)
+multi-read-determined = multipacket.read-into-determined
+
+pub multi-write-determined : (t : multi-lent.Told) (out : List ℕ) (a : Written) (exit : List ℕ)
+    → (b : Written) (end : List ℕ)
+    → multi-writing.Writes t out a exit → multi-writing.Writes t out b end → (a ≡ b) × (exit ≡ end)
+multi-write-determined = multipacket.write-determined
 
 pub pes-convert-determined : (s out : List ℕ) (a : Written) (exit : List ℕ) (b : Written) (end : List ℕ)
     → Converts s out a exit → Converts s out b end → (a ≡ b) × (exit ≡ end)

@@ -21,5 +21,5 @@ two-fault-cases = faults.two-fault-cases
 pub starred-count : length table ≡ 31
 starred-count = starred.starred-count
 
-pub two-fault-count : length two-faults ≡ 125
+pub two-fault-count : length two-faults ≡ 156
 two-fault-count = faults.two-fault-count

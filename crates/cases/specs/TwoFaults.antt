@@ -7,7 +7,7 @@ use mathlib.Core.Bool.{Bool, true, false}
 use mathlib.Core.List.{List, [], _∷_, _++_}
 use lib.ListN.{length, replicate, take}
 use Rattle.refusal.specs.declared.Reason.{Reason}
-use Rattle.refusal.specs.declared.Reason.the-variants.{TooLong, NoStart, StartCode, SecondUnit, Ends, Unfixed, FieldNumberZero, DescriptorLine, FieldFalls, LineDoesNotRise, FifthPriority, SampledVideo, WordRange, WordParity, SdpChecksum, Unfit, NoRoom, Unholdable, AdditionalData, NotShown, OtherLine, UnknownUnit, SurplusUnit, UnitLine}
+use Rattle.refusal.specs.declared.Reason.the-variants.{TooLong, NoStart, StartCode, SecondUnit, Ends, Unfixed, FieldNumberZero, DescriptorLine, FieldFalls, LineDoesNotRise, FifthPriority, SampledVideo, WordRange, WordParity, SdpChecksum, Unfit, NoRoom, Unholdable, AdditionalData, NotShown, OtherLine, UnknownUnit, SurplusUnit, UnitLine, NoInner, InnerOverrun, InnerChecksum}
 use Rattle.refusal.specs.declared.Fixed.the-variants as fixed
 use Rattle.refusal.specs.declared.Misfit.the-variants as misfit
 use Rattle.refusal.specs.declared.Excess.the-variants as excess
@@ -38,6 +38,9 @@ use Rattle.pes.specs.Value as pes
 use Rattle.pes.specs.Layout as pes-layout
 use Rattle.pes.specs.Reading.{fieldVerdict}
 use Rattle.pes.specs.Writing as fields
+use Rattle.multi.specs.Reading.{multiVerdict}
+use Rattle.multi.specs.Lent as multipackets
+use Rattle.multi.specs.Writing as multi-writing
 use Rattle.pes_convert.specs.Converting.{ownVerdict, convertVerdict}
 use Rattle.film.specs.declared.Shown.{Shown}
 use Rattle.film.specs.Calls.{pictureVerdict}
@@ -56,6 +59,8 @@ pub data FaultCase : Type 0 where
   film : Shown → CaptionUnit → Reason → ℕ → FaultCase
   field : List ℕ → Reason → ℕ → ℕ → FaultCase
   writeField : pes.Told → ℕ → Reason → ℕ → FaultCase
+  multi : List ℕ → Reason → ℕ → ℕ → FaultCase
+  writeMulti : multipackets.Told → ℕ → Reason → ℕ → FaultCase
   convert : List ℕ → ℕ → Reason → ℕ → ℕ → FaultCase
   convertValue : sdp.Sdp → ℕ → Reason → ℕ → FaultCase
   replace : (kind : Kind) → List ℕ → kinds.CaptionUnit kind → ℕ → Reason → ℕ → ℕ → FaultCase
@@ -80,6 +85,8 @@ Decided (writeReel size us room reason number) = Decides (callVerdict 0 size us 
 Decided (film how u reason number) = Decides (pictureVerdict how u) reason number 0
 Decided (field s reason number place) = Decides (fieldVerdict s) reason number place
 Decided (writeField t room reason number) = Decides (fields.valueVerdict t room) reason number 0
+Decided (multi s reason number place) = Decides (multiVerdict s) reason number place
+Decided (writeMulti t room reason number) = Decides (multi-writing.valueVerdict t room) reason number 0
 Decided (convert s room reason number place) =
     Decides (convertVerdict (packetVerdict s) (valueOf s) room) reason number place
 Decided (convertValue v room reason number) = Decides (convertVerdict (ownVerdict v) v room) reason number 0
@@ -206,6 +213,18 @@ line id parity l =
 -- what is told of a data field: data_identifier, n and units
 abbrev fieldOf : ℕ → ℕ → List pes.DataUnit → pes.Told
 fieldOf identifier n us = record { «data_identifier» = identifier; n = n; units = us }
+
+-- the flag, DID, SDID, DC and the priority, and what is behind them
+abbrev opened : ℕ → ℕ → ℕ → ℕ → List ℕ → List ℕ
+opened did sdid dc priority rest = 0x000 ∷ 0x3FF ∷ 0x3FF ∷ did ∷ sdid ∷ dc ∷ priority ∷ rest
+
+-- an inner packet that is told: line, field, DID, SDID, and its user words among those that are lent
+abbrev head : ℕ → ℕ → ℕ → ℕ → ℕ → ℕ → List ℕ
+head l f did sdid at count = l ∷ f ∷ did ∷ sdid ∷ at ∷ count ∷ []
+
+-- what is told of a multipacket: priority, heads and words
+abbrev multiOf : ℕ → List (List ℕ) → List ℕ → multipackets.Told
+multiOf priority heads words = record { priority = priority; heads = heads; words = words }
 
 -- a picture that shows its top field first, and whether the first is repeated; the set line
 abbrev shown : Bool → ℕ → Shown
@@ -447,6 +466,70 @@ two-faults =
     ∷ writeField (fieldOf 16 2 (line 3 1 6 ∷ line 4 1 7 ∷ [])) 0 UnitLine 7
     -- 7 and 14: line 23 behind stuffing, and no room
     ∷ writeField (fieldOf 16 2 (pes.stuffing (replicate 44 0) ∷ line 2 0 23 ∷ [])) 0 UnitLine 7
+    -- READING A MULTIPACKET
+    -- 1 and 2: 263 words, and no flag
+    ∷ multi (replicate 263 0x001) TooLong 1 263
+    -- 5 and 2: seven words, and no flag
+    ∷ multi (replicate 7 0x001) Ends 5 7
+    -- 2 and 11: second word 3FE, and DID 1024
+    ∷ multi (0x000 ∷ 0x3FE ∷ 0x3FF ∷ 0x400 ∷ 0x203 ∷ 0x206 ∷ 0x200 ∷ 0x20A ∷ 0x250 ∷ 0x101 ∷ 0x200 ∷ 0x151 ∷ 0x1F8 ∷ []) NoStart 2 1
+    -- 11 and 11: a priority of wrong parity, and CS 1024
+    ∷ multi (opened 0x143 0x203 0x206 0x100 (0x20A ∷ 0x250 ∷ 0x101 ∷ 0x200 ∷ 0x151 ∷ 0x400 ∷ [])) WordParity 11 6
+    -- 11 and 6: b9 of CS is its b8, and DID 44
+    ∷ multi (opened 0x244 0x203 0x206 0x200 (0x20A ∷ 0x250 ∷ 0x101 ∷ 0x200 ∷ 0x151 ∷ 0x0F9 ∷ [])) WordParity 11 12
+    -- 6 and 6: DID 44, and SDID 02
+    ∷ multi (opened 0x244 0x102 0x206 0x200 (0x20A ∷ 0x250 ∷ 0x101 ∷ 0x200 ∷ 0x151 ∷ 0x1F8 ∷ [])) (Unfixed fixed.Identifier) 6 3
+    -- 6 and 13: SDID 02, and DC one more
+    ∷ multi (opened 0x143 0x102 0x107 0x200 (0x20A ∷ 0x250 ∷ 0x101 ∷ 0x200 ∷ 0x151 ∷ 0x1F8 ∷ [])) (Unfixed fixed.Identifier) 6 4
+    -- 13 and 26: DC 2, and no inner packet
+    ∷ multi (opened 0x143 0x203 0x102 0x200 (0x248 ∷ [])) (Unfit misfit.DataCount) 13 5
+    -- 26 and 12: no inner packet, and a wrong CS
+    ∷ multi (opened 0x143 0x203 0x101 0x200 (0x101 ∷ [])) NoInner 26 7
+    -- 26 and 11: three words of a header, the first with wrong parity
+    ∷ multi (opened 0x143 0x203 0x104 0x200 (0x300 ∷ 0x250 ∷ 0x101 ∷ 0x29B ∷ [])) InnerOverrun 26 7
+    -- 26 and 11: NDC counts a word that is not there, and has wrong parity
+    ∷ multi (opened 0x143 0x203 0x206 0x200 (0x20A ∷ 0x250 ∷ 0x101 ∷ 0x201 ∷ 0x151 ∷ 0x1F9 ∷ [])) InnerOverrun 26 7
+    -- 11 and 11: a user word of wrong parity, and NCS 1024
+    ∷ multi (opened 0x143 0x203 0x107 0x200 (0x20A ∷ 0x250 ∷ 0x101 ∷ 0x101 ∷ 0x35A ∷ 0x400 ∷ 0x203 ∷ [])) WordParity 11 11
+    -- 11 and 6: b9 of NCS is its b8, and b6 of LINE/FIELD
+    ∷ multi (opened 0x143 0x203 0x206 0x200 (0x14A ∷ 0x250 ∷ 0x101 ∷ 0x200 ∷ 0x351 ∷ 0x138 ∷ [])) WordParity 11 11
+    -- 6 and 5: b7 of LINE/FIELD, and subtitles without user words
+    ∷ multi (opened 0x143 0x203 0x206 0x200 (0x18A ∷ 0x143 ∷ 0x102 ∷ 0x200 ∷ 0x245 ∷ 0x160 ∷ [])) (Unfixed fixed.LineField) 6 7
+    -- 5 and 12: subtitles without user words, and a wrong NCS
+    ∷ multi (opened 0x143 0x203 0x206 0x200 (0x20A ∷ 0x143 ∷ 0x102 ∷ 0x200 ∷ 0x101 ∷ 0x29C ∷ [])) Ends 5 11
+    -- 6 and 12: subtitles that begin with 50, and a wrong NCS
+    ∷ multi (opened 0x143 0x203 0x113 0x200 (0x20A ∷ 0x143 ∷ 0x102 ∷ 0x10D ∷ 0x250 ∷ 0x115 ∷ 0x10D ∷ 0x102 ∷ 0x200 ∷ 0x200 ∷ 0x200 ∷ 0x200 ∷ 0x200 ∷ 0x274 ∷ 0x200 ∷ 0x200 ∷ 0x217 ∷ 0x101 ∷ 0x2B5 ∷ [])) (Unfixed fixed.Identifier) 6 11
+    -- 12 and no 5: a multipacket inside, which is carried, and a wrong NCS
+    ∷ multi (opened 0x143 0x203 0x206 0x200 (0x20A ∷ 0x143 ∷ 0x203 ∷ 0x200 ∷ 0x101 ∷ 0x19D ∷ [])) InnerChecksum 12 11
+    -- 12 and 26: a wrong NCS, and behind it an inner packet of one word
+    ∷ multi (opened 0x143 0x203 0x107 0x200 (0x20A ∷ 0x250 ∷ 0x101 ∷ 0x200 ∷ 0x101 ∷ 0x10A ∷ 0x1B3 ∷ [])) InnerChecksum 12 11
+    -- 12 and 12: a wrong NCS, and a wrong CS
+    ∷ multi (opened 0x143 0x203 0x206 0x200 (0x20A ∷ 0x250 ∷ 0x101 ∷ 0x200 ∷ 0x101 ∷ 0x102 ∷ [])) InnerChecksum 12 11
+    -- 26 and 12: an inner packet of one word behind another, and a wrong CS
+    ∷ multi (opened 0x143 0x203 0x107 0x200 (0x20A ∷ 0x250 ∷ 0x101 ∷ 0x200 ∷ 0x151 ∷ 0x10A ∷ 0x102 ∷ [])) InnerOverrun 26 12
+    -- 6 and 6: b6 of LINE/FIELD in one inner packet, and b7 in the next
+    ∷ multi (opened 0x143 0x203 0x110 0x200 (0x20A ∷ 0x250 ∷ 0x101 ∷ 0x200 ∷ 0x151 ∷ 0x14A ∷ 0x250 ∷ 0x101 ∷ 0x200 ∷ 0x151 ∷ 0x18A ∷ 0x250 ∷ 0x101 ∷ 0x200 ∷ 0x151 ∷ 0x11A ∷ [])) (Unfixed fixed.LineField) 6 12
+    -- WRITING A MULTIPACKET
+    -- 15 and 26: priority 256, and no inner packet
+    ∷ writeMulti (multiOf 256 [] []) 0 (Unholdable excess.PriorityWord) 15
+    -- 26 and 14: no inner packet, and no room
+    ∷ writeMulti (multiOf 0 [] []) 0 NoInner 26
+    -- 15 and 15: line 32, and field 2
+    ∷ writeMulti (multiOf 0 (head 32 2 0x50 1 0 0 ∷ []) []) 0 (Unholdable excess.InnerLine) 15
+    -- 15 and 15: field 2, and DID 256
+    ∷ writeMulti (multiOf 0 (head 31 2 256 1 0 0 ∷ []) []) 0 (Unholdable excess.InnerField) 15
+    -- 15 and 15: SDID 256, and a user word where none is lent
+    ∷ writeMulti (multiOf 0 (head 31 1 0x50 256 0 1 ∷ []) []) 0 (Unholdable excess.InnerIdentifier) 15
+    -- 15 and 11: a user word beyond the one that is lent, which has wrong parity
+    ∷ writeMulti (multiOf 0 (head 31 1 0x50 1 0 2 ∷ []) (0x100 ∷ [])) 0 (Unholdable excess.InnerPart) 15
+    -- 11 and 5: subtitles of one user word, which has wrong parity
+    ∷ writeMulti (multiOf 0 (head 10 1 0x43 2 0 1 ∷ []) (0x100 ∷ [])) 0 WordParity 11
+    -- 5 and 15: subtitles without user words, and line 32 in the next
+    ∷ writeMulti (multiOf 0 (head 10 1 0x43 2 0 0 ∷ head 32 1 0x50 1 0 0 ∷ []) []) 0 Ends 5
+    -- 15 and 13: line 32 behind 51 inner packets, which make 256 user words
+    ∷ writeMulti (multiOf 0 (replicate 51 (head 0 0 0x50 1 0 0) ++ (head 32 0 0x50 1 0 0 ∷ [])) []) 0 (Unholdable excess.InnerLine) 15
+    -- 13 and 14: 51 inner packets, and no room
+    ∷ writeMulti (multiOf 0 (replicate 51 (head 0 0 0x50 1 0 0)) []) 0 (Unfit misfit.UserWords) 13
     -- CONVERTING A PACKET
     -- 6 and 7: the footer 75, and a full slot of line 6
     ∷ convert (one 0x200 0x255 0x255 0x227 0x175) 0 (Unfixed fixed.Footer) 6 60

@@ -7,9 +7,9 @@
 -- multipacket, and what a refusal tells of its place, in Places.
 --
 -- `ReadsInto s lent r exit` is the promise of `read_into` (crate multi_reader): to the words s it answers r, and in a
--- lent array that held `lent` it leaves `exit`. `Hands s i r` is that of `inner` (multi_reader): of the words s it hands
--- out r for inner packet i. `Writes t out r exit` is that of `write_from` (crate multi_writer): writing what is told by
--- t to an output that held `out` answers r and leaves `exit`. So each theorem speaks of every call.
+-- lent array that held `lent` it leaves `exit`. `Hands s i r` is that of `inner` (multi_reader): of the words s it
+-- hands out r for inner packet i. `Writes t out r exit` is that of `write_from` (crate multi_writer): writing what is
+-- told by t to an output that held `out` answers r and leaves `exit`. So each theorem speaks of every call.
 -- Assumes nothing.
 use Prim.Native.Nat.{ℕ, _+_, _≤_, _<_}
 use mathlib.Core.Path.{_≡_}
@@ -44,8 +44,8 @@ use Rattle.multi.proofs.Determined as determined
 
 -- READING
 
--- The answer to a legal value's words is that value: the priority, how many inner packets there are, and a head for each
--- in the lent array, zeros behind them. A head says where the user words stand in the words that were read.
+-- The answer to a legal value's words is that value: the priority, how many inner packets there are, and a head for
+-- each in the lent array, zeros behind them. A head says where the user words stand in the words that were read.
 pub the-answer : (v : Multi) → Legal v
     → (lent : List (List ℕ)) (r : Answer) (exit : List (List ℕ)) → ReadsInto (layout v) lent r exit
     → (r ≡ record { refusal = accepted; priority = v .priority; n = length (v .inners) })

@@ -129,8 +129,9 @@ fn judge_words(rest: &[u16], at: u16) -> Verdict
         return Verdict::Refused(Reason::InnerOverrun, Item::Word(at as usize));
     }
     let ncs = HEADER_WORDS + (rest[3] % 256) as usize;
+    let place = at as usize;
     if n <= ncs {
-        return Verdict::Refused(Reason::InnerOverrun, Item::Word(at as usize));
+        return Verdict::Refused(Reason::InnerOverrun, Item::Word(place));
     }
     let verdict = anc::judge_part(&rest[0..ncs], at);
     if let Verdict::Refused(_, _) = verdict {
@@ -154,8 +155,9 @@ fn judge_rules(rest: &[u16], at: u16) -> Verdict
     if let Verdict::Refused(_, _) = own {
         return own;
     }
+    let place = at as usize + ncs;
     if rest[ncs] != anc::checksum(&rest[1..ncs]) {
-        return Verdict::Refused(Reason::InnerChecksum, Item::Word(at as usize + ncs));
+        return Verdict::Refused(Reason::InnerChecksum, Item::Word(place));
     }
     Verdict::Accepted
 }

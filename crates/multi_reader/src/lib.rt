@@ -50,17 +50,31 @@ fn put_heads(rest: &[u16], at: u16, heads: &mut [[u16; HEAD]]) -> usize
     if n == 0 {
         return 0;
     }
-    let count = rest[3] % 256;
+    let count = word_at(rest, 3) % 256;
+    let size = INNER_WORDS as u16 + count;
+    let next = size as usize;
+    let line_field = word_at(rest, 0);
+    let did = word_at(rest, 1) % 256;
+    let sdid = word_at(rest, 2) % 256;
     heads[0] = [
-        rest[0] % 32,
-        rest[0] / 32 % 2,
-        rest[1] % 256,
-        rest[2] % 256,
+        line_field % 32,
+        line_field / 32 % 2,
+        did,
+        sdid,
         at + 4,
         count,
     ];
-    let size = INNER_WORDS as u16 + count;
-    1 + put_heads(&rest[size as usize..n], at + size, &mut heads[1..])
+    1 + put_heads(&rest[next..n], at + size, &mut heads[1..])
+}
+
+// The word at index i, or 0 where there is none.
+fn word_at(rest: &[u16], i: usize) -> u16
+    ensures { λ r. ⌜ r ≡ getD (now (rest .entry)) i 0 ⌝ }
+{
+    if rest.len() <= i {
+        return 0;
+    }
+    rest[i]
 }
 
 // Hands out inner packet i, from LINE/FIELD to NCS: no words where there is no such, and where the multipacket is refused.
