@@ -14,7 +14,7 @@ use Rattle.refusal.proofs.Sequence.{first-append}
 use Rattle.multi.specs.Value.{Inner, LegalInner, innerWords, innersWords}
 use Rattle.multi.specs.Layout.{layoutInner, layoutInners}
 use Rattle.multi.specs.Order.{sizeIn, innerChecks, innersChecks}
-use Rattle.multi.specs.Reading.{innerVerdict, innersVerdict, readInner, cut, readInners}
+use Rattle.multi.specs.Reading.{innerVerdict, innersVerdict, readInner, rests, cut, readInners}
 use Rattle.multi.proofs.Inner.{inner-long, length-inner, inner-accepted, inner-size, inner-behind, inner-taken, inner-back, accepted-inner}
 
 -- WHAT IS LEFT GROWS SHORTER
@@ -39,25 +39,15 @@ checks-same (suc k) (suc j) at (w ∷ u) h g =
     ap (λ (rest : List Verdict). innerChecks at (w ∷ u) ++ rest)
     (checks-same k j (at + sizeIn (w ∷ u)) (drop (sizeIn (w ∷ u)) (w ∷ u)) (shorter w u k h) (shorter w u j g))
 
-read-same : (k j : ℕ) (u : List ℕ) → length u ≤ k → length u ≤ j → readInners k u ≡ readInners j u
-read-same zero zero u h g = refl
-read-same zero (suc j) [] h g = refl
-read-same zero (suc j) (w ∷ u) h g = none w u h
-read-same (suc k) zero [] h g = refl
-read-same (suc k) zero (w ∷ u) h g = none w u g
-read-same (suc k) (suc j) [] h g = refl
-read-same (suc k) (suc j) (w ∷ u) h g =
-    ap (λ (xs : List Inner). readInner (w ∷ u) ∷ xs) (read-same k j (drop (sizeIn (w ∷ u)) (w ∷ u)) (shorter w u k h) (shorter w u j g))
-
-cut-same : (k j : ℕ) (u : List ℕ) → length u ≤ k → length u ≤ j → cut k u ≡ cut j u
-cut-same zero zero u h g = refl
-cut-same zero (suc j) [] h g = refl
-cut-same zero (suc j) (w ∷ u) h g = none w u h
-cut-same (suc k) zero [] h g = refl
-cut-same (suc k) zero (w ∷ u) h g = none w u g
-cut-same (suc k) (suc j) [] h g = refl
-cut-same (suc k) (suc j) (w ∷ u) h g =
-    ap (λ (xs : List (List ℕ)). take (sizeIn (w ∷ u)) (w ∷ u) ∷ xs) (cut-same k j (drop (sizeIn (w ∷ u)) (w ∷ u)) (shorter w u k h) (shorter w u j g))
+rests-same : (k j : ℕ) (u : List ℕ) → length u ≤ k → length u ≤ j → rests k u ≡ rests j u
+rests-same zero zero u h g = refl
+rests-same zero (suc j) [] h g = refl
+rests-same zero (suc j) (w ∷ u) h g = none w u h
+rests-same (suc k) zero [] h g = refl
+rests-same (suc k) zero (w ∷ u) h g = none w u g
+rests-same (suc k) (suc j) [] h g = refl
+rests-same (suc k) (suc j) (w ∷ u) h g =
+    ap (λ (rs : List (List ℕ)). (w ∷ u) ∷ rs) (rests-same k j (drop (sizeIn (w ∷ u)) (w ∷ u)) (shorter w u k h) (shorter w u j g))
 
 -- THE FIRST, AND THOSE BEHIND IT
 
@@ -83,27 +73,33 @@ inners-next at (w ∷ u) h =
     ∙ ap (λ (checks : List Verdict). andThen (first (innerChecks at (w ∷ u))) (first checks))
     (checks-same (length u) (length left) (at + sizeIn (w ∷ u)) left fits (omega arith))
 
+-- the words from each on
+rests-none : (u : List ℕ) → length u ≡ 0 → rests (length u) u ≡ []
+rests-none [] h = refl
+rests-none (w ∷ u) h = none w u (omega arith)
+
+rests-next : (u : List ℕ) → 0 < length u → rests (length u) u ≡ u ∷ rests (length (behind u)) (behind u)
+rests-next [] h = let f : ⊥ = omega arith in absurd f
+rests-next (w ∷ u) h =
+    let left = behind (w ∷ u) in
+    let fits : length left ≤ length u = shorter w u (length u) (omega arith) in
+    ap (λ (rs : List (List ℕ)). (w ∷ u) ∷ rs) (rests-same (length u) (length left) left fits (omega arith))
+
 pub read-none : (u : List ℕ) → length u ≡ 0 → inners u ≡ []
-read-none [] h = refl
-read-none (w ∷ u) h = none w u (omega arith)
+read-none u h = ap (map readInner) (rests-none u h)
 
 pub read-next : (u : List ℕ) → 0 < length u → inners u ≡ readInner u ∷ inners (behind u)
-read-next [] h = let f : ⊥ = omega arith in absurd f
-read-next (w ∷ u) h =
-    let left = behind (w ∷ u) in
-    let fits : length left ≤ length u = shorter w u (length u) (omega arith) in
-    ap (λ (xs : List Inner). readInner (w ∷ u) ∷ xs) (read-same (length u) (length left) left fits (omega arith))
+read-next u h = ap (map readInner) (rests-next u h)
+
+-- the words of one
+abbrev own : List ℕ → List ℕ
+own r = take (sizeIn r) r
 
 pub cut-none : (u : List ℕ) → length u ≡ 0 → cut (length u) u ≡ []
-cut-none [] h = refl
-cut-none (w ∷ u) h = none w u (omega arith)
+cut-none u h = ap (map own) (rests-none u h)
 
 pub cut-next : (u : List ℕ) → 0 < length u → cut (length u) u ≡ take (sizeIn u) u ∷ cut (length (behind u)) (behind u)
-cut-next [] h = let f : ⊥ = omega arith in absurd f
-cut-next (w ∷ u) h =
-    let left = behind (w ∷ u) in
-    let fits : length left ≤ length u = shorter w u (length u) (omega arith) in
-    ap (λ (xs : List (List ℕ)). take (sizeIn (w ∷ u)) (w ∷ u) ∷ xs) (cut-same (length u) (length left) left fits (omega arith))
+cut-next u h = ap (map own) (rests-next u h)
 
 -- SIZES
 

@@ -1,7 +1,7 @@
 -- What reading a multipacket answers, for every list of words. RULES, "Order of checks": 1; 5 under 8 words; 2; 11 of the
 -- header, the priority and CS; 6; 13; 26; inner packet by inner packet 26, 11, 6, a subtitling packet's own, 12; CS 12.
 use Prim.Native.Nat.{ℕ, zero, suc, _/_, _%_}
-use mathlib.Core.List.{List, [], _∷_}
+use mathlib.Core.List.{List, [], _∷_, map}
 use lib.ListN.{length, getD, take, drop}
 use Rattle.refusal.specs.declared.Verdict.{Verdict}
 use Rattle.refusal.specs.Checks.{first}
@@ -34,17 +34,19 @@ readInner u =
       bytes = bytesIn u;
     }
 
--- the words of each inner packet, k at the most
+-- the words from each inner packet on, k at the most
+abbrev pub rests : ℕ → List ℕ → List (List ℕ)
+rests zero u = []
+rests (suc k) [] = []
+rests (suc k) (w ∷ u) = (w ∷ u) ∷ rests k (drop (sizeIn (w ∷ u)) (w ∷ u))
+
+-- the words of each
 abbrev pub cut : ℕ → List ℕ → List (List ℕ)
-cut zero u = []
-cut (suc k) [] = []
-cut (suc k) (w ∷ u) = take (sizeIn (w ∷ u)) (w ∷ u) ∷ cut k (drop (sizeIn (w ∷ u)) (w ∷ u))
+cut k u = map (λ (r : List ℕ). take (sizeIn r) r) (rests k u)
 
 -- and what each holds
 abbrev pub readInners : ℕ → List ℕ → List Inner
-readInners zero u = []
-readInners (suc k) [] = []
-readInners (suc k) (w ∷ u) = readInner (w ∷ u) ∷ readInners k (drop (sizeIn (w ∷ u)) (w ∷ u))
+readInners k u = map readInner (rests k u)
 
 abbrev pub valueOf : List ℕ → Multi
 valueOf s = record { priority = byteOf (getD s 6 0); inners = readInners (length (innersIn s)) (innersIn s) }

@@ -2,6 +2,7 @@
 -- less by all of its words.
 -- Assumes nothing.
 use Prim.Native.Nat.{ℕ, _+_, _≤_, _<_}
+use native.Mathlib.Nat.{pos-of-ne-zero}
 use native.Mathlib.Omega.{arith}
 use mathlib.Core.Path.{_≡_, _∙_, ap, sym}
 use mathlib.Core.List.{List}
@@ -24,9 +25,6 @@ use Rattle.multi_judge.proofs.+judge_inners.Lts-judge_inners as judge-i
 use Rattle.multi_judge.proofs.judge_inner.Reads as judge-inner-reads
 use Rattle.multi_judge.proofs.+judge_inners.{statement}
 use Rattle.multi_judge.proofs.+judge_inners.Tie.{close}
-
-some : (n : ℕ) → (n ≡ 0 → ⊥) → 0 < n
-some n h = omega arith
 
 -- an inner packet that is accepted is all there
 whole : (at : ℕ) (u : List ℕ) {answer : Verdict} → answer ≡ innerVerdict at u → answer ≡ Accepted → (4 ≤ length u) × (sizeIn u ≤ length u)
@@ -84,7 +82,7 @@ judge-inners-returns-2 : (t : ℕ) → judge-inners-lts.Need-returns-2 (
 judge-inners-returns-2 t c =
     let call = c .before .before in
     let args = call .before .before .before .args in
-    refused-first _ (call .judge-inner .ensures) (c .enum-told .given .1) ∙ sym (inners-next (args .at) (now (args .rest)) (some _ (call .before .if1 .left)))
+    refused-first _ (call .judge-inner .ensures) (c .enum-told .given .1) ∙ sym (inners-next (args .at) (now (args .rest)) (pos-of-ne-zero (call .before .if1 .left)))
 
 judge-inners-enum-told-2 : (t : ℕ) → judge-inners-lts.Need-enum-told-2 (
   judge-inner-reads.Asked,
@@ -216,7 +214,7 @@ judge-inners-returns-3 t c =
     let u = now (args .rest) in
     c .judge-inners .ensures
     ∙ ap (innersVerdict (args .at + sizeIn u)) (rest-whole u (sizeIn u))
-    ∙ sym (inners-next (args .at) u (some _ (call .before .if1 .left)) ∙ accepted-first _ (call .judge-inner .ensures) (past .enum-told2 .given .1))
+    ∙ sym (inners-next (args .at) u (pos-of-ne-zero (call .before .if1 .left)) ∙ accepted-first _ (call .judge-inner .ensures) (past .enum-told2 .given .1))
 
 pub +judge-inners-spec : {M : Type 1} → statement M
 +judge-inners-spec = close μ-judge-inners λ t. judge-inners-lts.spec (

@@ -1,6 +1,7 @@
 -- `multi_reader::hand` meets its contract. The measure is the number of words that are left.
 -- Assumes nothing.
 use Prim.Native.Nat.{ℕ, suc, _+_, _-_, _<_}
+use native.Mathlib.Nat.{pos-of-ne-zero}
 use native.Mathlib.Omega.{arith}
 use mathlib.Core.Path.{_≡_, _∙_, ap, ap₂, sym}
 use mathlib.Core.List.{List, []}
@@ -17,9 +18,6 @@ use Rattle.multi_reader.proofs.hand.Kinds as hand-kinds
 use Rattle.multi_reader.proofs.+hand.Lts-hand as hand-lts
 use Rattle.multi_reader.proofs.+hand.{statement}
 use Rattle.multi_reader.proofs.+hand.Tie.{close}
-
-some : (n : ℕ) → (n ≡ 0 → ⊥) → 0 < n
-some n h = omega arith
 
 abbrev μ-hand : Measures 1 hand-kinds.ps ℕ
 μ-hand κs a = length (a .0 .now)
@@ -96,7 +94,7 @@ hand-returns-2 t c =
     let u = now (args .rest) in
     let same : sizeIn u - 0 ≡ sizeIn u = omega arith in
     ap (λ (k : ℕ). take k u) same
-    ∙ sym (ap₂ (λ (ps : List (List ℕ)) (j : ℕ). getD ps j []) (cut-next u (some _ (past .if1 .left))) (then .if2 .taken))
+    ∙ sym (ap₂ (λ (ps : List (List ℕ)) (j : ℕ). getD ps j []) (cut-next u (pos-of-ne-zero (past .if1 .left))) (then .if2 .taken))
 
 hand-mul-hand : (t : ℕ) → hand-lts.Need-mul-hand (hand-below t, hand.Post) (hand-at t) hand.Post
 hand-mul-hand t c =
@@ -132,7 +130,7 @@ hand-sub-hand-2 :
     (t : ℕ) → hand-lts.Need-sub-hand-2 (hand-below t, hand.Post) (hand-at t) hand.Post
 hand-sub-hand-2 t c =
     let more = c .before in
-    omega (arith, some _ (more .if2 .left))
+    omega (arith, pos-of-ne-zero (more .if2 .left))
 
 hand-hand-requires :
     (t : ℕ) → hand-lts.Need-hand-requires (hand-below t, hand.Post) (hand-at t) hand.Post
@@ -151,10 +149,10 @@ hand-returns-3 t c =
     let past = more .before .before in
     let args = past .before .before .args in
     let u = now (args .rest) in
-    let index : suc (args .i - 1) ≡ args .i = omega (arith, some _ (more .if2 .left)) in
+    let index : suc (args .i - 1) ≡ args .i = omega (arith, pos-of-ne-zero (more .if2 .left)) in
     c .hand .ensures
     ∙ ap (λ (ws : List ℕ). getD (cut (length ws) ws) (args .i - 1) []) (rest-whole u (sizeIn u))
-    ∙ sym (ap₂ (λ (ps : List (List ℕ)) (j : ℕ). getD ps j []) (cut-next u (some _ (past .if1 .left))) (sym index))
+    ∙ sym (ap₂ (λ (ps : List (List ℕ)) (j : ℕ). getD ps j []) (cut-next u (pos-of-ne-zero (past .if1 .left))) (sym index))
 
 pub +hand-spec : {M : Type 1} → statement M
 +hand-spec =

@@ -1,6 +1,7 @@
 -- `multi_reader::put_heads` meets its contract. The measure is the number of words that are left; the rest of the array is lent with them.
 -- Assumes nothing.
 use Prim.Native.Nat.{ℕ, _+_, _-_, _/_, _%_, _≤_, _<_}
+use native.Mathlib.Nat.{pos-of-ne-zero}
 use native.Mathlib.Omega.{arith}
 use mathlib.Core.Path.{_≡_, _∙_, ap, ap₂, sym, subst, refl}
 use mathlib.Core.List.{List, [], _∷_}
@@ -25,12 +26,9 @@ use Rattle.multi_reader.proofs.word_at.Reads as word-at-reads
 use Rattle.multi_reader.proofs.+put_heads.{statement}
 use Rattle.multi_reader.proofs.+put_heads.Tie.{close}
 
-some : (n : ℕ) → (n ≡ 0 → ⊥) → 0 < n
-some n h = omega arith
-
 -- there is room for the first head, and behind it for the others
 room : (u : List ℕ) (heads : List (List ℕ)) → (length u ≡ 0 → ⊥) → length (inners u) ≤ length heads → (0 < length heads) × (length (inners (behind u)) + 1 ≤ length heads)
-room u heads h fits = let all = ap length (read-next u (some _ h)) in (omega (arith, all, fits), omega (arith, all, fits))
+room u heads h fits = let all = ap length (read-next u (pos-of-ne-zero h)) in (omega (arith, all, fits), omega (arith, all, fits))
 
 -- the head of LINE/FIELD, NDID, NSDID and NDC
 abbrev head-of : ℕ → ℕ → ℕ → ℕ → ℕ → List ℕ
@@ -374,7 +372,7 @@ put-heads-returns-2 t c =
     let same : k ≡ sizeIn u = ap (λ (w : ℕ). 5 + w % 256) count in
     let left : take (length u - k) (drop k u) ≡ behind u = rest-whole u k ∙ ap (λ (j : ℕ). drop j u) same in
     let call = c .before in
-    let all = read-next u (some _ (past .if1 .left)) in
+    let all = read-next u (pos-of-ne-zero (past .if1 .left)) in
     let piece = headsOf (at + sizeIn u) (inners (behind u)) in
     let words : innerWords (readInner u) ≡ sizeIn u = inner-count u (next .long) in
     let head : h ≡ headIn at u =
