@@ -1,0 +1,146 @@
+/* The verbs that write a unit: into an area, or a data field of a packet. */
+#include "files.h"
+#include "input.h"
+#include "text.h"
+#include "verbs.h"
+
+#include "unit_words.h"
+
+#include <errno.h>
+#include <stdlib.h>
+
+/* ---- The value of a unit in words ---- */
+
+bool unit_of(part *text, told_unit *told)
+{
+    *told = (told_unit){ 0 };
+    if (!next_decimal_32(text, &told->reserved) || !next_decimal_32(text, &told->vbi_data_flag) ||
+        !next_decimal(text, &told->z))
+        return false;
+    while (!is_blank(*text)) {
+        captions_record r;
+        if (!next_decimal_8(text, &r.cc_priority) || !next_decimal_8(text, &r.field_number) ||
+            !next_decimal_8(text, &r.line_offset) || !next_hex_byte(text, &r.cc_data_1) ||
+            !next_hex_byte(text, &r.cc_data_2))
+            return false;
+        if (told->n < CAPTIONS_RECORDS)
+            told->records[told->n] = r;
+        told->n++;
+    }
+    return true;
+}
+
+bool ga94_of(part *text, told_ga94 *told)
+{
+    uint8_t em_data;
+    *told = (told_ga94){ 0 };
+    if (!next_decimal_32(text, &told->process_em_data_flag) || !next_decimal_32(text, &told->process_cc_data_flag) ||
+        !next_decimal_32(text, &told->additional_data_flag) || !next_hex_byte(text, &em_data) ||
+        !next_decimal(text, &told->z))
+        return false;
+    told->em_data = em_data;
+    while (!is_blank(*text)) {
+        captions_ga94_record r;
+        if (!next_decimal_8(text, &r.cc_valid) || !next_decimal_8(text, &r.cc_type) ||
+            !next_hex_byte(text, &r.cc_data_1) || !next_hex_byte(text, &r.cc_data_2))
+            return false;
+        if (told->n < CAPTIONS_RECORDS)
+            told->records[told->n] = r;
+        told->n++;
+    }
+    return true;
+}
+
+/* The words of the new unit, from the argument or from its file. */
+static outcome take_unit(const options *o, bytes *unit)
+{
+    if (o->unit != NULL) {
+        put_text(unit, o->unit);
+        return unit->is_short ? failed(ENOMEM, NULL) : accepted();
+    }
+    int error = read_file(o->unit_file, unit);
+    return error == 0 ? accepted() : failed(error, o->unit_file);
+}
+
+/* Words that tell no value; an argument has no lines. */
+static outcome no_unit(const options *o, const char *words, part text, part rest)
+{
+    return o->unit != NULL ? misused(words, NULL) : misread(words, o->unit_file, line_of(text, rest));
+}
+
+/* ---- Replacing ---- */
+
+/* Puts the area out that was written, or tells why it was not. */
+static outcome hand_out(const options *o, bytes *out, const uint8_t *from, captions_written written)
+{
+    if (is_refusal(written.refusal))
+        return refused(written.refusal, input_name(o));
+    put_output(o, out, from, written.len);
+    return accepted();
+}
+
+outcome replace_unit(const options *o, bytes *out)
+{
+    told_unit told;
+    bytes unit = { 0 };
+    bytes in = { 0 };
+    outcome taken = take_unit(o, &unit);
+    part text = { unit.at, unit.len };
+    part rest = text;
+    if (is_accepted(taken) && !unit_of(&rest, &told))
+        taken =
+            no_unit(o, "a unit is RESERVED FLAG Z, and PRIORITY FIELD LINE DATA DATA for each construct", text, rest);
+    if (is_accepted(taken))
+        taken = take_bytes(o, &in);
+    if (is_accepted(taken)) {
+        uint8_t area[CAPTIONS_AREA_BYTES];
+        captions_written written = captions_area_replace(in.at, in.len, told.reserved, told.vbi_data_flag, told.n,
+                                                         told.z, told.records, area, sizeof area);
+        taken = hand_out(o, out, area, written);
+    }
+    release(&unit);
+    release(&in);
+    return taken;
+}
+
+outcome replace_ga94(const options *o, bytes *out)
+{
+    told_ga94 told;
+    bytes unit = { 0 };
+    bytes in = { 0 };
+    outcome taken = take_unit(o, &unit);
+    part text = { unit.at, unit.len };
+    part rest = text;
+    if (is_accepted(taken) && !ga94_of(&rest, &told))
+        taken = no_unit(
+            o, "a GA94 unit is PROCESS_EM PROCESS_CC ADDITIONAL EM_DATA Z, and VALID TYPE DATA DATA for each construct",
+            text, rest);
+    if (is_accepted(taken))
+        taken = take_bytes(o, &in);
+    if (is_accepted(taken)) {
+        uint8_t area[CAPTIONS_AREA_BYTES];
+        captions_written written = captions_ga94_replace(in.at, in.len, told.process_em_data_flag,
+                                                         told.process_cc_data_flag, told.additional_data_flag,
+                                                         told.em_data, told.n, told.z, told.records, area, sizeof area);
+        taken = hand_out(o, out, area, written);
+    }
+    release(&unit);
+    release(&in);
+    return taken;
+}
+
+/* ---- Converting ---- */
+
+outcome convert_to_pes(const options *o, bytes *out)
+{
+    words in = { 0 };
+    outcome taken = take_words(o, &in);
+    if (is_accepted(taken)) {
+        uint8_t field[CAPTIONS_PES_BYTES];
+        captions_written written = captions_pes_convert(in.at, in.len, field, sizeof field);
+        written.refusal = with_half(&in, written.refusal);
+        taken = hand_out(o, out, field, written);
+    }
+    free(in.at);
+    return taken;
+}
