@@ -56,8 +56,8 @@ void put_usage(bytes *out)
                   "       captions VERB --help\n"
                   "       captions --help | --version\n\n"
                   "Lists, replaces and converts closed captions and teletext. FILE is standard\n"
-                  "input if it is `-` or missing. What is not ours passes byte for byte. What is\n"
-                  "ours is read whole, or refused by number. Nothing is repaired.\n\n");
+                  "input if it is `-` or missing. What is not ours passes byte for byte; what is,\n"
+                  "is read as a whole, or refused with a number; and nothing is repaired.\n\n");
     for (const verb *v = verbs; v->name != NULL; v++) {
         size_t start = out->len;
         put_text(out, "  ");

@@ -90,9 +90,13 @@ static void put_refused(bytes *message, const options *o, const outcome *ended)
     put_text(message, "\n");
     put_origin(message, ended);
     put_text(message, meaning_of(ended->refusal.number));
-    put_text(message, " (");
-    put_text(message, o->verb->measure);
-    put_text(message, ")\n");
+    /* A value that is refused has place 0, whatever the places of the input are. */
+    if (ended->refusal.place > 0 && o->verb->measure != NULL) {
+        put_text(message, " (");
+        put_text(message, o->verb->measure);
+        put_text(message, ")");
+    }
+    put_text(message, "\n");
 }
 
 /* A fault of a text needs no word on how to call the command. */

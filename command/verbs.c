@@ -107,7 +107,7 @@ const verb verbs[] = {
         "    1 0 0 94 2C 00 00\n",
     },
     {
-        "reel", TAKES_TO | TAKES_FLAGS | TAKES_SIZE, false, "the place is 0", make_reel,
+        "reel", TAKES_TO | TAKES_FLAGS | TAKES_SIZE, false, NULL, make_reel,
         "make Line 21 payloads of access units",
         "Makes payloads of access units, one behind the other. The units come in the\n"
         "lines that `payload`, `reel-list` and `film` print.\n",

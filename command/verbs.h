@@ -9,7 +9,7 @@ typedef struct verb {
     const char *name;
     unsigned takes;      /* which options */
     bool is_words;       /* whether its input is the words of a packet */
-    const char *measure; /* in what the places of its refusals are counted */
+    const char *measure; /* in what the places of its refusals are counted; null: all are 0 */
     outcome (*run)(const options *o, bytes *out);
     const char *summary; /* what it does, in a line */
     const char *about;   /* and in some */

@@ -178,7 +178,7 @@ sub reversed { return pack 'b*', unpack 'B*', $_[0] }
 sub pes_taken {
     my ($bytes) = @_;
     my $identifier = ord $bytes;
-    my @units = map { substr $bytes, 1 + 46 * $_, 46 } 0 .. length($bytes) / 46 - 1;
+    my @units = map { substr $bytes, 1 + 46 * $_, 46 } 0 .. int(length($bytes) / 46) - 1;
     return $identifier, map {
         my ($id, undef, $data) = unpack 'C C a44', $_;
         my ($place, undef, $row) = unpack 'C C a42', $data;

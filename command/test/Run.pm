@@ -23,6 +23,7 @@ my ($driver, $command, $work, $tally);
 my ($every, $light, $stop) = (1, 0, 0);
 my ($passed, $failures) = (0, 0);
 my (%skipped, @skips, @notes, @left);
+my (%words, %number);
 my ($in, $out, $err);
 
 # No run takes a minute. What is still there then has stopped, and is ended.
@@ -144,7 +145,8 @@ sub drain {
 # ---- One run ----
 
 # ask WORDS [in => BYTES] [stdin => HANDLE] [stdout => HANDLE] [stderr => HANDLE] [closed => DIGITS] [via => WORDS] [folder => PATH]
-#     [beside => CODE] [env => HASH] [command => PATH]: runs the command, or another. CODE runs beside it, as the reader or writer of a pipe.
+#     [beside => CODE] [env => HASH] [command => PATH] [patience => SECONDS]: runs the command, or another. CODE runs beside it, as the reader or writer
+#     of a pipe.
 # The answer has status (a number, or `signal N`), out, err, and what was asked.
 sub ask {
     my ($words, %how) = @_;
@@ -171,11 +173,12 @@ sub ask {
     }
     $how{beside}->($child) if $how{beside};
     my $late = 0;
+    my $patience = $how{patience} // $PATIENCE;
     local $SIG{ALRM} = sub { $late = 1; kill KILL => $child };
-    alarm $PATIENCE;
+    alarm $patience;
     1 while waitpid($child, 0) == -1 && $! == EINTR;
     alarm 0;
-    my $status = $late ? "no end after $PATIENCE seconds" : $? & 127 ? 'signal ' . ($? & 127) : $? >> 8;
+    my $status = $late ? "no end after $patience seconds" : $? & 127 ? 'signal ' . ($? & 127) : $? >> 8;
     return {
         status => $status,
         out    => $how{stdout} ? '' : drain($out),
@@ -283,8 +286,18 @@ sub told {
     return 'standard error has ' . @lines . ' lines, and has to have 2: ' . seen($answer->{err}) if @lines != 2;
     my $first = same('the first line of standard error', $lines[0], "refused $number at $place\n");
     return $first if defined $first;
-    return undef if $lines[1] =~ /\Acaptions: \Q$name\E: [^ \n][^\n]*\n\z/;
-    return 'the second line of standard error was ' . seen($lines[1]) . ', and has to begin ' . seen("captions: $name: ");
+    my ($meaning) = $lines[1] =~ /\Acaptions: \Q$name\E: ([^ \n(][^\n]*) \([^()\n]+\)\n\z/;
+    return 'the second line of standard error was ' . seen($lines[1]) . ', and has to be words in ' . seen("captions: $name: .. (..)") unless defined $meaning;
+    return meant($number, $meaning);
+}
+
+# meant NUMBER WORDS: a number means the same in each refusal, and no other number does.
+sub meant {
+    my ($refused, $meaning) = @_;
+    my $before = $words{$refused} //= $meaning;
+    return "$refused means " . seen($meaning) . ', and meant ' . seen($before) . ' before' if $meaning ne $before;
+    $number{$meaning} //= $refused;
+    return $number{$meaning} == $refused ? undef : "$refused means the same as $number{$meaning}";
 }
 
 # misused LABEL ANSWER [NAME] FAULT..: status 2, nothing on standard output, words on standard error. NAME is what they must name, as FILE:LINE.

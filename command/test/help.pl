@@ -65,9 +65,11 @@ sub verb {
 # The example at the end of a help: the shell prints what stands below it.
 sub example {
     my ($verb, $help) = @_;
-    my ($line, $listed) = $help->{out} =~ /^Example:\n    \$ ([^\n]+)\n((?:    [^\n]*\n)+)\z/m;
+    my ($line, $more, $listed) = $help->{out} =~ /^Example:\n    \$ ([^\n]+\n)((?:    > [^\n]*\n)*)((?:    [^\n]*\n)+)\z/m;
     return failed("$verb --help, its example", $help, 'there is no example at its end') unless defined $line;
-    return failed("$verb --help, its example", $help, "it does not run the verb: $line") unless $line =~ /\bcaptions \Q$verb\E( |\z)/;
+    # Lines with > go on with the command, as a shell asks for more.
+    $line .= $more =~ s/^    > //mgr;
+    return failed("$verb --help, its example", $help, "it does not run the verb: $line") unless $line =~ /\bcaptions \Q$verb\E\s/;
     $listed =~ s/^    //mg;
     my $folder = work() . "/example-$verb";
     mkdir $folder or die "$folder: $!\n";

@@ -356,6 +356,12 @@ sub try_links {
         my $answer = ask(words($sample, '-o', $link), in => $in);
         sysread $pipe, my $got, 1 << 16;
         accepted("$verb, -o of a pipe with a name", $answer, '', same('what came', $got // '', $out), -p $link ? undef : 'the pipe is none any more');
+        close $pipe;
+        # And read from.
+        accepted("$verb, a pipe with a name as input", ask(words($sample, $link), beside => sub {
+            sysopen my $end, $link, O_WRONLY or die "$link: $!\n";
+            syswrite $end, $in;
+        }), $out);
         unlink $link;
         # A device as input.
         my $nothing = ask(words($sample), in => '');
@@ -606,13 +612,15 @@ sub try_zeros {
 sub try_empty {
     my %answer = (
         area => "none\n", ga94 => "none\n", packet => [5, 0], multi => [5, 0], payload => [2, 0], pes => [5, 0], 'reel-list' => '', replace => CASE_A,
-        'ga94-replace' => CASE_Q, 'to-pes' => [5, 0], film => UNIT_HEAD, reel => '',
+        'ga94-replace' => CASE_Q, 'to-pes' => [5, 0], film => UNIT_HEAD,
     );
     each_format(sub {
         my ($sample, $format, $words) = @_;
         my $answer = ask($words, in => '');
         my $expected = $answer{ $sample->{verb} };
         my $label = "$sample->{verb}, $format, no input";
+        # A run of no units has a line all the same, so that what another command did not print is no run.
+        return text_fault($label, $answer) if $sample->{verb} eq 'reel';
         return ref $expected ? refused($label, $answer, @$expected, 'standard input') : accepted($label, $answer, $expected);
     });
     accepted('area, no input, json', ask(['area', '--json'], in => ''), qq({"present":false}\n));
@@ -622,9 +630,14 @@ sub try_empty {
     accepted('film, no input, json', ask(['film', '--json'], in => ''), '');
     accepted('reel-list, no input, json', ask(['reel-list', '--json'], in => ''), '');
     accepted('replace, no input, to hex', ask(['replace', '-u', WORDS_A, '-t', 'hex'], in => ''), hex_bytes(CASE_A) . "\n");
-    accepted('reel, no input, to hex', ask(['reel', '-t', 'hex'], in => ''), "\n");
+    text_fault('reel, white space', ask(['reel'], in => $_)) for "\n", " \t\r\n\n", "\n" x 5000;
+    text_fault('reel, no input, to hex', ask(['reel', '-t', 'hex'], in => ''));
+    text_fault('reel, what film printed of a refused run', ask(['film'], in => "1 0 32\n", via => ['sh', '-c', '"$@" 2>/dev/null | "$1" reel', 'sh']));
+    accepted('reel, no units', ask(['reel'], in => UNIT_HEAD), '');
+    accepted('reel, no units, to hex', ask(['reel', '-t', 'hex'], in => UNIT_HEAD), "\n");
     my $folder = fresh();
-    accepted('reel, no input, -o', ask(['reel', '-o', "$folder/out"], in => ''), '', same('the file', content("$folder/out") // 'no file', ''));
+    accepted('reel, no units, -o', ask(['reel', '-o', "$folder/out"], in => UNIT_HEAD), '', same('the file', content("$folder/out") // 'no file', ''));
+    misused('reel, no input, -o', ask(['reel', '-o', "$folder/new"], in => ''), undef, same('the folder', left_beside($folder), 'out'));
 }
 
 # ---- Lengths at the limits ----
@@ -957,7 +970,7 @@ sub try_film {
             my ($form, $more, $text) = @$case;
             my $answer = ask(['film', '--each', @$more], in => $run);
             case("film, $label, $form", $answer, at_status($answer, 1), same('standard output', $answer->{out}, $text),
-                $answer->{err} =~ /\Arefused $number at $place\ncaptions: \Q$name:$line\E: [^\n]+\n/ ? undef : "standard error was '$answer->{err}'");
+                Run::told($answer, $number, $place, "$name:$line"));
         }
     };
     my $no = sub { return { refused => $_[0], place => $_[1], line => $_[2] } };
@@ -1046,13 +1059,13 @@ sub try_reel {
         next if $long == 256;
         refused("reel, size $long", ask(['reel', '--size', $long], in => $unit), 15, 0, $name);
         refused("reel, size $long and 1", ask(['reel', '--size', added($long, 1)], in => $unit), 15, 0, $name);
-        refused("reel, size $long, no units", ask(['reel', '--size', $long], in => ''), 15, 0, $name);
+        refused("reel, size $long, no units", ask(['reel', '--size', $long], in => UNIT_HEAD), 15, 0, $name);
     }
     refused('reel, cc_valid_1 2', ask(['reel'], in => "2 0 0 94 2C 00 00\n"), 15, 0, $name);
     refused('reel, cc_valid_2 2', ask(['reel'], in => "0 2 0 94 2C 00 00\n"), 15, 0, $name);
     refused('reel, padding 64', ask(['reel'], in => "0 0 64 94 2C 00 00\n"), 15, 0, $name);
     refused("reel, size $_", ask(['reel', '--size', $_], in => $unit), 15, 0, $name) for 0, 292, 547;
-    refused("reel, size $_, no units", ask(['reel', '--size', $_], in => ''), 15, 0, $name) for 0, 292;
+    refused("reel, size $_, no units", ask(['reel', '--size', $_], in => UNIT_HEAD), 15, 0, $name) for 0, 292;
     # One wrong unit far behind: nothing is written, neither to a file.
     my $folder = fresh();
     refused('reel, a wrong unit behind 3,000', ask(['reel', '-o', "$folder/out"], in => $unit x 3000 . "2 0 0 94 2C 00 00\n"), 15, 0, $name,
@@ -1227,7 +1240,7 @@ sub sanitizer_options { return map { "$_=$ENV{$_}" } grep { defined $ENV{$_} } q
 # Holes in a file are zeros and take no room on the disk; the command takes memory for them. That is tried where there is enough of it.
 sub try_huge {
     my $free = available();
-    return skip('inputs of 1 GiB (each case in one of its forms)') if light();
+    return skip('inputs of 1 GiB (--light)') if light();
     return skip('inputs of 1 GiB (less than 5 GiB of memory is free)') if $free < 5 << 20;
     my $gib = 1 << 30;
     my $file = "$work/huge";
@@ -1259,6 +1272,7 @@ sub available {
 # What is answered is not known beforehand. But it is one of the answers that there are, in the form that it has.
 sub try_mutants {
     my $count = light() ? 60 : 150;
+    note("mutants: $count of each verb");
     for my $sample (@samples) {
         my @formats = formats($sample);
         for my $index (1 .. $count) {

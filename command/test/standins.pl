@@ -108,7 +108,7 @@ wrong('-o without its last byte', $run . 'if [ -n "$to" ] && [ -s "$to" ]; then 
 wrong('the permissions of -o not kept', $run . "[ -z \"\$to\" ] || [ ! -f \"\$to\" ] || chmod 600 \"\$to\"\n$end", 'hostile:written', 'hostile:links');
 wrong('a link of -o replaced', $run . 'if [ -n "$to" ] && [ -L "$to" ] && [ -f "$to" ]; then cp "$to" "$kept/other"; rm "$to"; cp "$kept/other" "$to"; fi' . "\n$end", 'hostile:links');
 wrong('little taken for big', arguments('[ "$word" != little ] || word=big'), 'vectors', 'hostile:plain');
-wrong('numbers of a unit cut to eight bits', arguments(q~case $before in --unit | -u) word=$(printf '%s' "$word" | awk '{ for (i = 1; i <= NF; i++) if (length($i) > 2) $i = $i % 256; print }') ;; esac~),
+wrong('numbers of a unit cut to eight bits', arguments(q~case $before in --unit | -u) word=$(printf '%s' "$word" | awk '{ for (i = 1; i <= NF; i++) if ($i ~ /^[0-9][0-9][0-9]+$/) $i = $i % 256; print }') ;; esac~),
     'hostile:unit_words', 'vectors');
 wrong('--each always', 'case ${1:-} in film) shift; for word; do [ "$word" != --each ] || exec "$real" film "$@"; done; exec "$real" film --each "$@" ;; esac; exec "$real" "$@"', 'vectors:film-ours.txt', 'hostile:film');
 wrong('--each never', arguments('[ "$word" != --each ] || continue'), 'vectors:film-ours.txt', 'hostile:film');
@@ -136,7 +136,7 @@ sub started {
     my $script = save("$work/captions", "#!/bin/sh\nreal='$command'\nkept='$kept'\n$sh\n");
     chmod 0755, $script or die "$script: $!\n";
     my ($file, @words) = @{ driver($driver) };
-    return ask(["$FindBin::Bin/$file.pl", $script, @words, '--stop', '--light'], command => $^X);
+    return ask(["$FindBin::Bin/$file.pl", $script, @words, '--stop', '--light'], command => $^X, patience => 900);
 }
 
 sub right {

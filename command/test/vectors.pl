@@ -349,7 +349,8 @@ sub reel {
     my $answer = $vector->{answer};
     my $option = sprintf $vector->{line} % 2 ? '%02X' : '%02x', $flags;
     my $line = sprintf "flags %02X\n", $flags;
-    my $units = unit_lines(@units);
+    # A run of no units is the line above them.
+    my $units = @units ? unit_lines(@units) : UNIT_HEAD;
     my @size = $size == 291 && $vector->{line} % 2 ? () : ('--size', $size);
     my $out = defined $answer->{refused} ? '' : bytes_of($answer->{out});
     my @forms = (
@@ -366,7 +367,7 @@ sub reel {
         ['and listed', ['reel-list', @size], $out, $list],
         ['and listed, json', ['reel-list', '--json', @size], $out, reel_json($flags, $size, @units)],
         ['and listed, hex', ['reel-list', '--from=hex', @size], hex_text($out), $list],
-        ['and made again of the list', ['reel', @size, @units ? () : ('--flags', $option)], $list, $out],
+        ['and made again of the list', ['reel', @size], $list eq '' ? UNIT_HEAD : $list, $out],
     );
     return 1;
 }
@@ -440,10 +441,7 @@ sub film_form {
     my $where = "$name:$first->{line}";
     return refused($label, $answer, @$first{qw(refused place)}, $where) unless grep { $_ eq '--each' } @$options;
     my $status = $answer->{status} eq 1 ? undef : "status was $answer->{status}, has to be 1";
-    # Standard error begins with the first refusal; what more it may say is not laid down.
-    my $said = $answer->{err} =~ /\Arefused $first->{refused} at $first->{place}\ncaptions: \Q$where\E: [^\n]+\n/
-        ? undef : "standard error was '$answer->{err}', and has to begin with the refusal of line $first->{line}";
-    return case($label, $answer, $status, same('standard output', $answer->{out}, $output), $said);
+    return case($label, $answer, $status, same('standard output', $answer->{out}, $output), Run::told($answer, @$first{qw(refused place)}, $where));
 }
 
 # A run in two parts, the second with the line of what waits at the end of the first, sends what the run sends.
