@@ -29,9 +29,19 @@ static const option known[OPTIONS] = {
     [HELP] = { "--help", "-h", 0, false },
 };
 
+bool is_standard_input(const char *file)
+{
+    return file == NULL || strcmp(file, "-") == 0;
+}
+
+const char *name_of(const char *file)
+{
+    return is_standard_input(file) ? "standard input" : file;
+}
+
 const char *input_name(const options *o)
 {
-    return o->file == NULL || strcmp(o->file, "-") == 0 ? "standard input" : o->file;
+    return name_of(o->file);
 }
 
 static const verb *verb_of(const char *word)
@@ -175,6 +185,8 @@ static outcome judge(const options *o)
 {
     if ((o->verb->takes & TAKES_UNIT) != 0 && (o->unit == NULL) == (o->unit_file == NULL))
         return misused("the new unit is told by --unit or by --unit-file, by one of them", NULL);
+    if (o->unit_file != NULL && is_standard_input(o->unit_file) && is_standard_input(o->file))
+        return misused("unit and area cannot both come from standard input", NULL);
     if (o->is_json && o->is_value)
         return misused("--json and --value are not taken together", NULL);
     return accepted();

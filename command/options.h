@@ -40,7 +40,11 @@ typedef struct options {
 /* Reads the words behind the command's name. If they are no call, the outcome says why. */
 outcome options_of(int count, char *const *words, options *o);
 
-/* What messages call the input. */
+/* Whether a file is standard input: it is none, or `-`. */
+bool is_standard_input(const char *file);
+
+/* What messages call a file, and the input. */
+const char *name_of(const char *file);
 const char *input_name(const options *o);
 
 #endif

@@ -59,13 +59,13 @@ static outcome take_unit(const options *o, bytes *unit)
         return unit->is_short ? failed(ENOMEM, NULL) : accepted();
     }
     int error = read_file(o->unit_file, unit);
-    return error == 0 ? accepted() : failed(error, o->unit_file);
+    return error == 0 ? accepted() : failed(error, name_of(o->unit_file));
 }
 
 /* Words that tell no value; an argument has no lines. */
 static outcome no_unit(const options *o, const char *words, part text, part rest)
 {
-    return o->unit != NULL ? misused(words, NULL) : misread(words, o->unit_file, line_of(text, rest));
+    return o->unit != NULL ? misused(words, NULL) : misread(words, name_of(o->unit_file), line_of(text, rest));
 }
 
 /* ---- Replacing ---- */

@@ -53,7 +53,7 @@ look_at_machine() {
     else
         compiler=x86_64-linux-gnu-gcc
         need "$compiler" gcc-x86-64-linux-gnu
-        need rt 'of the Rattle kit'
+        command -v rt >/dev/null 2>&1 || die 'there is no rt; the emulator of the Rattle kit is needed'
         emulator=$(dirname "$(dirname "$(rt doc)")")/on/$machine/toolchain/bin/qemu-x86_64
         [ -x "$emulator" ] || die "there is no emulator at $emulator"
     fi
@@ -124,7 +124,8 @@ make_parts() {
     below=$1
     at=$2
     prove
-    CAPTIONS_LIB=$archive "$root/tools/build-command" "$work/captions" || die "the command is not built"
+    # Not with words for the compiler that the manifest does not tell.
+    (unset COMMAND_CFLAGS && CAPTIONS_LIB=$archive "$root/tools/build-command" "$work/captions") || die 'the command is not built'
     ${emulator:+"$emulator"} "$work/captions" --version >"$work/version" || die "the command does not run"
 
     # What the command says of itself stands in the manifest too; so it has to be what is installed beside it.

@@ -145,7 +145,7 @@ sub multi_text {
     my ($priority, @inners) = @_;
     my $index = 0;
     return join '', "priority $priority\n", "inner line field did sdid data\n",
-        map { my ($line, $field, $did, $sdid, $data) = @$_; line($index++, $line, $field, sprintf('%02X', $did), sprintf('%02X', $sdid), spaced($data)) } @inners;
+        map { my ($line, $field, $did, $sdid, $data) = @$_; line($index++, $line, $field, sprintf('%02X %02X', $did, $sdid), spaced($data)) } @inners;
 }
 
 sub multi_json {
@@ -168,7 +168,8 @@ sub pes_json {
     my ($identifier, @units) = @_;
     my $index = 0;
     return join '', object(data_identifier => $identifier, n => scalar @units), map { my ($id, $parity, $line, $data) = @$_;
-        object(unit => $index++, data_unit_id => $id, defined $parity ? (field_parity => $parity, line_offset => $line) : (), 'data$' => hex_bytes($data)) } @units;
+        my @teletext = defined $parity ? (field_parity => $parity, line_offset => $line) : ();
+        object(unit => $index++, data_unit_id => $id, @teletext, 'data$' => hex_bytes($data)) } @units;
 }
 
 # A byte with its bits in reverse, and all bytes of a text so.

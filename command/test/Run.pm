@@ -286,8 +286,10 @@ sub told {
     return 'standard error has ' . @lines . ' lines, and has to have 2: ' . seen($answer->{err}) if @lines != 2;
     my $first = same('the first line of standard error', $lines[0], "refused $number at $place\n");
     return $first if defined $first;
-    my ($meaning) = $lines[1] =~ /\Acaptions: \Q$name\E: ([^ \n(][^\n]*) \([^()\n]+\)\n\z/;
-    return 'the second line of standard error was ' . seen($lines[1]) . ', and has to be words in ' . seen("captions: $name: .. (..)") unless defined $meaning;
+    # What places are counted in stands behind the words, in parentheses, unless the place is 0.
+    my ($meaning) = $lines[1] =~ ($place ? qr/\Acaptions: \Q$name\E: ([^ \n()][^\n()]*) \([^()\n]+\)\n\z/ : qr/\Acaptions: \Q$name\E: ([^ \n()][^\n()]*)\n\z/);
+    return 'the second line of standard error was ' . seen($lines[1]) . ', and has to be ' . seen("captions: $name: WORDS" . ($place ? ' (PLACES)' : ''))
+        unless defined $meaning;
     return meant($number, $meaning);
 }
 

@@ -74,19 +74,21 @@ sub samples {
     my @stuffed = (@teletext, [255, undef, undef, "\xFF\x00" x 22]);
     my $reel = "\0\x80\x94\x2C\0\0\xFF\x14\x20\x94\xD0" . "\0\x45\x94\x2E\x94\x70";
     my $run = '1 0 11 ' . hex_bytes(CASE_A) . "\n0 0 11\nclose\n";
-    my @sent = ([1, 0, 0, "\x94\x2C\0\0"], [0, 0, 0, "\0" x 4], [0, 0, 0, "\0" x 4]);
+    my @packet = (4660, @slots);
+    my @payload = (0, @access[0, 1]);
+    my $sent = { units => [[1, 0, 0, "\x94\x2C\0\0"], [0, 0, 0, "\0" x 4], [0, 0, 0, "\0" x 4]] };
     return (
         { verb => 'area', words => [], from => 'bytes', in => CASE_A, out => area_text($unit), json => area_json($unit) },
         { verb => 'ga94', words => [], from => 'bytes', in => CASE_Q, out => ga94_text($ga94), json => ga94_json($ga94) },
-        { verb => 'packet', words => [], from => 'words', in => packet_words(4660, @slots), out => packet_text(4660, @slots), json => packet_json(4660, @slots) },
+        { verb => 'packet', words => [], from => 'words', in => packet_words(@packet), out => packet_text(@packet), json => packet_json(@packet) },
         { verb => 'multi', words => [], from => 'words', in => multi_words(7, @inners), out => multi_text(7, @inners), json => multi_json(7, @inners) },
-        { verb => 'payload', words => [], from => 'bytes', in => substr($reel, 0, 11), out => payload_text(0, @access[0, 1]), json => payload_json(0, @access[0, 1]) },
+        { verb => 'payload', words => [], from => 'bytes', in => substr($reel, 0, 11), out => payload_text(@payload), json => payload_json(@payload) },
         { verb => 'pes', words => [], from => 'bytes', in => $stuffed, out => pes_text(16, @stuffed), json => pes_json(16, @stuffed) },
         { verb => 'reel-list', words => ['--size', 2], from => 'bytes', in => $reel, out => reel_text(0, 2, @access), json => reel_json(0, 2, @access) },
         { verb => 'replace', words => ['--unit', WORDS_A], from => 'bytes', in => CASE_D . CASE_Q, out => CASE_A . CASE_Q, bytes => 1 },
         { verb => 'ga94-replace', words => ['--unit', WORDS_Q], from => 'bytes', in => CASE_A, out => CASE_A . CASE_Q, bytes => 1 },
-        { verb => 'to-pes', words => [], from => 'words', in => packet_words(4660, @slots), out => $field, bytes => 1 },
-        { verb => 'film', words => [], from => 'text', in => $run, out => film_text(undef, { units => \@sent }), json => film_json(undef, { units => \@sent }) },
+        { verb => 'to-pes', words => [], from => 'words', in => packet_words(@packet), out => $field, bytes => 1 },
+        { verb => 'film', words => [], from => 'text', in => $run, out => film_text(undef, $sent), json => film_json(undef, $sent) },
         { verb => 'reel', words => ['--size', 2], from => 'text', in => payload_text(0, @access), out => $reel, bytes => 1 },
     );
 }

@@ -122,7 +122,8 @@ sub man_page {
     my ($options) = $page =~ /^\.SH OPTIONS\n(.*?)^\.SH /ms;
     my %option = map { $_ => 1 } map({ @$_ } values %options), qw(--output --help --version);
     %found = map { $_ => 1 } map { /(--[a-z-]+)/ } ($options // '') =~ /^\.TP\n(\.B.*)\n/mg;
-    case('man page, options', undef, map({ $found{$_} ? undef : "there is no $_" } sort keys %option), map { $option{$_} ? undef : "there is no option $_" } sort keys %found);
+    case('man page, options', undef, map({ $found{$_} ? undef : "there is no $_" } sort keys %option),
+        map { $option{$_} ? undef : "there is no option $_" } sort keys %found);
 }
 
 # ---- The examples of the layouts ----

@@ -31,6 +31,8 @@ fi
 CAPTIONS_LIB=$library
 export CAPTIONS_LIB
 unset PKG_CONFIG_PATH PKG_CONFIG_LIBDIR PKG_CONFIG_SYSROOT_DIR || :
+LC_ALL=C
+export LC_ALL
 
 # ---- The machine, as in tools/test-c ----
 if [ "$(uname -m)" = x86_64 ]; then
@@ -179,7 +181,8 @@ fi
 kit=$(rt version 2>/dev/null) || kit=unknown
 same 'manifest, its names' "$(sed 's/ .*//' "$prefix/share/captions/manifest" | tr '\n' ' ')" \
     "version commit kit compiler proof archive header command ${emulator:+program }gate "
-same 'manifest, version' "$(value version "$prefix")" "$("$root/tools/build-command" --version-number)"
+version=$("$root/tools/build-command" --version-number)
+same 'manifest, version' "$(value version "$prefix")" "$version"
 same 'manifest, commit' "$(value commit "$prefix")" "$commit"
 same 'manifest, kit' "$(value kit "$prefix")" "$kit"
 # shellcheck disable=SC2086
@@ -188,11 +191,12 @@ same 'manifest, proof' "$(value proof "$prefix")" 'not made with this file: the 
 same 'manifest, archive' "$(value archive "$prefix")" "sha256 $(digest "$library") lib/libcaptions.a"
 same 'manifest, header' "$(value header "$prefix")" "sha256 $(digest "$root/c/captions.h") include/captions.h"
 same 'manifest, command' "$(value command "$prefix")" "sha256 $(digest "$captions") bin/captions"
-# sums PREFIX: all digests of a manifest, by the words of libcaptions.3.
+# sums PREFIX: looks at all digests of a manifest, by the words of libcaptions.3.
+sed -n '/^\.SH FILES/,/^\.SH SEE/p' "$root/man/libcaptions.3" | sed -n '/^\.EX/,/^\.EE/p' |
+    sed "/^\\./d; s/\\\\(aq/'/g; s/\\\\-/-/g" >"$work/sums"
 sums() {
-    sed -n '/^\.SH FILES/,/^\.SH SEE/p' "$root/man/libcaptions.3" | sed -n '/^\.EX/,/^\.EE/p' | grep -v '^\.' | sed "s/\\\\(aq/'/g; s/\\\\-/-/g" >"$work/sums"
-    [ -s "$work/sums" ] && (cd "$1" && sh "$work/sums" >"$work/summed") && cat "$work/summed" &&
-        [ "$(grep -c ': OK$' "$work/summed")" -eq "$(grep -c ' sha256 ' share/captions/manifest)" ]
+    (cd "$1" && sh "$work/sums") >"$work/summed" && cat "$work/summed" &&
+        [ "$(grep -c ': OK$' "$work/summed")" -eq "$(grep -c ' sha256 ' "$1/share/captions/manifest")" ]
 }
 # told PREFIX COMMAND: --version and the manifest agree.
 told() {
@@ -201,10 +205,7 @@ commit $(value commit "$2")
 archive $(value archive "$2" | cut -d ' ' -f 1,2)
 kit $(value kit "$2")"
 }
-check_sums() {
-    (cd "$1" && sums "$1")
-}
-check 'manifest, all digests, in the way of libcaptions.3' check_sums "$prefix"
+check 'manifest, all digests, in the way of libcaptions.3' sums "$prefix"
 told 'installed' "$prefix" "$captions"
 
 # ---- The man pages ----
@@ -335,19 +336,21 @@ $work/taken/share
 $work/taken/share/captions
 $work/taken/share/captions/manifest"
 fails 'tools/install, no such archive' 1 'there is no archive' env CAPTIONS_LIB="$work/no.a" "$root/tools/install" "$prefix"
-fails 'tools/install, no such compiler' 1 'there is no no-such-cc' env CC=no-such-cc "$root/tools/install" "$prefix"
+if [ -z "$emulator" ]; then
+    fails 'tools/install, no such compiler' 1 'there is no no-such-cc' env CC=no-such-cc "$root/tools/install" "$prefix"
+fi
 listing "$prefix" >"$work/after"
 check 'an installation is as it was behind one that failed' cmp "$work/before" "$work/after"
 same 'no installation that failed made a folder' "$(find "$work" -maxdepth 1 \( -name no -o -name 'n o' \))" ''
 
 # ---- A copy of the repository, with stand-ins ----
-# git NAME=.. WORD..: without what this machine's user has set.
+# git_in FOLDER WORD..: git, without what the user has set for commits.
 git_in() {
     folder=$1
     shift
     git -C "$folder" -c user.name=test -c user.email=test@invalid -c commit.gpgsign=false -c core.hooksPath=/dev/null "$@"
 }
-# Packages are made twice: in this folder, and in a copy elsewhere with the same commit, at another time of day and under another umask.
+# Packages are made twice: in this folder, and in a copy elsewhere with the same commit, with another time zone, umask and words for the compiler.
 copied() {
     git clone -q --no-hardlinks "$root" "$work/copy of it" || return
     git_in "$work/copy of it" checkout -q --detach "$head" || return
@@ -358,20 +361,24 @@ copied() {
 }
 copy="$work/copy of it"
 debian=1
-for tool in dpkg-deb gzip readelf git; do
-    has $tool || { skip "the Debian package, the gate and stand-ins for machine and prover (there is no $tool)"; debian=; break; }
-done
-[ -z "$debian" ] || [ -n "$head" ] || { skip "the Debian package, the gate and stand-ins for machine and prover (git knows no commit of $root)"; debian=; }
+missing=
+for tool in git readelf gzip dpkg-deb; do has $tool || missing="there is no $tool"; done
+[ -n "$missing" ] || [ -n "$head" ] || missing="git knows no commit of $root"
+if [ -n "$missing" ]; then
+    skip "the Debian package, the gate, and stand-ins for prover and machine ($missing)"
+    debian=
+fi
 if [ -n "$debian" ]; then
     printf 'something\n12 passed, 0 failed\n' >"$work/gate.log"
     check 'a copy of the repository elsewhere' copied
     check 'tools/package' "$root/tools/package" "$work/package 1" --gate "$work/gate.log"
-    check 'tools/package in the copy' env TZ=Asia/Tokyo sh -c 'umask 077 && exec "$1" --gate "$2" "$3"' sh "$copy/tools/package" "$work/gate.log" "$work/package 2"
+    check 'tools/package in the copy' env TZ=Asia/Tokyo COMMAND_CFLAGS=-g sh -c 'umask 077 && exec "$@"' sh \
+        "$copy/tools/package" --gate "$work/gate.log" "$work/package 2"
     name=$(ls "$work/package 1")
     same 'the same name' "$(ls "$work/package 2")" "$name"
     behind=$(echo "$head" | cut -c 1-12)
     case $commit in *changes*) behind=$behind.changed ;; esac
-    same 'the name tells version and commit' "$name" "captions_$("$root/tools/build-command" --version-number)+g${behind}_amd64.deb"
+    same 'the name tells version and commit' "$name" "captions_$version+g${behind}_amd64.deb"
     check 'the same bytes' cmp "$work/package 1/$name" "$work/package 2/$name"
     check 'dpkg-deb -x' dpkg-deb -x "$work/package 1/$name" "$work/unpacked"
     same 'the files of the package' "$(files_below "$work/unpacked")" 'usr/bin/captions
@@ -383,11 +390,14 @@ usr/share/doc/captions/copyright
 usr/share/man/man1/captions.1.gz
 usr/share/man/man3/libcaptions.3.gz'
     modes=$(dpkg-deb -c "$work/package 1/$name" | awk '
-        $1 == "drwxr-xr-x" && /\/$/ || $1 == "lrwxrwxrwx" && $6 == "./usr/share/doc/captions/manifest" || $1 == "-rwxr-xr-x" && $6 == "./usr/bin/captions" ||
-        $1 == "-rw-r--r--" && $6 != "./usr/bin/captions" { if ($2 == "root/root") next }
-        { print }')
+        { wanted = "-rw-r--r--" }
+        /\/$/ { wanted = "drwxr-xr-x" }
+        $6 == "./usr/bin/captions" { wanted = "-rwxr-xr-x" }
+        $6 == "./usr/share/doc/captions/manifest" { wanted = "lrwxrwxrwx" }
+        $1 != wanted || $2 != "root/root"')
     same 'their modes and owners' "$modes" ''
-    same 'the times are those of the commit' "$(dpkg-deb --fsys-tarfile "$work/package 1/$name" | TZ=UTC0 tar -tv --full-time | awk '{ print $4, $5 }' | sort -u)" \
+    dpkg-deb --fsys-tarfile "$work/package 1/$name" | TZ=UTC0 tar -tv --full-time >"$work/times"
+    same 'the times are those of the commit' "$(awk '{ print $4, $5 }' "$work/times" | sort -u)" \
         "$(TZ=UTC0 git -C "$root" log -1 --format=%cd --date=format-local:'%Y-%m-%d %H:%M:%S')"
     usr=$work/unpacked/usr
     same 'the manual of the command in it' "$(gzip -dc "$usr/share/man/man1/captions.1.gz" | cksum)" "$(cksum <"$root/man/captions.1")"
@@ -395,7 +405,7 @@ usr/share/man/man3/libcaptions.3.gz'
     check 'the manifest stands beside the copyright too' cmp "$usr/share/doc/captions/manifest" "$usr/share/captions/manifest"
     same 'the manifest, the gate' "$(value gate "$usr")" '12 passed, 0 failed'
     same 'the manifest, the commit' "$(value commit "$usr")" "$commit"
-    check 'the manifest, all digests' check_sums "$usr"
+    check 'the manifest, all digests' sums "$usr"
     # The command of the package is for x86-64, and stands alone.
     if [ -z "$emulator" ]; then
         told 'package' "$usr" "$usr/bin/captions"
@@ -439,7 +449,7 @@ rt: terminated
     # What the script needs before it looks for dpkg-deb, and nothing else.
     mkdir "$work/bare"
     for tool in sh dirname mktemp rm; do ln -s "$(command -v $tool)" "$work/bare"; done
-    fails 'tools/package, there is no dpkg-deb' 1 'there is no dpkg-deb; install the package dpkg' env PATH="$work/bare" "$root/tools/package" "$work/no"
+    fails 'tools/package, there is no dpkg-deb' 1 'no dpkg-deb; install the package dpkg' env PATH="$work/bare" "$root/tools/package" "$work/no"
     same 'what was refused made no package' "$(find "$work" -maxdepth 1 -name no)" ''
 
     # ---- The gate, by a stand-in for tools/test that counts how often it runs ----
@@ -486,7 +496,7 @@ EOF
     check 'tools/package, a gate that passes' package
     same 'its manifest' "$(packed)" '34 passed, 0 failed'
     same 'its commit' "$(value commit "$work/packed/usr")" "$head"
-    same 'the package stands in target/package' "$(ls "$copy/target/package")" "captions_$("$root/tools/build-command" --version-number)+g$(echo "$head" | cut -c 1-12)_amd64.deb"
+    same 'the package stands in target/package' "$(ls "$copy/target/package")" "captions_$version+g$(echo "$head" | cut -c 1-12)_amd64.deb"
     same 'target/gate.txt' "$(cat "$copy/target/gate.txt")" "commit $head
 34 passed, 0 failed"
     check 'tools/package once more' package
@@ -503,7 +513,7 @@ EOF
     cp "$copy/target/gate.txt" "$work/kept"
     check 'tools/package of changed files' package "$work/changed"
     same 'the gate is run again' "$(ran)" 5
-    same 'its version tells the changes' "$(ls "$work/changed")" "captions_$("$root/tools/build-command" --version-number)+g$(echo "$head" | cut -c 1-12).changed_amd64.deb"
+    same 'its version tells the changes' "$(ls "$work/changed")" "captions_$version+g$(echo "$head" | cut -c 1-12).changed_amd64.deb"
     same 'and no target/gate.txt is written for a commit that did not pass' "$(ls "$copy/target")" ''
     git_in "$copy" commit -q -a -m 'changed'
     cp "$work/kept" "$copy/target/gate.txt"
@@ -525,7 +535,8 @@ EOF
     check 'tools/install without git' env GIT_CEILING_DIRECTORIES="$work" "$copy/tools/install" "$work/no-git"
     same 'its manifest' "$(value commit "$work/no-git")" unknown
     told 'without git' "$work/no-git" "$work/no-git/bin/captions"
-    fails 'tools/package without git' 1 'no git repository' env GIT_CEILING_DIRECTORIES="$work" "$copy/tools/package" "$work/changed" --gate "$work/gate.log"
+    fails 'tools/package without git' 1 'no git repository' env GIT_CEILING_DIRECTORIES="$work" \
+        "$copy/tools/package" "$work/changed" --gate "$work/gate.log"
     mv "$work/hidden.git" "$copy/.git"
 
     # ---- A disk that is full, by a stand-in for cp: the last of the files cannot be written ----
@@ -544,10 +555,13 @@ EOF
 
     # ---- The proof, by a stand-in for rt ----
     mkdir "$work/bin" "$work/kit" "$work/kit/docs"
+    # Where an emulator is needed, it is that of the kit.
+    doc=$work/kit/docs/START-HERE.md
+    [ -z "$emulator" ] || doc=$(rt doc)
     cat >"$work/bin/rt" <<EOF
 #!/bin/sh
 case \$1 in
-doc) echo '$work/kit/docs/START-HERE.md' ;;
+doc) echo '$doc' ;;
 staticlib)
     [ ! -f '$work/unproved' ] || { echo 'rt: lists NOT PROVED (exit 1, 2 s)' >&2; exit 1; }
     echo 'rt: lists proved (3 s)' >&2
@@ -558,7 +572,7 @@ version) echo '$kit' ;;
 esac
 EOF
     chmod +x "$work/bin/rt"
-    check 'tools/install proves first' env -u CAPTIONS_LIB PATH="$work/bin:$PATH" sh -c '"$1" "$2" 2>&1 >/dev/null' sh "$copy/tools/install" "$work/proved"
+    check 'tools/install proves first' env -u CAPTIONS_LIB PATH="$work/bin:$PATH" sh -c '"$@" 2>&1 >/dev/null' sh "$copy/tools/install" "$work/proved"
     says 'it says how far it is, on standard error' 'lists proved (3 s)'
     same 'its manifest, proof' "$(value proof "$work/proved")" 'made with this file, by rt staticlib captions'
     # The archive of the proof before is still there, and must not be taken.
@@ -600,14 +614,14 @@ ran
 EOF
         same 'Arm, a word with spaces' "$(printf '' | "$arm/bin/captions" replace -t hex --unit '64 1 0  0 1 11 94 2C' 2>&1)" 000001B2038108ACA4D200
         told Arm "$arm" "$arm/bin/captions"
-        same 'Arm, the manifest has the digests of both' "$(sed -n 's/^\(command\|program\) sha256 [0-9a-f]*/\1/p' "$arm/share/captions/manifest")" 'command bin/captions
-program lib/captions/captions-x86-64'
-        check 'Arm, all digests are right' check_sums "$arm"
+        same 'Arm, the manifest has the digests of both' "$(value command "$arm" | cut -d ' ' -f 3) $(value program "$arm" | cut -d ' ' -f 3)" \
+            'bin/captions lib/captions/captions-x86-64'
+        check 'Arm, all digests are right' sums "$arm"
         check 'Arm, tools/package' env PATH="$work/bin:$PATH" "$root/tools/package" "$work/package arm" --gate "$work/gate.log"
         check 'Arm, its package unpacked' dpkg-deb -x "$work/package arm/$name" "$work/unpacked-arm"
         check 'Arm, the command in it is the static program' cmp "$work/unpacked-arm/usr/bin/captions" "$arm/lib/captions/captions-x86-64"
         same 'Arm, it needs no other package' "$(dpkg-deb -f "$work/package arm/$name" Depends)" ''
-        check 'Arm, all digests of the package' check_sums "$work/unpacked-arm/usr"
+        check 'Arm, all digests of the package' sums "$work/unpacked-arm/usr"
     fi
 fi
 

@@ -84,7 +84,8 @@ same() {
 build() {
     folder "$1" || die "cannot make the folder $1"
     [ ! -e "$1/target/staticlib" ] || die "there is an archive in $1 before it is built"
-    (cd "$1" && tools/prove-library && CAPTIONS_LIB=target/staticlib/libcaptions.a tools/build-command "$work/$2.command") || die "nothing is built in $1"
+    (cd "$1" && tools/prove-library && CAPTIONS_LIB=target/staticlib/libcaptions.a tools/build-command "$work/$2.command") ||
+        die "nothing is built in $1"
     cp "$1/target/staticlib/libcaptions.a" "$work/$2.a" || die "there is no archive in $1"
     rm -rf "$1"
 }

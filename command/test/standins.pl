@@ -51,16 +51,11 @@ cat "$kept/err" >&2
 exit "$status"
 END_OF_TEXT
 
-# changes SED: the output through sed.
-sub changes {
-    my ($sed) = @_;
-    return "$run sed -E '$sed' \"\$kept/out\" >\"\$kept/other\" && mv \"\$kept/other\" \"\$kept/out\"\n$end";
-}
-
-sub says {
-    my ($sed) = @_;
-    return "$run sed -E '$sed' \"\$kept/err\" >\"\$kept/other\" && mv \"\$kept/other\" \"\$kept/err\"\n$end";
-}
+# after SH: the command, then something else, and only then what it printed, said and answered goes out. changes SED and says SED: with what it printed,
+# or what it said, changed by sed.
+sub after   { return "$run$_[0]\n$end" }
+sub changes { return after(qq{sed -E '$_[0]' "\$kept/out" >"\$kept/other" && mv "\$kept/other" "\$kept/out"}) }
+sub says    { return after(qq{sed -E '$_[0]' "\$kept/err" >"\$kept/other" && mv "\$kept/other" "\$kept/err"}) }
 
 # ---- Two that are right ----
 my @all = qw(vectors vectors:film-ours.txt vectors:reel-ours.txt hostile:written hostile:links hostile:unit_words hostile:film hostile:reel hostile:hex
@@ -68,10 +63,11 @@ my @all = qw(vectors vectors:film-ours.txt vectors:reel-ours.txt hostile:written
 push @all, 'programs' if defined $programs;
 right('the command itself', 'exec "$real" "$@"', @all);
 # Through files the streams cannot be told apart from closed or full ones, so that these sections are left out.
-right('the command through files', $run . $end, grep { !/hostile:(?:closed|late)/ } @all);
+right('the command through files', after(':'), grep { !/hostile:(?:closed|late)/ } @all);
 
-# ---- Those that are wrong ----
-wrong('field 1 for 2, and 2 for 1', changes('s/^([0-3]) 1 ([0-9]+ [0-9A-F]{2} [0-9A-F]{2})$/\1 x \2/; s/^([0-3]) 2 ([0-9]+ [0-9A-F]{2} [0-9A-F]{2})$/\1 1 \2/; s/^([0-3]) x /\1 2 /'),
+# ---- What is printed ----
+my $bytes = '[0-9A-F]{2} [0-9A-F]{2}';
+wrong('field 1 for 2, and 2 for 1', changes("s/^([0-3]) 1 ([0-9]+ $bytes)\$/\\1 x \\2/; s/^([0-3]) 2 ([0-9]+ $bytes)\$/\\1 1 \\2/; s/^([0-3]) x /\\1 2 /"),
     'vectors', defined $programs ? 'programs' : ());
 wrong('the two bytes of a construct the other way round', changes('s/^([0-3] [1-3] [0-9]+) ([0-9A-F]{2}) ([0-9A-F]{2})$/\1 \3 \2/'), 'vectors', 'help');
 wrong('the fields of an access unit the other way round', changes('s/^([01]) ([01]) ([0-9]+) (..) (..) (..) (..)$/\2 \1 \3 \6 \7 \4 \5/'),
@@ -84,43 +80,68 @@ wrong('spaces in JSON', changes('s/":/": /g'), 'vectors');
 wrong('no z in JSON', changes('s/,"z":[0-9]+//'), 'vectors');
 wrong('n one too high in JSON', changes('s/"n":0,/"n":1,/'), 'vectors');
 wrong('what waits left out', changes('/^waiting|"waiting"/ d'), 'vectors:film-ours.txt', 'hostile:film');
-wrong('the last byte cut off', $run . 'size=$(wc -c <"$kept/out"); [ "$size" -eq 0 ] || head -c "$((size - 1))" "$kept/out" >"$kept/other"; [ "$size" -eq 0 ] || mv "$kept/other" "$kept/out"' . "\n$end",
-    'vectors', 'help');
-wrong('a line feed too many', $run . '[ "$status" -ne 0 ] || echo >>"$kept/out"' . "\n$end", 'vectors', 'help');
-wrong('always status 0', $run . "status=0\n$end", 'vectors', 'hostile:film', 'hostile:wrong_words');
-wrong('status 1 for wrong use', $run . "[ \$status -ne 2 ] || status=1\n$end", 'hostile:wrong_words', 'hostile:hex', 'hostile:reel');
-wrong('status 1 for a failure', $run . "[ \$status -ne 3 ] || status=1\n$end", 'hostile:unread', 'hostile:full');
-wrong('status 0 for a failure', $run . "[ \$status -ne 3 ] || status=0\n$end", 'hostile:unread', 'hostile:full');
-wrong('nothing said of a failure', $run . "[ \$status -ne 3 ] || : >\"\$kept/err\"\n$end", 'hostile:unread', 'hostile:full');
-wrong('a refusal on standard output', $run . "[ \$status -ne 1 ] || { cp \"\$kept/err\" \"\$kept/out\"; : >\"\$kept/err\"; }\n$end", 'vectors', 'hostile:film');
-wrong('a refusal on standard output too', $run . "[ \$status -ne 1 ] || cp \"\$kept/err\" \"\$kept/out\"\n$end", 'vectors', 'hostile:film');
-wrong('a place one too high', $run . 'awk \'/^refused/ { $4 = $4 + 1 } { print }\' "$kept/err" >"$kept/other" && mv "$kept/other" "$kept/err"' . "\n$end", 'vectors', 'hostile:film');
+wrong('the last byte cut off', after(q{size=$(wc -c <"$kept/out")
+    if [ "$size" -gt 0 ]; then head -c "$((size - 1))" "$kept/out" >"$kept/other"; mv "$kept/other" "$kept/out"; fi}), 'vectors', 'help');
+wrong('a line feed too many', after(q{[ "$status" -ne 0 ] || echo >>"$kept/out"}), 'vectors', 'help');
+
+# ---- What is said, and the status ----
+wrong('always status 0', after('status=0'), 'vectors', 'hostile:film', 'hostile:wrong_words');
+wrong('status 1 for wrong use', after('[ $status -ne 2 ] || status=1'), 'hostile:wrong_words', 'hostile:hex', 'hostile:reel');
+wrong('status 1 for a failure', after('[ $status -ne 3 ] || status=1'), 'hostile:unread', 'hostile:full');
+wrong('status 0 for a failure', after('[ $status -ne 3 ] || status=0'), 'hostile:unread', 'hostile:full');
+wrong('nothing said of a failure', after('[ $status -ne 3 ] || : >"$kept/err"'), 'hostile:unread', 'hostile:full');
+wrong('a refusal on standard output', after(q{[ $status -ne 1 ] || mv "$kept/err" "$kept/out"; : >>"$kept/err"}), 'vectors', 'hostile:film');
+wrong('a refusal on standard output too', after('[ $status -ne 1 ] || cp "$kept/err" "$kept/out"'), 'vectors', 'hostile:film');
+wrong('a place one too high', after(q{awk '/^refused/ { $4 = $4 + 1 } { print }' "$kept/err" >"$kept/other" && mv "$kept/other" "$kept/err"}),
+    'vectors', 'hostile:film');
 wrong('5 for 26', says('s/^refused 26 /refused 5 /'), 'vectors:multi-ours.txt');
 wrong('a refusal without its words', says('/^captions: / d'), 'vectors', 'hostile:unread');
+wrong('the words of one number for another', says('/^refused 18 /,$ s/^(captions: [^:]*): .*/\1: the input ends before an item is complete (bits)/'),
+    'vectors');
 wrong('a refusal without the name of its input', says('s/^captions: [^:]*: /captions: /'), 'vectors', 'hostile:unread');
-wrong('a line of film one too high', $run . q~awk '/^captions: / && match($0, /:[0-9]+:/) { $0 = substr($0, 1, RSTART) (substr($0, RSTART + 1, RLENGTH - 2) + 1) substr($0, RSTART + RLENGTH - 1) } { print }' "$kept/err" >"$kept/other" && mv "$kept/other" "$kept/err"~ . "\n$end",
-    'vectors:film-ours.txt', 'hostile:film', 'hostile:hex');
-wrong('words where all is well', $run . "[ \$status -ne 0 ] || echo captions: well >\"\$kept/err\"\n$end", 'vectors', 'help');
-wrong('a file left beside -o', $run . "[ -z \"\$to\" ] || : >\"\$to.new\"\n$end", 'vectors', 'hostile:written');
-wrong('a file left beside -o by a refusal', $run . "[ -z \"\$to\" ] || [ \$status -eq 0 ] || : >\"\$to.new\"\n$end", 'vectors', 'hostile:written');
-wrong('-o begun before the answer is known', "$begin\n[ -z \"\$to\" ] || [ -d \"\$to\" ] || : >\"\$to\"\n$run$end", 'hostile:written');
-wrong('-o without its last byte', $run . 'if [ -n "$to" ] && [ -s "$to" ]; then head -c "$(($(wc -c <"$to") - 1))" "$to" >"$kept/other"; cat "$kept/other" >"$to"; fi' . "\n$end", 'vectors', 'hostile:written');
-wrong('the permissions of -o not kept', $run . "[ -z \"\$to\" ] || [ ! -f \"\$to\" ] || chmod 600 \"\$to\"\n$end", 'hostile:written', 'hostile:links');
-wrong('a link of -o replaced', $run . 'if [ -n "$to" ] && [ -L "$to" ] && [ -f "$to" ]; then cp "$to" "$kept/other"; rm "$to"; cp "$kept/other" "$to"; fi' . "\n$end", 'hostile:links');
+wrong('a line of film one too high', after(q{awk '/^captions: / && match($0, /:[0-9]+:/) {
+        $0 = substr($0, 1, RSTART) (substr($0, RSTART + 1, RLENGTH - 2) + 1) substr($0, RSTART + RLENGTH - 1)
+    } { print }' "$kept/err" >"$kept/other" && mv "$kept/other" "$kept/err"}), 'vectors:film-ours.txt', 'hostile:film', 'hostile:hex');
+wrong('words where all is well', after('[ $status -ne 0 ] || echo captions: well >"$kept/err"'), 'vectors', 'help');
+wrong('status 99 and a report, as of a sanitizer', after(q{[ "$verb" != multi ] || { echo '==1==ERROR: AddressSanitizer' >"$kept/err"; status=99; }}),
+    'vectors', 'hostile:plain');
+wrong('an end by a signal', 'case ${1:-} in pes) kill -SEGV $$ ;; esac; exec "$real" "$@"', 'vectors', 'hostile:plain');
+
+# ---- -o ----
+wrong('a file left beside -o', after('[ -z "$to" ] || : >"$to.new"'), 'vectors', 'hostile:written');
+wrong('a file left beside -o by a refusal', after('[ -z "$to" ] || [ $status -eq 0 ] || : >"$to.new"'), 'vectors', 'hostile:written');
+wrong('-o begun before the answer is known', qq{$begin\n[ -z "\$to" ] || [ -d "\$to" ] || : >"\$to"\n$run$end}, 'hostile:written');
+wrong('-o without its last byte', after(q{if [ -n "$to" ] && [ -s "$to" ]; then
+        head -c "$(($(wc -c <"$to") - 1))" "$to" >"$kept/other"; cat "$kept/other" >"$to"; fi}), 'vectors', 'hostile:written');
+wrong('the permissions of -o not kept', after('[ -z "$to" ] || [ ! -f "$to" ] || chmod 600 "$to"'), 'hostile:written', 'hostile:links');
+wrong('a link of -o replaced', after(q{if [ -n "$to" ] && [ -L "$to" ] && [ -f "$to" ]; then
+        cp "$to" "$kept/other"; rm "$to"; cp "$kept/other" "$to"; fi}), 'hostile:links');
+
+# ---- Words and input ----
 wrong('little taken for big', arguments('[ "$word" != little ] || word=big'), 'vectors', 'hostile:plain');
-wrong('numbers of a unit cut to eight bits', arguments(q~case $before in --unit | -u) word=$(printf '%s' "$word" | awk '{ for (i = 1; i <= NF; i++) if ($i ~ /^[0-9][0-9][0-9]+$/) $i = $i % 256; print }') ;; esac~),
-    'hostile:unit_words', 'vectors');
-wrong('--each always', 'case ${1:-} in film) shift; for word; do [ "$word" != --each ] || exec "$real" film "$@"; done; exec "$real" film --each "$@" ;; esac; exec "$real" "$@"', 'vectors:film-ours.txt', 'hostile:film');
+wrong('numbers of a unit cut to eight bits', arguments(q{case $before in --unit | -u)
+        word=$(printf '%s' "$word" | awk '{ for (i = 1; i <= NF; i++) if ($i ~ /^[0-9][0-9][0-9]+$/) $i = $i % 256; print }') ;;
+    esac}), 'hostile:unit_words', 'vectors');
+wrong('--each always', q{case ${1:-} in film)
+        shift; for word; do [ "$word" != --each ] || exec "$real" film "$@"; done; exec "$real" film --each "$@" ;;
+    esac; exec "$real" "$@"}, 'vectors:film-ours.txt', 'hostile:film');
 wrong('--each never', arguments('[ "$word" != --each ] || continue'), 'vectors:film-ours.txt', 'hostile:film');
-wrong('--flags left out', arguments('case $before in --flags) word=00 ;; esac; case $word in --flags=*) word=--flags=00 ;; esac'), 'vectors:reel-ours.txt', 'hostile:reel');
+wrong('--flags left out', arguments('case $before in --flags) word=00 ;; esac; case $word in --flags=*) word=--flags=00 ;; esac'),
+    'vectors:reel-ours.txt', 'hostile:reel');
 wrong('unknown options passed over', arguments('case $word in --bogus | -x) continue ;; esac'), 'hostile:wrong_words');
 wrong('the last of two options taken', arguments('case $word in --json) [ -z "${json:-}" ] || continue; json=1 ;; esac'), 'hostile:wrong_words');
 wrong('input of 16,384 bytes at most', 'case " $* " in *" /"*) exec "$real" "$@" ;; esac; head -c 16384 | "$real" "$@"', 'hostile:noise');
-wrong('a pipe that is late taken for ended', 'case ${1:-} in area) perl -MFcntl -e \'fcntl STDIN, F_SETFL, O_NONBLOCK; sysread STDIN, $in, 65536; print $in // ""\' | "$real" "$@" ;; *) exec "$real" "$@" ;; esac', 'hostile:late');
-wrong('help without its example', $run . "sed -n '/^Example:/ q; p' \"\$kept/out\" >\"\$kept/other\" && mv \"\$kept/other\" \"\$kept/out\"\n$end", 'help');
-wrong('three lines of --version', $run . "[ \"\$verb\" != --version ] || { head -n 3 \"\$kept/out\" >\"\$kept/other\"; mv \"\$kept/other\" \"\$kept/out\"; }\n$end", 'help');
-wrong('status 99 and a report, as of a sanitizer', $run . "[ \"\$verb\" != multi ] || { echo '==1==ERROR: AddressSanitizer' >\"\$kept/err\"; status=99; }\n$end", 'vectors', 'hostile:plain');
-wrong('an end by a signal', 'case ${1:-} in pes) kill -SEGV $$ ;; esac; exec "$real" "$@"', 'vectors', 'hostile:plain');
+wrong('a pipe that is late taken for ended', q{case ${1:-} in area)
+        perl -MFcntl -e 'fcntl STDIN, F_SETFL, O_NONBLOCK; sysread STDIN, $in, 65536; print $in // ""' | "$real" "$@" ;;
+    *) exec "$real" "$@" ;; esac}, 'hostile:late');
+
+# ---- Help ----
+wrong('help without its example', after(q{sed -n '/^Example:/ q; p' "$kept/out" >"$kept/other" && mv "$kept/other" "$kept/out"}), 'help');
+wrong('an example that prints something else', after(q{case $* in 'area --help') sed '$ s/C$/D/' "$kept/out" >"$kept/other"; mv "$kept/other" "$kept/out" ;; esac}),
+    'help');
+wrong('three lines of --version', after(q{[ "$verb" != --version ] || { head -n 3 "$kept/out" >"$kept/other"; mv "$kept/other" "$kept/out"; }}), 'help');
+wrong('the digest of another archive', after(q{[ "$verb" != --version ] || {
+        sed 's/sha256 [0-9a-f]/sha256 x/; s/x/0/; s/sha256 0\(.\)/sha256 \1f/' "$kept/out" >"$kept/other"; mv "$kept/other" "$kept/out"; }}), 'help');
 finish();
 
 # arguments SH: the command with other words. SH sees each as $word, with the one before it as $before, and may change it or pass over it.
@@ -153,6 +174,7 @@ sub wrong {
         my $answer = started($name, $sh, $driver);
         my ($failure) = $answer->{out} =~ /^(\w+: FAILED .*)$/m;
         print "$name, $driver: $failure\n" if $ENV{STANDINS_SHOW} && defined $failure;
-        case("$name, $driver", $answer, $answer->{status} eq 1 && defined $failure ? undef : "it is not noticed: status $answer->{status}, $answer->{out}$answer->{err}");
+        my $noticed = $answer->{status} eq 1 && defined $failure;
+        case("$name, $driver", $answer, $noticed ? undef : "it is not noticed: status $answer->{status}, $answer->{out}$answer->{err}");
     }
 }

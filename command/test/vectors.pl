@@ -171,7 +171,8 @@ sub area_replace {
     my ($given, $answer) = @_;
     return skip("$vector->{kind}: refused for want of room, which the command always has") && 0 if ($answer->{refused} // 0) == 14;
     my $unit = area_given($given) or return 0;
-    return replace('replace', bytes_of($given->{in} // '-'), area_words($unit), area_value($unit), defined $answer->{refused} ? '' : bytes_of($answer->{out}));
+    my $out = defined $answer->{refused} ? '' : bytes_of($answer->{out});
+    return replace('replace', bytes_of($given->{in} // '-'), area_words($unit), area_value($unit), $out);
 }
 
 # replace VERB AREA WORDS LINES OUT: the unit as one argument and as lines of a file; bytes and hex.
@@ -232,7 +233,8 @@ sub ga94_replace {
     return skip("$vector->{kind}: an em_data of more than two digits") && 0 if $given->{em} > 255;
     my @flags = $given->{flags} =~ /\./ ? split(/\./, $given->{flags}) : split //, $given->{flags};
     my $unit = { %$given{qw(em z)}, flags => \@flags, records => [@records[0 .. $given->{n} - 1]] };
-    return replace('ga94-replace', bytes_of($given->{in} // '-'), ga94_words($unit), ga94_value($unit), defined $answer->{refused} ? '' : bytes_of($answer->{out}));
+    my $out = defined $answer->{refused} ? '' : bytes_of($answer->{out});
+    return replace('ga94-replace', bytes_of($given->{in} // '-'), ga94_words($unit), ga94_value($unit), $out);
 }
 
 # ---- Packets and multipackets ----
