@@ -216,6 +216,9 @@ static int put_behind_links(const char *name, mode_t mode, const bytes *from)
 int write_file(const char *name, const bytes *from)
 {
     struct stat there;
+    /* An empty name has no folder for a file beside it. */
+    if (name[0] == '\0')
+        return ENOENT;
     if (stat(name, &there) != 0)
         return errno == ENOENT ? put_behind_links(name, usual_mode(), from) : errno;
     if (S_ISREG(there.st_mode))

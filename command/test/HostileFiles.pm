@@ -155,7 +155,8 @@ sub try_full {
             same('the folder', left_beside($folder), ''));
         broken("$verb, -o into no folder", ask(words($sample, '-o', "$folder/none/out"), in => $in), "$folder/none/out", reason(Errno::ENOENT));
         broken("$verb, -o behind a file", ask(words($sample, '-o', "$work/stdin/out"), in => $in), "$work/stdin/out", reason(Errno::ENOTDIR));
-        broken("$verb, -o of an empty name", ask(words($sample, '-o', ''), in => $in), '', reason(Errno::ENOENT));
+        broken("$verb, -o of an empty name", ask(words($sample, '-o', ''), in => $in, folder => $folder), '', reason(Errno::ENOENT),
+            same('the folder', left_beside($folder), ''));
         # A refusal is no output: a device that is full does not change it. Where it cannot be said, a write failed.
         refused("$verb, refused, a full device", ask(words($sample), in => refused_input($sample), stdout => $device), refusal_of($sample, 'standard input'));
         my $answer = ask(words($sample), in => refused_input($sample), stderr => $device);

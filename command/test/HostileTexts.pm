@@ -2,6 +2,7 @@
 package HostileTexts;
 use strict;
 use warnings;
+use Errno ();
 use Hostile;
 use Listings;
 use Run;
@@ -161,6 +162,19 @@ sub try_unit_words {
         my ($label, $words, $line) = @$case;
         $not->('ga94-replace', $label, $words, $line);
     }
+    # The words from standard input, which then cannot be the area too.
+    for my $verb (qw(replace ga94-replace)) {
+        my ($in, $out) = @{ $sample{$verb} }{qw(in out)};
+        my $unit = $sample{$verb}{words}[1];
+        my $area = save("$work/area", $in);
+        accepted("$verb, --unit-file -", ask([$verb, '--unit-file', '-', $area], in => $unit), $out);
+        accepted("$verb, --unit-file=-, -o onto the area", ask([$verb, '--unit-file=-', '-o', $area, $area], in => $unit), '',
+            same('the area', content($area), $out));
+        misused("$verb, --unit-file - and a fault", ask([$verb, '--unit-file', '-', $area], in => "1 1\nx"), 'standard input:2');
+        misused("$verb, --unit-file - and no area", ask([$verb, '--unit-file', '-'], in => $unit));
+        misused("$verb, --unit-file - and the area -", ask([$verb, '--unit-file', '-', '-'], in => $unit));
+        broken("$verb, --unit-file -, no standard input", ask([$verb, '--unit-file', '-', $area], closed => '0'), 'standard input', reason(Errno::EBADF));
+    }
     # What one verb prints, the other takes.
     for my $case (['area', 'replace', CASE_A], ['ga94', 'ga94-replace', CASE_Q]) {
         my ($list, $replace, $area) = @$case;
@@ -267,6 +281,10 @@ sub try_film {
     $not->('an area that is too long', '1 0 11 ' . hex_bytes(CASE_A . "\0" x 16374) . "\n", 1, 1, 0, undef, $no->(1, 0, 1));
     $not->('1 MB of an area', '1 0 11 ' . '00' x (1 << 19) . "\n", 1, 1, 0, undef, $no->(1, 0, 1));
     $not->('no start code', "1 0 11 01\n", 1, 2, 0, undef, $no->(2, 0, 1));
+    # Line by line: what stands behind a refusal is not looked at, but with --each.
+    $not->('a refusal before a letter', "1 0 32\nx\n", 1, 15, 0);
+    misused('film, a refusal before a letter, each', ask(['film', '--each'], in => "1 0 32\nx\n"), "$name:2");
+    misused('film, a letter before a refusal', ask(['film'], in => "x\n1 0 32\n"), "$name:1");
     # States that no call leaves: an invalid slot with bytes, a flag that is none.
     for my $state ('0 94 2C', '0 00 01', '0 01 00', '2 00 00', '256 00 00', '257 94 2C', "$long 94 2C") {
         $not->("what waits as $state, a picture", "waiting $state\n1 0 11 $a\n", 1, 15, 0);

@@ -137,11 +137,14 @@ wrong('a pipe that is late taken for ended', q{case ${1:-} in area)
 
 # ---- Help ----
 wrong('help without its example', after(q{sed -n '/^Example:/ q; p' "$kept/out" >"$kept/other" && mv "$kept/other" "$kept/out"}), 'help');
-wrong('an example that prints something else', after(q{case $* in 'area --help') sed '$ s/C$/D/' "$kept/out" >"$kept/other"; mv "$kept/other" "$kept/out" ;; esac}),
-    'help');
+wrong('an example that prints something else', after(q{case $* in 'area --help' | 'area -h')
+        sed '$ s/C$/D/' "$kept/out" >"$kept/other"; mv "$kept/other" "$kept/out" ;;
+    esac}), 'help');
 wrong('three lines of --version', after(q{[ "$verb" != --version ] || { head -n 3 "$kept/out" >"$kept/other"; mv "$kept/other" "$kept/out"; }}), 'help');
-wrong('the digest of another archive', after(q{[ "$verb" != --version ] || {
-        sed 's/sha256 [0-9a-f]/sha256 x/; s/x/0/; s/sha256 0\(.\)/sha256 \1f/' "$kept/out" >"$kept/other"; mv "$kept/other" "$kept/out"; }}), 'help');
+my $digest = sub { after(qq{[ "\$verb" != --version ] || { sed 's/$_[0]/' "\$kept/out" >"\$kept/other"; mv "\$kept/other" "\$kept/out"; }}) };
+wrong('the digest of another archive', $digest->('sha256 \(.*\)\(.\)$/sha256 \2\1'), 'help') if defined $ENV{CAPTIONS_LIB};
+wrong('another commit', $digest->('commit \(.*\)\(.\)$/commit \2\1'), 'help') if defined $ENV{CAPTIONS_COMMIT};
+wrong('another kit', $digest->('^kit ./kit x'), 'help');
 finish();
 
 # arguments SH: the command with other words. SH sees each as $word, with the one before it as $before, and may change it or pass over it.
