@@ -4,6 +4,7 @@
 #include "say.h"
 
 #include <errno.h>
+#include <string.h>
 
 /* What the call prints, or why it prints nothing. */
 static outcome answer(const options *o, bytes *out)
@@ -26,7 +27,7 @@ static outcome hand_over(const options *o, const bytes *out, outcome ended)
         return ended;
     if (out->is_short)
         return failed(ENOMEM, NULL);
-    bool is_file = o->output != NULL && !o->is_help;
+    bool is_file = o->output != NULL && strcmp(o->output, "-") != 0 && !o->is_help;
     int error = is_file ? write_file(o->output, out) : write_output(out);
     return error == 0 ? ended : failed(error, is_file ? o->output : "standard output");
 }

@@ -147,6 +147,9 @@ sub try_full {
         sysopen my $device, '/dev/full', O_WRONLY or die "/dev/full: $!\n";
         broken("$verb, a full device", ask(words($sample), in => $in, stdout => $device), 'standard output', $full);
         broken("$verb, -o of a full device", ask(words($sample, '-o', '/dev/full'), in => $in), '/dev/full', $full);
+        my $empty = fresh();
+        accepted("$verb, -o of -, standard output", ask(words($sample, '-o', '-'), in => $in, folder => $empty), $sample->{out},
+            same('the folder', left_beside($empty), ''));
         accepted("$verb, -o of /dev/null", ask(words($sample, '-o', '/dev/null'), in => $in), '',
             -c '/dev/null' ? undef : '/dev/null is no device any more');
         broken("$verb, -o of a directory", ask(words($sample, '-o', $folder), in => $in), $folder, reason(Errno::EISDIR),
