@@ -103,6 +103,9 @@ int write_output(const bytes *from)
 /* The file beside, for as long as there is one: a signal that ends the process removes it first. */
 static char *volatile beside;
 
+static const int ending_signals[] = { SIGHUP, SIGINT, SIGTERM };
+enum { ENDING_SIGNALS = sizeof ending_signals / sizeof *ending_signals };
+
 static void on_signal(int number)
 {
     if (beside != NULL)
@@ -114,10 +117,27 @@ static void on_signal(int number)
 /* A signal that was ignored when the process began stays ignored. */
 static void watch_signals(void)
 {
-    static const int ends[] = { SIGHUP, SIGINT, SIGTERM };
-    for (size_t i = 0; i < sizeof ends / sizeof *ends; i++)
-        if (signal(ends[i], on_signal) == SIG_IGN)
-            signal(ends[i], SIG_IGN);
+    for (int i = 0; i < ENDING_SIGNALS; i++)
+        if (signal(ending_signals[i], on_signal) == SIG_IGN)
+            signal(ending_signals[i], SIG_IGN);
+}
+
+/* Makes the file beside. No signal comes between the file and its name in `beside`. */
+static int make_beside(char *name)
+{
+    sigset_t ending;
+    sigset_t before;
+    sigemptyset(&ending);
+    for (int i = 0; i < ENDING_SIGNALS; i++)
+        sigaddset(&ending, ending_signals[i]);
+    sigprocmask(SIG_BLOCK, &ending, &before);
+    int descriptor = mkstemp(name);
+    int error = errno;
+    if (descriptor >= 0)
+        beside = name;
+    sigprocmask(SIG_SETMASK, &before, NULL);
+    errno = error;
+    return descriptor;
 }
 
 /* Writes to an open file and closes it. */
@@ -157,13 +177,12 @@ static int put_file(const char *path, mode_t mode, const bytes *from)
     if (name == NULL)
         return ENOMEM;
     watch_signals();
-    int descriptor = mkstemp(name);
+    int descriptor = make_beside(name);
     if (descriptor < 0) {
         int error = errno;
         free(name);
         return error;
     }
-    beside = name;
     int error = fchmod(descriptor, mode) == 0 ? 0 : errno;
     int filled = fill(descriptor, from);
     if (error == 0)

@@ -296,6 +296,54 @@ sub try_links {
 }
 
 # A limit on the length of files. Standard error is a pipe, since a file would be limited too.
+# A signal that ends the command while it writes: the file of -o is the old one, and none is left beside it. The signal is sent as soon as a name stands
+# in the folder that was not there, and what is written is long enough that this is before the end. A signal that the command was told to ignore does
+# nothing.
+sub try_signals {
+    my $lines = "1 0 0 94 2C 00 00\n" x 2_000_000;
+    for my $signal (qw(HUP INT TERM)) {
+        my $folder = fresh();
+        my $kept   = save("$folder/kept", 'kept');
+        my $seen   = 0;
+        my $answer = ask([qw(reel -t hex -o), $kept], in => $lines, beside => sub {
+            my ($child) = @_;
+            while (!$seen && kill 0 => $child) {
+                $seen = left_beside($folder) ne 'kept';
+                last if !$seen && ended_already($child);
+            }
+            kill $signal => $child if $seen;
+        });
+        case("reel, SIG$signal while it writes", $answer,
+            $seen ? undef : 'no file was seen beside the one of -o',
+            $answer->{status} eq 'signal ' . signal_number($signal) ? undef : "it ended with $answer->{status}",
+            same('standard output', $answer->{out}, ''), same('the file of -o', content($kept), 'kept'),
+            same('the folder', left_beside($folder), 'kept'));
+    }
+    my $folder = fresh();
+    local $SIG{TERM} = 'IGNORE';
+    my $sent   = 0;
+    my $answer = ask([qw(reel -t hex -o), "$folder/new"], in => $lines, beside => sub {
+        my ($child) = @_;
+        until ($sent || ended_already($child)) {
+            next if left_beside($folder) eq '';
+            $sent = kill TERM => $child;
+        }
+    });
+    accepted('reel, SIGTERM while it writes, ignored', $answer, '', $sent ? undef : 'no file was seen', same('the folder', left_beside($folder), 'new'));
+}
+
+# Whether a child has ended and waits to be asked for.
+sub ended_already {
+    my ($child) = @_;
+    my $state = content("/proc/$child/stat") // return 1;
+    return $state =~ /\) [ZX] /;
+}
+
+sub signal_number {
+    my ($name) = @_;
+    return { HUP => POSIX::SIGHUP(), INT => POSIX::SIGINT(), TERM => POSIX::SIGTERM() }->{$name};
+}
+
 sub try_limited {
     my $folder = fresh();
     my $large = reason(Errno::EFBIG);

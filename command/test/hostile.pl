@@ -17,7 +17,7 @@ begin('hostile');
 Hostile::prepare();
 
 my @sections = (
-    (map { [$_, 'HostileFiles'] } qw(plain unread closed full written links limited)),
+    (map { [$_, 'HostileFiles'] } qw(plain unread closed full written links limited signals)),
     (map { [$_, 'HostilePipes'] } qw(pipes late)),
     (map { [$_, 'HostileInputs'] } qw(noise zeros empty lengths huge mutants)),
     (map { [$_, 'HostileTexts'] } qw(hex unit_words film reel reel_list)),
