@@ -164,12 +164,12 @@ outcome run_film(const char *name, part text, bool is_each, bool is_json, bytes 
     return first;
 }
 
+static outcome put_film(const options *o, const bytes *in, bytes *out)
+{
+    return run_film(input_name(o), (part){ in->at, in->len }, o->is_each, o->is_json, out);
+}
+
 outcome carry_film(const options *o, bytes *out)
 {
-    bytes in = { 0 };
-    outcome taken = take_text(o, &in);
-    if (is_accepted(taken))
-        taken = run_film(input_name(o), (part){ in.at, in.len }, o->is_each, o->is_json, out);
-    release(&in);
-    return taken;
+    return with_text(o, put_film, out);
 }

@@ -6,7 +6,7 @@
 #include <errno.h>
 #include <stdlib.h>
 
-outcome take_text(const options *o, bytes *in)
+static outcome take_text(const options *o, bytes *in)
 {
     int error = read_file(o->file, in);
     return error == 0 ? accepted() : failed(error, input_name(o));
@@ -44,7 +44,7 @@ static void order(uint8_t *at, size_t words, enum format format)
     }
 }
 
-outcome take_words(const options *o, words *in)
+static outcome take_words(const options *o, words *in)
 {
     bytes read = { 0 };
     outcome taken = take_text(o, &read);
@@ -59,6 +59,37 @@ outcome take_words(const options *o, words *in)
     if (o->from != FORMAT_HEX)
         order(read.at, in->len, o->from);
     return accepted();
+}
+
+/* An outcome of taking, and if that went well of using. */
+static outcome used(outcome taken, const options *o, use_bytes *use, bytes *in, bytes *out)
+{
+    if (is_accepted(taken))
+        taken = use(o, in, out);
+    release(in);
+    return taken;
+}
+
+outcome with_text(const options *o, use_bytes *use, bytes *out)
+{
+    bytes in = { 0 };
+    return used(take_text(o, &in), o, use, &in, out);
+}
+
+outcome with_bytes(const options *o, use_bytes *use, bytes *out)
+{
+    bytes in = { 0 };
+    return used(take_bytes(o, &in), o, use, &in, out);
+}
+
+outcome with_words(const options *o, use_words *use, bytes *out)
+{
+    words in = { 0 };
+    outcome taken = take_words(o, &in);
+    if (is_accepted(taken))
+        taken = use(o, &in, out);
+    free(in.at);
+    return taken;
 }
 
 captions_refusal with_half(const words *in, captions_refusal refusal)

@@ -3,8 +3,6 @@
 #include "rows.h"
 #include "verbs.h"
 
-#include <stdlib.h>
-
 /* ---- Caption units of an area ---- */
 
 static const char none[] = "none";
@@ -43,22 +41,22 @@ static void put_unit(const options *o, bytes *out, const captions_unit *unit, co
         put_record(out, o->is_json, &records[i]);
 }
 
+static outcome put_area(const options *o, const bytes *in, bytes *out)
+{
+    captions_record records[CAPTIONS_RECORDS];
+    captions_unit unit = captions_area_read(in->at, in->len, records);
+    if (is_refusal(unit.refusal))
+        return refused(unit.refusal, input_name(o));
+    if (unit.present)
+        put_unit(o, out, &unit, records);
+    else
+        put_none(o, out);
+    return accepted();
+}
+
 outcome list_area(const options *o, bytes *out)
 {
-    bytes in = { 0 };
-    outcome taken = take_bytes(o, &in);
-    if (is_accepted(taken)) {
-        captions_record records[CAPTIONS_RECORDS];
-        captions_unit unit = captions_area_read(in.at, in.len, records);
-        if (is_refusal(unit.refusal))
-            taken = refused(unit.refusal, input_name(o));
-        else if (unit.present)
-            put_unit(o, out, &unit, records);
-        else
-            put_none(o, out);
-    }
-    release(&in);
-    return taken;
+    return with_bytes(o, put_area, out);
 }
 
 static void put_ga94_record(bytes *out, bool is_json, const captions_ga94_record *r)
@@ -90,22 +88,22 @@ static void put_ga94(const options *o, bytes *out, const captions_ga94_unit *uni
         put_ga94_record(out, o->is_json, &records[i]);
 }
 
+static outcome put_ga94_area(const options *o, const bytes *in, bytes *out)
+{
+    captions_ga94_record records[CAPTIONS_RECORDS];
+    captions_ga94_unit unit = captions_ga94_read(in->at, in->len, records);
+    if (is_refusal(unit.refusal))
+        return refused(unit.refusal, input_name(o));
+    if (unit.present)
+        put_ga94(o, out, &unit, records);
+    else
+        put_none(o, out);
+    return accepted();
+}
+
 outcome list_ga94(const options *o, bytes *out)
 {
-    bytes in = { 0 };
-    outcome taken = take_bytes(o, &in);
-    if (is_accepted(taken)) {
-        captions_ga94_record records[CAPTIONS_RECORDS];
-        captions_ga94_unit unit = captions_ga94_read(in.at, in.len, records);
-        if (is_refusal(unit.refusal))
-            taken = refused(unit.refusal, input_name(o));
-        else if (unit.present)
-            put_ga94(o, out, &unit, records);
-        else
-            put_none(o, out);
-    }
-    release(&in);
-    return taken;
+    return with_bytes(o, put_ga94_area, out);
 }
 
 /* ---- Packets ---- */
@@ -118,29 +116,23 @@ static void put_slot(bytes *out, bool is_json, size_t i, const captions_slot *s,
                   { "data", RUN, s->full == 0 ? 0 : CAPTIONS_ROW_BYTES, row->bytes }));
 }
 
-static void put_packet(const options *o, bytes *out, const captions_packet *packet, const captions_row *rows)
+static outcome put_packet(const options *o, const words *in, bytes *out)
 {
-    put_head(out, o->is_json, ITEMS({ "counter", DECIMAL, packet->counter, NULL }));
+    captions_row rows[CAPTIONS_SLOTS];
+    captions_packet packet = captions_packet_read(in->at, in->len, rows);
+    captions_refusal refusal = with_half(in, packet.refusal);
+    if (is_refusal(refusal))
+        return refused(refusal, input_name(o));
+    put_head(out, o->is_json, ITEMS({ "counter", DECIMAL, packet.counter, NULL }));
     put_title(out, o->is_json, "slot full line reserved field data");
     for (size_t i = 0; i < CAPTIONS_SLOTS; i++)
-        put_slot(out, o->is_json, i, &packet->slots[i], &rows[i]);
+        put_slot(out, o->is_json, i, &packet.slots[i], &rows[i]);
+    return accepted();
 }
 
 outcome list_packet(const options *o, bytes *out)
 {
-    words in = { 0 };
-    outcome taken = take_words(o, &in);
-    if (is_accepted(taken)) {
-        captions_row rows[CAPTIONS_SLOTS];
-        captions_packet packet = captions_packet_read(in.at, in.len, rows);
-        captions_refusal refusal = with_half(&in, packet.refusal);
-        if (is_refusal(refusal))
-            taken = refused(refusal, input_name(o));
-        else
-            put_packet(o, out, &packet, rows);
-    }
-    free(in.at);
-    return taken;
+    return with_words(o, put_packet, out);
 }
 
 /* A user word is a byte below its two parity bits. */
@@ -155,26 +147,23 @@ static void put_inner(bytes *out, bool is_json, size_t i, const captions_inner *
                   { "sdid", HEX, inner->sdid, NULL }, { "data", RUN, inner->count, data }));
 }
 
+static outcome put_multi(const options *o, const words *in, bytes *out)
+{
+    captions_inner inners[CAPTIONS_INNERS];
+    captions_multi multi = captions_multi_read(in->at, in->len, inners);
+    captions_refusal refusal = with_half(in, multi.refusal);
+    if (is_refusal(refusal))
+        return refused(refusal, input_name(o));
+    put_head(out, o->is_json, ITEMS({ "priority", DECIMAL, multi.priority, NULL }, { "n", QUIET, multi.n, NULL }));
+    put_title(out, o->is_json, "inner line field did sdid data");
+    for (size_t i = 0; i < multi.n; i++)
+        put_inner(out, o->is_json, i, &inners[i], in->at + inners[i].at);
+    return accepted();
+}
+
 outcome list_multi(const options *o, bytes *out)
 {
-    words in = { 0 };
-    outcome taken = take_words(o, &in);
-    if (is_accepted(taken)) {
-        captions_inner inners[CAPTIONS_INNERS];
-        captions_multi multi = captions_multi_read(in.at, in.len, inners);
-        captions_refusal refusal = with_half(&in, multi.refusal);
-        if (is_refusal(refusal)) {
-            taken = refused(refusal, input_name(o));
-        } else {
-            put_head(out, o->is_json,
-                     ITEMS({ "priority", DECIMAL, multi.priority, NULL }, { "n", QUIET, multi.n, NULL }));
-            put_title(out, o->is_json, "inner line field did sdid data");
-            for (size_t i = 0; i < multi.n; i++)
-                put_inner(out, o->is_json, i, &inners[i], in.at + inners[i].at);
-        }
-    }
-    free(in.at);
-    return taken;
+    return with_words(o, put_multi, out);
 }
 
 /* ---- Payloads ---- */
@@ -198,21 +187,19 @@ static captions_refusal put_payload(bytes *out, bool is_json, const uint8_t *at,
     return payload.refusal;
 }
 
+static outcome put_one_payload(const options *o, const bytes *in, bytes *out)
+{
+    captions_refusal refusal = put_payload(out, o->is_json, in->at, in->len, NULL);
+    return is_refusal(refusal) ? refused(refusal, input_name(o)) : accepted();
+}
+
 outcome list_payload(const options *o, bytes *out)
 {
-    bytes in = { 0 };
-    outcome taken = take_bytes(o, &in);
-    if (is_accepted(taken)) {
-        captions_refusal refusal = put_payload(out, o->is_json, in.at, in.len, NULL);
-        if (is_refusal(refusal))
-            taken = refused(refusal, input_name(o));
-    }
-    release(&in);
-    return taken;
+    return with_bytes(o, put_one_payload, out);
 }
 
 /* Cuts the payloads of `size` access units off the front, a flags byte and five bytes for each unit, and lists them. */
-static outcome put_payloads(const options *o, bytes *out, const bytes *in)
+static outcome put_payloads(const options *o, const bytes *in, bytes *out)
 {
     size_t longest = 1 + 5 * o->size;
     size_t which = 0;
@@ -229,17 +216,16 @@ static outcome put_payloads(const options *o, bytes *out, const bytes *in)
     return accepted();
 }
 
+static outcome put_reel(const options *o, const bytes *in, bytes *out)
+{
+    /* The library judges a size in each reel, one of no units too. */
+    captions_refusal refusal = captions_reel_write(0, o->size, NULL, 0, NULL, 0).refusal;
+    return is_refusal(refusal) ? refused(refusal, input_name(o)) : put_payloads(o, in, out);
+}
+
 outcome list_reel(const options *o, bytes *out)
 {
-    bytes in = { 0 };
-    outcome taken = take_bytes(o, &in);
-    if (is_accepted(taken)) {
-        /* The library judges a size in each reel, one of no units too. */
-        captions_refusal refusal = captions_reel_write(0, o->size, NULL, 0, NULL, 0).refusal;
-        taken = is_refusal(refusal) ? refused(refusal, input_name(o)) : put_payloads(o, out, &in);
-    }
-    release(&in);
-    return taken;
+    return with_bytes(o, put_reel, out);
 }
 
 /* ---- Data fields ---- */
@@ -261,23 +247,21 @@ static void put_data_unit(bytes *out, bool is_json, size_t i, const captions_dat
                       { "data", RUN, CAPTIONS_ROW_BYTES, teletext->row }));
 }
 
+static outcome put_field(const options *o, const bytes *in, bytes *out)
+{
+    captions_data_unit units[CAPTIONS_PES_UNITS];
+    captions_pes field = captions_pes_read(in->at, in->len, units);
+    if (is_refusal(field.refusal))
+        return refused(field.refusal, input_name(o));
+    put_head(out, o->is_json,
+             ITEMS({ "data_identifier", HEX, field.data_identifier, NULL }, { "n", QUIET, field.n, NULL }));
+    put_title(out, o->is_json, "unit id parity line data");
+    for (size_t i = 0; i < field.n; i++)
+        put_data_unit(out, o->is_json, i, &units[i]);
+    return accepted();
+}
+
 outcome list_pes(const options *o, bytes *out)
 {
-    bytes in = { 0 };
-    outcome taken = take_bytes(o, &in);
-    if (is_accepted(taken)) {
-        captions_data_unit units[CAPTIONS_PES_UNITS];
-        captions_pes field = captions_pes_read(in.at, in.len, units);
-        if (is_refusal(field.refusal)) {
-            taken = refused(field.refusal, input_name(o));
-        } else {
-            put_head(out, o->is_json,
-                     ITEMS({ "data_identifier", HEX, field.data_identifier, NULL }, { "n", QUIET, field.n, NULL }));
-            put_title(out, o->is_json, "unit id parity line data");
-            for (size_t i = 0; i < field.n; i++)
-                put_data_unit(out, o->is_json, i, &units[i]);
-        }
-    }
-    release(&in);
-    return taken;
+    return with_bytes(o, put_field, out);
 }

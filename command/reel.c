@@ -97,16 +97,17 @@ static outcome write_reel(const options *o, const told_run *told, bytes *out)
     return answer;
 }
 
-outcome make_reel(const options *o, bytes *out)
+static outcome put_run(const options *o, const bytes *in, bytes *out)
 {
-    bytes in = { 0 };
-    told_run told = { 0 };
-    outcome taken = take_text(o, &in);
-    if (is_accepted(taken))
-        taken = read_run(input_name(o), (part){ in.at, in.len }, &told);
+    told_run told;
+    outcome taken = read_run(input_name(o), (part){ in->at, in->len }, &told);
     if (is_accepted(taken))
         taken = write_reel(o, &told, out);
-    release(&in);
     release(&told.units);
     return taken;
+}
+
+outcome make_reel(const options *o, bytes *out)
+{
+    return with_text(o, put_run, out);
 }

@@ -6,9 +6,6 @@
 
 #include "unit_words.h"
 
-#include <errno.h>
-#include <stdlib.h>
-
 /* ---- The value of a unit in words ---- */
 
 bool unit_of(part *text, told_unit *told)
@@ -51,21 +48,33 @@ bool ga94_of(part *text, told_ga94 *told)
     return true;
 }
 
-/* The words of the new unit, from the argument or from its file. */
-static outcome take_unit(const options *o, bytes *unit)
+static bool tells_unit(part *text, void *told)
 {
-    if (o->unit != NULL) {
-        put_text(unit, o->unit);
-        return unit->is_short ? failed(ENOMEM, NULL) : accepted();
-    }
-    int error = read_file(o->unit_file, unit);
-    return error == 0 ? accepted() : failed(error, name_of(o->unit_file));
+    return unit_of(text, told);
 }
 
-/* Words that tell no value; an argument has no lines. */
-static outcome no_unit(const options *o, const char *words, part text, part rest)
+static bool tells_ga94(part *text, void *told)
 {
-    return o->unit != NULL ? misused(words, NULL) : misread(words, name_of(o->unit_file), line_of(text, rest));
+    return ga94_of(text, told);
+}
+
+/* Reads the words of the new unit, from the argument or from their file. `form` says what they have to be. */
+static outcome take_unit(const options *o, bool (*tells)(part *text, void *told), void *told, const char *form)
+{
+    bytes unit = { 0 };
+    int error = 0;
+    if (o->unit == NULL)
+        error = read_file(o->unit_file, &unit);
+    part text = o->unit != NULL ? part_of(o->unit) : (part){ unit.at, unit.len };
+    part rest = text;
+    outcome taken = accepted();
+    if (error != 0)
+        taken = failed(error, name_of(o->unit_file));
+    else if (!tells(&rest, told))
+        /* An argument has no lines. */
+        taken = o->unit != NULL ? misused(form, NULL) : misread(form, name_of(o->unit_file), line_of(text, rest));
+    release(&unit);
+    return taken;
 }
 
 /* ---- Replacing ---- */
@@ -79,26 +88,21 @@ static outcome hand_out(const options *o, bytes *out, const uint8_t *from, capti
     return accepted();
 }
 
+/* The words of the value are judged before a byte of the area is read. */
 outcome replace_unit(const options *o, bytes *out)
 {
     told_unit told;
-    bytes unit = { 0 };
     bytes in = { 0 };
-    outcome taken = take_unit(o, &unit);
-    part text = { unit.at, unit.len };
-    part rest = text;
-    if (is_accepted(taken) && !unit_of(&rest, &told))
-        taken =
-            no_unit(o, "a unit is RESERVED FLAG Z, and PRIORITY FIELD LINE DATA DATA for each construct", text, rest);
+    outcome taken = take_unit(o, tells_unit, &told,
+                              "a unit is RESERVED FLAG Z, and PRIORITY FIELD LINE DATA DATA for each construct");
     if (is_accepted(taken))
         taken = take_bytes(o, &in);
     if (is_accepted(taken)) {
         uint8_t area[CAPTIONS_AREA_BYTES];
-        captions_written written = captions_area_replace(in.at, in.len, told.reserved, told.vbi_data_flag, told.n,
-                                                         told.z, told.records, area, sizeof area);
-        taken = hand_out(o, out, area, written);
+        taken = hand_out(o, out, area,
+                         captions_area_replace(in.at, in.len, told.reserved, told.vbi_data_flag, told.n, told.z,
+                                               told.records, area, sizeof area));
     }
-    release(&unit);
     release(&in);
     return taken;
 }
@@ -106,41 +110,34 @@ outcome replace_unit(const options *o, bytes *out)
 outcome replace_ga94(const options *o, bytes *out)
 {
     told_ga94 told;
-    bytes unit = { 0 };
     bytes in = { 0 };
-    outcome taken = take_unit(o, &unit);
-    part text = { unit.at, unit.len };
-    part rest = text;
-    if (is_accepted(taken) && !ga94_of(&rest, &told))
-        taken = no_unit(
-            o, "a GA94 unit is PROCESS_EM PROCESS_CC ADDITIONAL EM_DATA Z, and VALID TYPE DATA DATA for each construct",
-            text, rest);
+    outcome taken = take_unit(o, tells_ga94, &told,
+                              "a GA94 unit is PROCESS_EM PROCESS_CC ADDITIONAL EM_DATA Z, and VALID TYPE DATA DATA for "
+                              "each construct");
     if (is_accepted(taken))
         taken = take_bytes(o, &in);
     if (is_accepted(taken)) {
         uint8_t area[CAPTIONS_AREA_BYTES];
-        captions_written written = captions_ga94_replace(in.at, in.len, told.process_em_data_flag,
-                                                         told.process_cc_data_flag, told.additional_data_flag,
-                                                         told.em_data, told.n, told.z, told.records, area, sizeof area);
-        taken = hand_out(o, out, area, written);
+        taken = hand_out(o, out, area,
+                         captions_ga94_replace(in.at, in.len, told.process_em_data_flag, told.process_cc_data_flag,
+                                               told.additional_data_flag, told.em_data, told.n, told.z, told.records,
+                                               area, sizeof area));
     }
-    release(&unit);
     release(&in);
     return taken;
 }
 
 /* ---- Converting ---- */
 
+static outcome put_converted(const options *o, const words *in, bytes *out)
+{
+    uint8_t field[CAPTIONS_PES_BYTES];
+    captions_written written = captions_pes_convert(in->at, in->len, field, sizeof field);
+    written.refusal = with_half(in, written.refusal);
+    return hand_out(o, out, field, written);
+}
+
 outcome convert_to_pes(const options *o, bytes *out)
 {
-    words in = { 0 };
-    outcome taken = take_words(o, &in);
-    if (is_accepted(taken)) {
-        uint8_t field[CAPTIONS_PES_BYTES];
-        captions_written written = captions_pes_convert(in.at, in.len, field, sizeof field);
-        written.refusal = with_half(&in, written.refusal);
-        taken = hand_out(o, out, field, written);
-    }
-    free(in.at);
-    return taken;
+    return with_words(o, put_converted, out);
 }
