@@ -2,7 +2,7 @@
 -- Assumes nothing.
 use Prim.Native.Nat.{ℕ, _+_, _*_, _≤_, _<_}
 use native.Mathlib.Omega.{arith}
-use mathlib.Core.Path.{_≡_, _∙_, ap, sym}
+use mathlib.Core.Path.{_≡_, _∙_, sym}
 use mathlib.Core.Bool.{Bool, true, false}
 use mathlib.Core.List.{List}
 use borrow.Author.Needs.{needs}
@@ -15,12 +15,12 @@ use Rattle.refusal.specs.declared.Reason.the-variants.{Unfixed}
 use Rattle.refusal.specs.declared.Fixed.the-variants.{Identifier}
 use Rattle.refusal.specs.declared.Item.the-variants.{Bit}
 use Rattle.refusal.specs.Checks.{refuseIf}
-use Rattle.refusal.proofs.Checks.{andThen-last}
 use Rattle.bits.specs.Bits.{bitsOf, field}
 use Rattle.bits.proofs.Fields.{field-whole}
 use Rattle.kind.specs.Ours.{groupType}
 use Rattle.scte20.specs.Reading.{headVerdict}
-use Rattle.scte20.proofs.Bytewise.{missing-some, missing-none, flag-byte}
+use Rattle.scte20.proofs.Bytewise.{missing-some, missing-none}
+use Rattle.scte20_reader.proofs.Heads.{head-decided}
 use Rattle.scte20_reader.proofs.judge_head.Statement.{statement}
 use Rattle.scte20_reader.proofs.judge_head.Tie as tie
 
@@ -80,25 +80,11 @@ short c =
 -- both bytes are there, and whether the second is the type of a data group decides
 decided : (c : tie.After-group-type) (t : Bool) → let s = bodyOf (c .before .before .before .before .before .before .before) in
     groupType (getD s 1 0) ≡ t → refuseIf t (Unfixed Identifier) (Bit 8) ≡ headVerdict s
-unfolding headVerdict
 decided c t e =
     let three = c .before .before .before in
     let one = three .before .before .before in
     let known = one .before in
-    let s = bodyOf known in
-    let inside : 0 < length s = omega arith in
-    let begins : 0 + 8 ≤ 8 * length s = omega arith in
-    let goes-on : 8 + 7 ≤ 8 * length s = omega arith in
-    let has-flag : 15 + 1 ≤ 8 * length s = omega arith in
-    simp (
-      le-ltb 16384 (length s) (one .if1 .left),
-      missing-none s 0 8 begins,
-      eq-eqb (field (bitsOf s) 0 8) 3 (code known inside ∙ three .if3 .left),
-      missing-none s 8 7 goes-on,
-      missing-none s 15 1 has-flag,
-      ap groupType (flag-byte s (bytes known) (omega arith)) ∙ e,
-      andThen-last,
-    )
+    head-decided (bodyOf known) (bytes known) (one .if1 .left) (omega arith) (three .if3 .left) t e
 
 group : tie.Need-returns-5
 group c = decided (c .before) true (sym (c .before .group-type .ensures) ∙ c .if5 .taken)
