@@ -33,9 +33,8 @@ pub fn write_from(v: Numbers, records: &[u8; LENT_RECORDS], out: &mut [u8]) -> W
 pub fn replace_from(s: &[u8], v: Numbers, records: &[u8; LENT_RECORDS], out: &mut [u8]) -> Written
     ensures { λ r. ⌜ Replaces Ga94 (now (s .entry)) (unitIn v (now (records .entry))) (now (out .entry)) r (now (out .exit)) ⌝ }
 {
-    let mut kept = [0; LENT_RECORDS];
-    let old = picture::ga94_read_old(s, &mut kept);
-    let refusal = old.head.refusal;
+    let old = picture::ga94_read_old(s);
+    let refusal = old.refusal;
     if refusal.number != 0 {
         lists::known(records);
         return Written { refusal, len: 0 };

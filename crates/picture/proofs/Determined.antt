@@ -3,10 +3,12 @@
 use Prim.Native.Nat.{ℕ}
 use mathlib.Core.Path.{_≡_, _∙_, ap₂, sym}
 use mathlib.Core.List.{List}
+use Rattle.refusal.specs.declared.Refusal.{Refusal}
 use Rattle.refusal.specs.declared.Written.{Written}
 use Rattle.refusal.proofs.Outputs.{wrote-determined}
 use Rattle.kind.specs.declared.Kind.{Kind}
 use Rattle.picture.specs.declared.Spot.{Spot}
+use Rattle.picture.specs.declared.Old.{Old}
 use Rattle.picture.specs.Kinds.{CaptionUnit}
 use Rattle.picture.specs.Reading.{Answer, Reads}
 use Rattle.picture.specs.Lent.{Head, ReadsInto}
@@ -21,13 +23,9 @@ module _ (k : Kind) where
       → ReadsInto k s lent a exit → ReadsInto k s lent b end → (a ≡ b) × (exit ≡ end)
   read-into-determined s lent a exit b end p q = (p .answer ∙ sym (q .answer), p .left ∙ sym (q .left))
 
-  pub read-old-determined : (s lent : List ℕ) (a : Head k) (at : Spot) (exit : List ℕ) (b : Head k) (there : Spot) (end : List ℕ)
-      → ReadsOld k s lent a at exit → ReadsOld k s lent b there end → (a ≡ b) × (at ≡ there) × (exit ≡ end)
-  read-old-determined s lent a at exit b there end p q = (
-    p .head .answer ∙ sym (q .head .answer),
-    p .place ∙ sym (q .place),
-    p .head .left ∙ sym (q .head .left),
-  )
+  pub read-old-determined : (s : List ℕ) (a b : Old) → ReadsOld k s a → ReadsOld k s b → a ≡ b
+  read-old-determined s a b p q =
+      ap₂ (λ (refusal : Refusal) (spot : Spot). record { refusal = refusal; spot = spot }) (p .refusal ∙ sym (q .refusal)) (p .place ∙ sym (q .place))
 
   pub write-determined : (u : CaptionUnit k) (out : List ℕ) (a : Written) (exit : List ℕ) (b : Written) (end : List ℕ)
       → Writes k u out a exit → Writes k u out b end → (a ≡ b) × (exit ≡ end)

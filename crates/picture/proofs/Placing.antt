@@ -10,7 +10,8 @@ use Rattle.lists.specs.Part.{part}
 use Rattle.lists.proofs.Part.{length-part}
 use Rattle.refusal.specs.declared.Reason.{Reason}
 use Rattle.refusal.specs.declared.Item.{Item}
-use Rattle.refusal.specs.declared.Verdict.the-variants.{Refused}
+use Rattle.refusal.specs.declared.Verdict.{Verdict}
+use Rattle.refusal.specs.declared.Verdict.the-variants.{Accepted, Refused}
 use Rattle.units.specs.declared.Found.the-variants as found
 use Rattle.units.proofs.Splits.{length-around}
 use Rattle.units.proofs.Spans.{Alone, found-at}
@@ -18,7 +19,7 @@ use Rattle.kind.specs.declared.Kind.{Kind}
 use Rattle.kind.specs.Ours.{ours}
 use Rattle.picture.specs.Kinds.{contentVerdict}
 use Rattle.picture.specs.Reading.{captionsIn}
-use Rattle.picture.specs.Inside.{Near}
+use Rattle.picture.specs.Inside.{Near, NearVerdict}
 use Rattle.picture.proofs.Contents.{content-placed}
 use Rattle.picture.proofs.Areas.{alone-foreign}
 
@@ -40,3 +41,7 @@ module _ (k : Kind) where
         let bit = content-placed k (part (unit + 4) end s) mine body-short reason item refused in
         let within : bit .bit ≤ 1048576 = omega (arith, bit .within, body-short) in
         subst Near (sym (bit .here)) within
+
+    pub verdict-near : Bytes s → (v : Verdict) → v ≡ contentVerdict k (part (unit + 4) end s) → NearVerdict v
+    verdict-near bytes Accepted judged = tt
+    verdict-near bytes (Refused reason item) judged = body-near bytes reason item (sym judged)

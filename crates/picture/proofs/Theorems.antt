@@ -45,6 +45,7 @@ use Rattle.picture.specs.declared.Spot.{Spot}
 use Rattle.picture.specs.Value.{Area, uncaptioned, captioned, bodies, layout, Foreign, Legal, replaced, foreignOf}
 use Rattle.picture.specs.Reading.{areaVerdict, Answer, shown, Reads, Alike}
 use Rattle.picture.specs.Lent.{Head, headOf, ReadsInto}
+use Rattle.picture.specs.declared.Old.{Old}
 use Rattle.picture.specs.Inside.{ReadsOld}
 use Rattle.picture.specs.Writing.{unitBytes, Writes, replaceVerdict, Replaces}
 use Rattle.picture.specs.Places.{areaBit, InUnit}
@@ -504,9 +505,7 @@ pub read-into-determined : (k : Kind) (s lent : List ℕ) (a : Head k) (exit : L
 read-into-determined = determined.read-into-determined
 
 -- reading an area that is to be changed,
-pub read-old-determined : (k : Kind) (s lent : List ℕ) (a : Head k) (at : Spot) (exit : List ℕ)
-    → (b : Head k) (there : Spot) (end : List ℕ) → ReadsOld k s lent a at exit → ReadsOld k s lent b there end
-    → (a ≡ b) × (at ≡ there) × (exit ≡ end)
+pub read-old-determined : (k : Kind) (s : List ℕ) (a b : Old) → ReadsOld k s a → ReadsOld k s b → a ≡ b
 read-old-determined = determined.read-old-determined
 
 -- writing a unit,

@@ -3,17 +3,21 @@ use Prim.Native.Nat.{ℕ, _≤_}
 use mathlib.Core.Path.{_≡_}
 use mathlib.Core.List.{List}
 use lib.ListN.{length}
+use Rattle.lists.specs.Bytes.{Bytes}
 use Rattle.refusal.specs.declared.Written.{Written}
 use Rattle.refusal.specs.declared.Item.{Item}
 use Rattle.refusal.specs.declared.Item.the-variants.{Whole, Bit, Body, Word, Byte, Length}
+use Rattle.refusal.specs.declared.Verdict.{Verdict}
+use Rattle.refusal.specs.declared.Verdict.the-variants.{Accepted, Refused}
+use Rattle.refusal.specs.Numbers.{refusalOf}
 use Rattle.refusal.specs.Answers.{Wrote}
 use Rattle.kind.specs.declared.Kind.{Kind}
 use Rattle.units.specs.declared.Found.{Found}
 use Rattle.units.specs.declared.Found.the-variants.{NotUnits, Nowhere, At, Many}
 use Rattle.picture.specs.declared.Spot.{Spot}
+use Rattle.picture.specs.declared.Old.{Old}
 use Rattle.picture.specs.Kinds.{CaptionUnit, held, Typed, writeVerdict}
-use Rattle.picture.specs.Reading.{captionsIn}
-use Rattle.picture.specs.Lent.{Head, ReadsInto}
+use Rattle.picture.specs.Reading.{captionsIn, areaVerdict}
 use Rattle.around.specs.Around.{exchanged}
 use Rattle.picture.specs.Writing.{unitBytes}
 
@@ -33,11 +37,15 @@ spotOf Nowhere len = record { start = len; end = len }
 spotOf (At unit end) len = record { start = unit; end = end }
 spotOf (Many n) len = record { start = len; end = len }
 
--- the promise of reading an area in which a unit is to be replaced: that of reading into a lent array, and the place of
--- the new unit
-pub record ReadsOld (k : Kind) (s lent : List ℕ) (r : Head k) (spot : Spot) (exit : List ℕ) : Type 0 where
-  pub head : ReadsInto k s lent r exit
-  pub place : spot ≡ spotOf (captionsIn k s) (length s)
+abbrev pub NearVerdict : Verdict → Type 0
+NearVerdict Accepted = Unit {0}
+NearVerdict (Refused reason item) = Near item
+
+-- the promise of reading an area in which a unit is to be replaced: the refusal, and the place of the new unit
+pub record ReadsOld (k : Kind) (s : List ℕ) (r : Old) : Type 0 where
+  pub bytes : Bytes s
+  pub refusal : r .refusal ≡ refusalOf (areaVerdict k s)
+  pub place : r .spot ≡ spotOf (captionsIn k s) (length s)
 
 -- what `exchange` answers and leaves: the new area is judged as a whole
 pub record Exchanges (k : Kind) (s : List ℕ) (start end : ℕ) (u : CaptionUnit k) (out : List ℕ) (r : Written)

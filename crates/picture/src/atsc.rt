@@ -1,13 +1,16 @@
 // Reading an area for GA94.
 ghost use mathlib.Core.Path.{_≡_};
+ghost use Prim.Native.Nat.{_+_};
 ghost use mathlib.Core.List.{[]};
+ghost use Rattle.lists.specs.Part.{part};
 ghost use Rattle.kind.specs.declared.Kind.the-variants.{Ga94};
 ghost use Rattle.units.specs.declared.Found.the-variants.{At};
-ghost use Rattle.picture.specs.Reading.{answerOf, captionsIn};
+ghost use Rattle.picture.specs.Reading.{placed, answerOf, captionsIn, foundVerdict};
 ghost use Rattle.picture.specs.Lent.{headOf, ReadsInto, ga94Headed};
+ghost use Rattle.picture.specs.Kinds.{contentVerdict};
 ghost use Rattle.picture.specs.Inside.{ReadsOld};
 use crate::Ga94Head;
-use crate::Ga94Old;
+use crate::Old;
 use crate::places;
 use ga94::LENT_RECORDS;
 use ga94::Numbers;
@@ -26,14 +29,36 @@ pub fn ga94_read_into(s: &[u8], records: &mut [u8; LENT_RECORDS]) -> Ga94Head
     head_of(s, units::scan(s, Kind::Ga94), records)
 }
 
-// Reads an area for one who puts another GA94 unit into it: the old unit's numbers as `ga94_read_into` answers them, and which bytes give way.
-pub fn ga94_read_old(s: &[u8], records: &mut [u8; LENT_RECORDS]) -> Ga94Old
-    ensures { λ r. ⌜ ReadsOld Ga94 (now (s .entry)) (now (records .entry)) (ga94Headed (r .head)) (r .spot) (now (records .exit)) ⌝ }
+// Reads an area for one who puts another GA94 unit into it: the refusal that `ga94_read_into` answers, and which bytes give way.
+pub fn ga94_read_old(s: &[u8]) -> Old
+    ensures { λ r. ⌜ ReadsOld Ga94 (now (s .entry)) r ⌝ }
 {
     let found = units::scan(s, Kind::Ga94);
-    let head = head_of(s, found, records);
+    let refusal = refusal::told(verdict_of(s, found));
     let spot = places::spot_of(found, s.len());
-    Ga94Old { head, spot }
+    Old { refusal, spot }
+}
+
+// The verdict, from what the search found.
+fn verdict_of(s: &[u8], found: Found) -> Verdict
+    requires { ⌜ captionsIn Ga94 (now s) ≡ found ⌝ }
+    ensures { λ r. ⌜ r ≡ foundVerdict Ga94 found (now (s .entry)) ⌝ }
+{
+    match found {
+        Found::NotUnits(reason, item) => Verdict::Refused(reason, item),
+        Found::Nowhere => Verdict::Accepted,
+        Found::At { unit, end } => judge_unit(s, unit, end),
+        Found::Many(_) => Verdict::Refused(Reason::SecondUnit, Item::Whole),
+    }
+}
+
+// Judges the only GA94 unit, which stands from byte `unit` up to `end`.
+fn judge_unit(s: &[u8], unit: usize, end: usize) -> Verdict
+    requires { ⌜ captionsIn Ga94 (now s) ≡ At unit end ⌝ }
+    ensures { λ r. ⌜ r ≡ placed unit (contentVerdict Ga94 (part (unit + 4) end (now (s .entry)))) ⌝ }
+{
+    let body = unit + START_BYTES;
+    places::placed_verdict(unit, ga94_reader::judge(&s[body..end]))
 }
 
 // The answer, from what the search for GA94 units found.

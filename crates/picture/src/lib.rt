@@ -42,14 +42,8 @@ pub struct Spot {
     pub end: usize,
 }
 
-// What `read_old` answers: what `read_into` does, and where a new unit goes.
+// What `read_old` and `ga94_read_old` answer: the area's refusal, and where a new unit goes.
 pub struct Old {
-    pub head: Head,
-    pub spot: Spot,
-}
-
-// What `ga94_read_old` answers.
-pub struct Ga94Old {
-    pub head: Ga94Head,
+    pub refusal: Refusal,
     pub spot: Spot,
 }

@@ -1,10 +1,11 @@
 // Where things stand in an area, for each kind of caption unit.
 ghost use mathlib.Core.Path.{_≡_};
 ghost use Prim.Native.Nat.{_≤_};
-ghost use Rattle.picture.specs.Reading.{placedItem};
-ghost use Rattle.picture.specs.Inside.{Near, spotOf};
+ghost use Rattle.picture.specs.Reading.{placed as placedOf, placedItem};
+ghost use Rattle.picture.specs.Inside.{Near, NearVerdict, spotOf};
 use crate::Spot;
 use refusal::Item;
+use refusal::Verdict;
 use units::Found;
 use units::START_BYTES;
 
@@ -21,6 +22,18 @@ pub(crate) fn spot_of(found: Found, len: usize) -> Spot
         Found::Nowhere => behind,
         Found::NotUnits(_, _) => behind,
         Found::Many(_) => behind,
+    }
+}
+
+// The verdict on the body of the unit at byte `unit`, as one on the area.
+pub(crate) fn placed_verdict(unit: usize, verdict: Verdict) -> Verdict
+    requires { ⌜ unit ≤ 16384 ⌝ }
+    requires { ⌜ NearVerdict verdict ⌝ }
+    ensures { λ r. ⌜ r ≡ placedOf unit verdict ⌝ }
+{
+    match verdict {
+        Verdict::Accepted => verdict,
+        Verdict::Refused(reason, item) => Verdict::Refused(reason, placed(unit, item)),
     }
 }
 

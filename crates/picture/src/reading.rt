@@ -1,10 +1,13 @@
 // Reading an area for SCTE 20.
 ghost use mathlib.Core.Path.{_≡_};
+ghost use Prim.Native.Nat.{_+_};
 ghost use mathlib.Core.List.{[]};
+ghost use Rattle.lists.specs.Part.{part};
 ghost use Rattle.kind.specs.declared.Kind.the-variants.{Scte20};
 ghost use Rattle.units.specs.declared.Found.the-variants.{At};
-ghost use Rattle.picture.specs.Reading.{answerOf, captionsIn, Reads};
+ghost use Rattle.picture.specs.Reading.{placed, answerOf, captionsIn, foundVerdict, Reads};
 ghost use Rattle.picture.specs.Lent.{headOf, ReadsInto, answered, headed};
+ghost use Rattle.picture.specs.Kinds.{contentVerdict};
 ghost use Rattle.picture.specs.Inside.{ReadsOld};
 use crate::Answer;
 use crate::Head;
@@ -42,14 +45,36 @@ pub fn read_into(s: &[u8], records: &mut [u8; LENT_RECORDS]) -> Head
     head_of(s, units::scan(s, Kind::Scte20), records)
 }
 
-// Reads an area for one who puts another caption unit into it: the old unit's numbers as `read_into` answers them, and which bytes give way.
-pub fn read_old(s: &[u8], records: &mut [u8; LENT_RECORDS]) -> Old
-    ensures { λ r. ⌜ ReadsOld Scte20 (now (s .entry)) (now (records .entry)) (headed (r .head)) (r .spot) (now (records .exit)) ⌝ }
+// Reads an area for one who puts another caption unit into it: the refusal that `read_into` answers, and which bytes give way.
+pub fn read_old(s: &[u8]) -> Old
+    ensures { λ r. ⌜ ReadsOld Scte20 (now (s .entry)) r ⌝ }
 {
     let found = units::scan(s, Kind::Scte20);
-    let head = head_of(s, found, records);
+    let refusal = refusal::told(verdict_of(s, found));
     let spot = places::spot_of(found, s.len());
-    Old { head, spot }
+    Old { refusal, spot }
+}
+
+// The verdict, from what the search found.
+fn verdict_of(s: &[u8], found: Found) -> Verdict
+    requires { ⌜ captionsIn Scte20 (now s) ≡ found ⌝ }
+    ensures { λ r. ⌜ r ≡ foundVerdict Scte20 found (now (s .entry)) ⌝ }
+{
+    match found {
+        Found::NotUnits(reason, item) => Verdict::Refused(reason, item),
+        Found::Nowhere => Verdict::Accepted,
+        Found::At { unit, end } => judge_unit(s, unit, end),
+        Found::Many(_) => Verdict::Refused(Reason::SecondUnit, Item::Whole),
+    }
+}
+
+// Judges the only caption unit, which stands from byte `unit` up to `end`.
+fn judge_unit(s: &[u8], unit: usize, end: usize) -> Verdict
+    requires { ⌜ captionsIn Scte20 (now s) ≡ At unit end ⌝ }
+    ensures { λ r. ⌜ r ≡ placed unit (contentVerdict Scte20 (part (unit + 4) end (now (s .entry)))) ⌝ }
+{
+    let body = unit + START_BYTES;
+    places::placed_verdict(unit, scte20_reader::judge(&s[body..end]))
 }
 
 // The answer, from what the search for caption units found.

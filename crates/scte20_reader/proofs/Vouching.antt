@@ -35,7 +35,6 @@ module _ (body found : List ℕ) (h : Bytes body) (three : 2 < length body) wher
       let inside : 21 + 26 * n < 8 * length body = omega arith in
       let end : 21 + 26 * n ≤ 25 + 26 * n = omega arith in
       record {
-        bytes = h;
         accepted =
             flagged-verdict body (sym (head-decided body h short (omega arith) begins false no-group)) n counted flagged
             ∙ accepted-first _ (sym (missing-none body 16 5 count-there)) refl

@@ -4,7 +4,6 @@ use mathlib.Core.Path.{_≡_}
 use mathlib.Core.List.{List, [], _∷_}
 use lib.Dec.{eqb}
 use lib.ListN.{length, getD}
-use Rattle.lists.specs.Bytes.{Bytes}
 use Rattle.refusal.specs.declared.Verdict.the-variants.{Accepted}
 use Rattle.bits.specs.Bits.{bitsOf}
 use Rattle.bits.specs.Peek.{peekOf, firstSet}
@@ -49,7 +48,6 @@ pub record Blank (body : List ℕ) (from : ℕ) : Type 0 where
 
 -- what a yes vouches for: a body with flag 1 is accepted, and its constructs are gathered
 pub record Gathers (body found : List ℕ) : Type 0 where
-  pub bytes : Bytes body
   pub accepted : contentVerdict body ≡ Accepted
   pub flagged : flagIn (bitsOf body) ≡ 1
   pub long : (25 + 26 * countIn (bitsOf body) + 7) / 8 ≤ length body

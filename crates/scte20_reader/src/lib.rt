@@ -5,7 +5,6 @@ ghost use mathlib.Core.Path.{_≡_};
 ghost use Prim.Native.Nat.{_+_, _-_, _*_, _≤_, _<_};
 ghost use mathlib.Core.Bool.{true};
 ghost use lib.ListN.{length, set};
-ghost use Rattle.lists.specs.Bytes.{Bytes};
 ghost use Rattle.lists.specs.Room.{over};
 ghost use Rattle.refusal.specs.declared.Verdict.the-variants.{Accepted};
 ghost use Rattle.refusal.specs.Checks.{andThen};
@@ -50,7 +49,6 @@ pub fn read_into(body: &[u8], records: &mut [u8; LENT_RECORDS]) -> Head
 
 // The verdict alone, for one who puts another unit into the place.
 pub fn judge(body: &[u8]) -> Verdict
-    ensures { λ _. ⌜ Bytes (now (body .entry)) ⌝ }
     ensures { λ r. ⌜ r ≡ contentVerdict (now (body .entry)) ⌝ }
 {
     let mut found = [0; PLACES];
