@@ -7,7 +7,7 @@ ghost use lib.ListN.{length};
 ghost use Rattle.kind.specs.Ours.{ours};
 ghost use Rattle.units.specs.Layout.{started};
 ghost use Rattle.units.specs.Split.{frontVerdict, nextOf, scanOf};
-ghost use Rattle.units.specs.Inside.{Notes, Passes, Quiet, Tells};
+ghost use Rattle.units.specs.Inside.{Bounds, Goes, Notes, Passes, Quiet, Stops, Tells};
 use kind::Kind;
 use refusal::Item;
 use refusal::Reason;
@@ -20,8 +20,10 @@ pub const START_BYTES: usize = 4;
 // user_data_start_code, what follows 00 00 01
 pub const USER_DATA: u8 = 0xB2;
 
-// How many places the search looks at in one step, where it can.
+// How many places the search looks at in one step, where it can, and how many where all bytes are 0.
 const BLOCK: usize = 64;
+
+const ZEROS: usize = 256;
 
 // What the search for the units of one kind found.
 pub enum Found {
@@ -41,12 +43,6 @@ struct Seen {
     end: usize,
 }
 
-// How many places the search passes, and where it next looks at a block.
-struct Ahead {
-    passed: usize,
-    look: usize,
-}
-
 // Judges an area's start codes and looks for the units of one kind.
 pub fn scan(s: &[u8], kind: Kind) -> Found
     ensures { λ r. ⌜ r ≡ scanOf (ours kind) (now (s .entry)) ⌝ }
@@ -61,11 +57,8 @@ pub fn scan(s: &[u8], kind: Kind) -> Found
         end: 0,
     };
     let mut at = 0;
-    'units: while at < s.len() {
+    'units: while at + START_BYTES <= s.len() {
         // 00 00 01 stands at `at`.
-        if s.len() - at < START_BYTES {
-            return Found::NotUnits(Reason::StartCode, Item::Whole);
-        }
         if s[at + 3] != USER_DATA {
             return Found::NotUnits(Reason::StartCode, Item::Whole);
         }
@@ -73,15 +66,15 @@ pub fn scan(s: &[u8], kind: Kind) -> Found
         let mut next = s.len();
         let mut i = body;
         // A short unit has no block to look at.
-        let mut look = body + 16;
-        while i + 2 < s.len() {
-            let ahead = pace(s, i, look);
-            if ahead.passed == 0 {
+        let mut stop = bound(s, body, 16);
+        while i < stop {
+            i = by_bytes(s, i, stop);
+            if i < stop {
                 next = i;
                 break;
             }
-            i += ahead.passed;
-            look = ahead.look;
+            i = by_blocks(s, i);
+            stop = bound(s, i, BLOCK);
         }
         let unit = at;
         at = next;
@@ -89,6 +82,10 @@ pub fn scan(s: &[u8], kind: Kind) -> Found
             continue 'units;
         }
         seen = noted(seen, unit, next);
+    }
+    if at < s.len() {
+        // 00 00 01 at the very end.
+        return Found::NotUnits(Reason::StartCode, Item::Whole);
     }
     found_in(seen)
 }
@@ -155,34 +152,54 @@ fn found_in(seen: Seen) -> Found
     Found::Many(seen.count)
 }
 
-// How far the search goes from i on, and where it next looks at a block. Near a start a block is looked at in vain, so that after such a look the
-// search goes by bytes for as long as a block.
-fn pace(s: &[u8], i: usize, look: usize) -> Ahead
-    requires { ⌜ i + 2 < length (now s) ⌝ }
-    ensures { λ r. ⌜ Passes (now (s .entry)) i (r .passed) ⌝ }
+// Where the search that goes by bytes from i on stops to look at blocks: `span` places on, or behind the last place at which 00 00 01 has room. Near a
+// start a block is looked at in vain, so that after such a look the search goes by bytes for as long as a block.
+fn bound(s: &[u8], i: usize, span: usize) -> usize
+    requires { ⌜ 2 ≤ length (now s) ⌝ }
+    requires { ⌜ i ≤ length (now s) ⌝ }
+    requires { ⌜ 0 < span ⌝ }
+    requires { ⌜ span ≤ 64 ⌝ }
+    ensures { λ r. ⌜ Bounds (now (s .entry)) i r ⌝ }
 {
-    if i < look {
-        return Ahead {
-            passed: passable(s, i),
-            look,
-        };
+    if s.len() - i < span + 2 {
+        return s.len() - 2;
     }
-    if s.len() - i < BLOCK + 2 {
-        return Ahead {
-            passed: passable(s, i),
-            look: s.len(),
-        };
+    i + span
+}
+
+// Goes from place to place up to `stop`, or up to a 00 00 01 before it.
+fn by_bytes(s: &[u8], from: usize, stop: usize) -> usize
+    requires { ⌜ from ≤ length (now s) ⌝ }
+    requires { ⌜ stop + 2 ≤ length (now s) ⌝ }
+    ensures { λ r. ⌜ Stops (now (s .entry)) from stop r ⌝ }
+{
+    let mut i = from;
+    while i < stop {
+        let passed = passable(s, i);
+        if passed == 0 {
+            return i;
+        }
+        i += passed;
     }
-    if is_quiet(s, i) {
-        return Ahead {
-            passed: BLOCK,
-            look,
-        };
+    i
+}
+
+// Goes from block to block for as long as they show that no 00 00 01 begins there.
+fn by_blocks(s: &[u8], from: usize) -> usize
+    requires { ⌜ from ≤ length (now s) ⌝ }
+    ensures { λ r. ⌜ Goes (now (s .entry)) from r ⌝ }
+{
+    let mut i = from;
+    while BLOCK + 2 <= s.len() - i {
+        if is_blank(s, i) {
+            i += ZEROS;
+        } else if is_quiet(s, i) {
+            i += BLOCK;
+        } else {
+            return i;
+        }
     }
-    Ahead {
-        passed: passable(s, i),
-        look: i + BLOCK,
-    }
+    i
 }
 
 // How many places from i on can be passed by what stands there, since no 00 00 01 begins at any of them: none where one begins at i.
@@ -209,7 +226,7 @@ fn passable(s: &[u8], i: usize) -> usize
 // early is done by wide registers.
 fn is_quiet(s: &[u8], i: usize) -> bool
     requires { ⌜ i + 66 ≤ length (now s) ⌝ }
-    ensures { λ r. ⌜ Quiet (now (s .entry)) i r ⌝ }
+    ensures { λ r. ⌜ Quiet 64 (now (s .entry)) i r ⌝ }
 {
     let mut clean = true;
     let mut j = 0;
@@ -224,22 +241,41 @@ fn is_quiet(s: &[u8], i: usize) -> bool
     clean
 }
 
+// Whether, at the 256 places from i on, no 00 00 01 begins, since each third byte is 0.
+fn is_blank(s: &[u8], i: usize) -> bool
+    requires { ⌜ i + 2 < length (now s) ⌝ }
+    ensures { λ r. ⌜ Quiet 256 (now (s .entry)) i r ⌝ }
+{
+    if s[i + 2] != 0 {
+        return false;
+    }
+    if s.len() - i < ZEROS + 2 {
+        return false;
+    }
+    let mut any = 0;
+    let mut j = 0;
+    while j < ZEROS {
+        any = any | s[i + j + 2];
+        j += 1;
+    }
+    any == 0
+}
+
 // The first 00 00 01 from index `from` on, or the end: where the unit ends in whose body `from` lies.
 pub fn next(s: &[u8], from: usize) -> usize
     ensures { λ r. ⌜ r ≡ nextOf (now (s .entry)) from ⌝ }
 {
     let mut i = from;
-    let mut look = from;
     while i < s.len() {
         if s.len() - i < 3 {
             return s.len();
         }
-        let ahead = pace(s, i, look);
-        if ahead.passed == 0 {
+        let stop = bound(s, i, BLOCK);
+        i = by_bytes(s, i, stop);
+        if i < stop {
             return i;
         }
-        i += ahead.passed;
-        look = ahead.look;
+        i = by_blocks(s, i);
     }
     i
 }

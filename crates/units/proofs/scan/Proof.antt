@@ -1,5 +1,5 @@
--- `units::scan` meets its contract. The outer loop's invariant: `Going`, the walk stands at `at`. The inner loop's: the next 00 00 01 from i on is the
--- next from the body's first byte on.
+-- `units::scan` meets its contract. The outer loop's invariant: `Going`, the walk stands at `at`. The inner loop's: the search has gone on from
+-- the body's first byte to i.
 -- Assumes nothing.
 use Prim.Native.Nat.{ℕ, _+_, _-_, _≤_, _<_}
 use native.Mathlib.Omega.{arith}
@@ -12,17 +12,18 @@ use denote.Ref.{now}
 use lib.ListN.{length, List·getD-eq-default}
 use Rattle.kind.specs.Ours.{ours}
 use Rattle.units.specs.Split.{nextOf}
-use Rattle.units.proofs.Reach.{next-here, next-short}
+use Rattle.units.specs.Inside.{Bounds, Goes}
+use Rattle.units.proofs.Reach.{next-here, next-short, goes-none, goes-on}
 use Rattle.units.proofs.Steps.{next-within}
 use Rattle.units.proofs.Walk.{Going, front-refused, begins, room, refused, ended, passed-foreign, passed-ours}
 use Rattle.units.proofs.scan.Statement.{statement}
 use Rattle.units.proofs.scan.Tie as tie
 
 abbrev Inv-loop : tie.InvT-loop
-Inv-loop s kind seen at body next₀ i₀ look₀ next i look = (i ≤ length s) × (next ≡ length s) × (nextOf s body ≡ nextOf s i)
+Inv-loop s kind seen at body next₀ i₀ stop₀ next i stop = Goes s body i × (next ≡ length s) × Bounds s i stop
 
 abbrev μ-loop : tie.MeasureT-loop
-μ-loop s kind seen at body next₀ i₀ look₀ next i look = length s - i
+μ-loop s kind seen at body next₀ i₀ stop₀ next i stop = length s - i
 
 abbrev Inv-units : tie.InvT-units
 Inv-units s kind seen₀ at₀ seen at = Going (ours kind) s seen at
@@ -47,27 +48,21 @@ module _ (c : tie.At-units Inv-loop μ-loop Inv-units μ-units) where
   abbrev area : List ℕ
   area = now (c .before .before .before .before .before .args .s)
 
-cut-short : tie.Need-returns-2 Inv-loop μ-loop Inv-units μ-units
-cut-short c =
-    let walk = c .before .before in
-    let past : length (area walk) ≤ walk .units .at + 3 = omega arith in
-    sym (refused (walk .units .inv) (c .before .units-test .taken) (λ e. omega (arith, List·getD-eq-default (area walk) 0 past)))
-
-another-code : tie.Need-returns-3 Inv-loop μ-loop Inv-units μ-units
+another-code : tie.Need-returns-2 Inv-loop μ-loop Inv-units μ-units
 another-code c =
-    let turn = c .before .before .before in
-    let walk = turn .before in
-    sym (refused (walk .units .inv) (turn .units-test .taken) (c .if2 .taken))
+    let walk = c .before .before .before in
+    sym (refused (walk .units .inv) (omega arith) (c .if1 .taken))
 
 -- the search in the body
 loop-holds : tie.Need-loop-holds Inv-loop μ-loop Inv-units μ-units
-loop-holds c = (omega arith, refl, refl)
+loop-holds c = (goes-none _ _ (omega arith), refl, c .bound .ensures)
 
 loop-again : tie.Need-loop-again Inv-loop μ-loop Inv-units μ-units
 loop-again c =
-    let at = c .before .before .before .before .before in
-    let passed = c .before .before .before .pace .ensures in
-    (passed .within, at .loop .inv .1, at .loop .inv .2 ∙ passed .ahead (c .before .if3 .left))
+    let blocks = c .before in
+    let bytes = blocks .before .before in
+    let at = bytes .before .before in
+    (goes-on (at .loop .inv .0) (goes-on (bytes .by-bytes .ensures .goes) (blocks .by-blocks .ensures)), at .loop .inv .1, c .bound2 .ensures)
 
 -- behind it
 module _ (c : tie.Left-loop Inv-loop μ-loop Inv-units μ-units) where
@@ -80,8 +75,8 @@ module _ (c : tie.Left-loop Inv-loop μ-loop Inv-units μ-units) where
       let i = c .before .loop .i in
       let inv = c .before .loop .inv in
       ⊎-elim
-      (λ w. w .1 ∙ inv .1 ∙ sym (inv .2 ∙ next-short s i (inv .0) (w .0 .left)))
-      (λ w. w .4 ∙ sym (inv .2 ∙ next-here s i (w .1 .ensures .here (w .3 .taken))))
+      (λ w. w .1 ∙ inv .1 ∙ sym (inv .0 .ahead ∙ next-short s i (inv .0 .within) (inv .2 .1 (w .0 .left))))
+      (λ w. w .3 ∙ sym (inv .0 .ahead ∙ w .1 .ensures .goes .ahead ∙ next-here s (w .1 .result) (w .1 .ensures .here (w .2 .taken))))
       (c .loop-test .came)
 
   fits : walk .units .at + 3 < length (area walk)
@@ -93,8 +88,8 @@ module _ (c : tie.Left-loop Inv-loop μ-loop Inv-units μ-units) where
 units-again : tie.Need-units-again Inv-loop μ-loop Inv-units μ-units
 units-again c =
     let left = c .before .before .before .before in
-    passed-foreign (walk left .units .inv) (fits left) (left .before .before .if2 .left) (left .loop-test .next) (stands left)
-    (sym (c .before .ours .ensures) ∙ not-true _ (c .if4 .taken))
+    passed-foreign (walk left .units .inv) (fits left) (left .before .before .before .if1 .left) (left .loop-test .next) (stands left)
+    (sym (c .before .ours .ensures) ∙ not-true _ (c .if3 .taken))
 
 noted-requires : tie.Need-noted-requires Inv-loop μ-loop Inv-units μ-units
 noted-requires c κs =
@@ -104,15 +99,21 @@ noted-requires c κs =
 units-again-2 : tie.Need-units-again-2 Inv-loop μ-loop Inv-units μ-units
 units-again-2 c =
     let left = c .before .before .before .before .before in
-    passed-ours (walk left .units .inv) (fits left) (left .before .before .if2 .left) (left .loop-test .next) (stands left)
+    passed-ours (walk left .units .inv) (fits left) (left .before .before .before .if1 .left) (left .loop-test .next) (stands left)
     (c .noted .result)
-    (sym (c .before .before .ours .ensures) ∙ not-false _ (c .before .if4 .left))
+    (sym (c .before .before .ours .ensures) ∙ not-false _ (c .before .if3 .left))
     (c .noted .ensures)
+
+cut-short : tie.Need-returns-3 Inv-loop μ-loop Inv-units μ-units
+cut-short c =
+    let walk = c .before .before in
+    let past : length (area walk) ≤ walk .units .at + 3 = omega arith in
+    sym (refused (walk .units .inv) (c .if4 .taken) (λ e. omega (arith, List·getD-eq-default (area walk) 0 past)))
 
 returns : tie.Need-returns-4 Inv-loop μ-loop Inv-units μ-units
 returns c =
-    let going = c .before .before .units .inv in
-    c .found-in .ensures (going .spans) (going .kept) ∙ sym (ended going (c .before .units-test .left))
+    let going = c .before .before .before .units .inv in
+    c .found-in .ensures (going .spans) (going .kept) ∙ sym (ended going (c .before .if4 .left))
 
 pub scan-spec : {M : Type 1} → statement M
 scan-spec =
@@ -127,18 +128,17 @@ scan-spec =
     front
     (λ c. search needs)
     units-holds
-    (λ c. search needs)
-    cut-short
+    (λ c. omega (arith, c .units .inv .short, c .units .inv .within))
     (λ c. search needs)
     (λ c. search needs)
     another-code
     (λ c. search needs)
-    (λ c. omega arith)
+    (λ c κs. omega arith)
     loop-holds
-    (λ c. search needs)
-    (λ c κs. search needs)
-    (λ c. omega (arith, c .before .before .before .pace .ensures .within))
-    (λ c. omega (arith, c .before .if3 .left, c .before .before .before .pace .ensures .within))
+    (λ c κs. omega arith)
+    (λ c κs. omega arith)
+    (λ c κs. omega arith)
+    (λ c. omega arith)
     loop-again
     (λ c. omega (arith, bounds (c .before)))
     (λ c. omega (arith, bounds (c .before)))
@@ -149,5 +149,6 @@ scan-spec =
     noted-requires
     (λ c. omega (arith, bounds (c .before .before .before .before .before)))
     units-again-2
+    cut-short
     (λ c κs. search needs)
     returns)
