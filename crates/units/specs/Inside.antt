@@ -1,11 +1,15 @@
--- What private functions promise each other: what the search keeps on its way. No theorem for a signer speaks of it.
-use Prim.Native.Nat.{ℕ, _+_, _≤_, _<_}
+-- What functions promise each other: what the search keeps on its way, and the number in which `find` answers. No theorem
+-- for a signer speaks of it.
+use Prim.Native.Nat.{ℕ, zero, suc, _+_, _/_, _%_, _≤_, _<_}
 use mathlib.Core.Path.{_≡_}
 use mathlib.Core.Bool.{Bool, true}
 use mathlib.Core.List.{List, [], _∷_, _++_}
 use lib.ListN.{length, drop}
 use Rattle.refusal.specs.declared.Verdict.the-variants.{Accepted}
+use Rattle.refusal.specs.declared.Reason.the-variants.{TooLong, NoStart, StartCode}
+use Rattle.refusal.specs.declared.Item.the-variants.{Whole}
 use Rattle.units.specs.declared.Found.{Found}
+use Rattle.units.specs.declared.Found.the-variants as found
 use Rattle.units.specs.declared.Seen.{Seen}
 use Rattle.units.specs.Layout.{prefixed}
 use Rattle.units.specs.Split.{Span, foundOf, nextOf}
@@ -47,3 +51,15 @@ Bounds s i r = (r + 2 ≤ length s) × (r ≤ i → length s ≤ i + 2)
 -- says nothing
 abbrev pub Quiet : ℕ → List ℕ → ℕ → Bool → Type 0
 Quiet n s i r = r ≡ true → Goes s i (i + n)
+
+-- what a number of `find` tells: its last octal digit the case, the rest what the case needs
+abbrev pub caseOf : ℕ → ℕ → Found
+caseOf zero rest = found.Nowhere
+caseOf (suc zero) rest = found.At (rest / 65536) (rest % 65536)
+caseOf (suc (suc zero)) rest = found.Many rest
+caseOf (suc (suc (suc zero))) rest = found.NotUnits TooLong Whole
+caseOf (suc (suc (suc (suc zero)))) rest = found.NotUnits NoStart Whole
+caseOf (suc (suc (suc (suc (suc more))))) rest = found.NotUnits StartCode Whole
+
+abbrev pub foundIn : ℕ → Found
+foundIn r = caseOf (r % 8) (r / 8)

@@ -6,12 +6,11 @@ ghost use Prim.Native.Nat.{_+_, _≤_, _<_};
 ghost use lib.ListN.{length};
 ghost use Rattle.kind.specs.Ours.{ours};
 ghost use Rattle.units.specs.Layout.{started};
-ghost use Rattle.units.specs.Split.{frontVerdict, nextOf, scanOf};
-ghost use Rattle.units.specs.Inside.{Bounds, Goes, Notes, Passes, Quiet, Stops, Tells};
+ghost use Rattle.units.specs.Split.{nextOf, opened, scanOf};
+ghost use Rattle.units.specs.Inside.{Bounds, foundIn, Goes, Notes, Passes, Quiet, Stops, Tells};
 use kind::Kind;
 use refusal::Item;
 use refusal::Reason;
-use refusal::Verdict;
 
 pub const MAX_BYTES: usize = 16384;
 
@@ -24,6 +23,19 @@ pub const USER_DATA: u8 = 0xB2;
 const BLOCK: usize = 64;
 
 const ZEROS: usize = 256;
+
+// The cases of `find`'s number: its last octal digit.
+const NOWHERE: u64 = 0;
+
+const AT: u64 = 1;
+
+const MANY: u64 = 2;
+
+const TOO_LONG: u64 = 3;
+
+const NO_START: u64 = 4;
+
+const START_CODE: u64 = 5;
 
 // What the search for the units of one kind found.
 pub enum Found {
@@ -47,9 +59,21 @@ struct Seen {
 pub fn scan(s: &[u8], kind: Kind) -> Found
     ensures { λ r. ⌜ r ≡ scanOf (ours kind) (now (s .entry)) ⌝ }
 {
-    let front = judge_front(s);
-    if let Verdict::Refused(reason, item) = front {
-        return Found::NotUnits(reason, item);
+    found_in(find(s, kind))
+}
+
+// The same in one number, which `found_in` tells: a number is handed back in a register.
+pub fn find(s: &[u8], kind: Kind) -> u64
+    ensures { λ r. ⌜ foundIn r ≡ scanOf (ours kind) (now (s .entry)) ⌝ }
+{
+    if MAX_BYTES < s.len() {
+        return TOO_LONG;
+    }
+    if s.len() == 0 {
+        return NOWHERE;
+    }
+    if !is_opened(s) {
+        return NO_START;
     }
     let mut seen = Seen {
         count: 0,
@@ -60,7 +84,7 @@ pub fn scan(s: &[u8], kind: Kind) -> Found
     'units: while at + START_BYTES <= s.len() {
         // 00 00 01 stands at `at`.
         if s[at + 3] != USER_DATA {
-            return Found::NotUnits(Reason::StartCode, Item::Whole);
+            return START_CODE;
         }
         let body = at + START_BYTES;
         let mut next = s.len();
@@ -85,37 +109,55 @@ pub fn scan(s: &[u8], kind: Kind) -> Found
     }
     if at < s.len() {
         // 00 00 01 at the very end.
-        return Found::NotUnits(Reason::StartCode, Item::Whole);
+        return START_CODE;
     }
-    found_in(seen)
+    told(seen)
 }
 
-// 1 and 2.
-fn judge_front(s: &[u8]) -> Verdict
-    ensures { λ r. ⌜ r ≡ frontVerdict (now (s .entry)) ⌝ }
+// What a number of `find` tells.
+pub fn found_in(r: u64) -> Found
+    ensures { λ f. ⌜ f ≡ foundIn r ⌝ }
 {
-    if MAX_BYTES < s.len() {
-        return Verdict::Refused(Reason::TooLong, Item::Whole);
+    let case = r % 8;
+    let rest = r / 8;
+    if case == AT {
+        return Found::At {
+            unit: (rest / 65536) as usize,
+            end: (rest % 65536) as usize,
+        };
     }
-    if s.len() == 0 {
-        return Verdict::Accepted;
+    if case == NOWHERE {
+        return Found::Nowhere;
     }
+    if case == MANY {
+        return Found::Many(rest as usize);
+    }
+    if case == TOO_LONG {
+        return Found::NotUnits(Reason::TooLong, Item::Whole);
+    }
+    if case == NO_START {
+        return Found::NotUnits(Reason::NoStart, Item::Whole);
+    }
+    Found::NotUnits(Reason::StartCode, Item::Whole)
+}
+
+// Whether 00 00 01 B2 stands at the front.
+fn is_opened(s: &[u8]) -> bool
+    ensures { λ r. ⌜ r ≡ opened (now (s .entry)) ⌝ }
+{
     if s.len() < START_BYTES {
-        return Verdict::Refused(Reason::NoStart, Item::Whole);
+        return false;
     }
     if s[0] != 0 {
-        return Verdict::Refused(Reason::NoStart, Item::Whole);
+        return false;
     }
     if s[1] != 0 {
-        return Verdict::Refused(Reason::NoStart, Item::Whole);
+        return false;
     }
     if s[2] != 1 {
-        return Verdict::Refused(Reason::NoStart, Item::Whole);
+        return false;
     }
-    if s[3] != USER_DATA {
-        return Verdict::Refused(Reason::NoStart, Item::Whole);
-    }
-    Verdict::Accepted
+    s[3] == USER_DATA
 }
 
 // A unit of the kind more. Only the first is kept.
@@ -137,19 +179,19 @@ fn noted(seen: Seen, unit: usize, end: usize) -> Seen
     }
 }
 
-fn found_in(seen: Seen) -> Found
-    ensures { λ r. ⌜ Tells seen r ⌝ }
+fn told(seen: Seen) -> u64
+    requires { ⌜ seen .count ≤ 16384 ⌝ }
+    requires { ⌜ seen .unit ≤ 16384 ⌝ }
+    requires { ⌜ seen .end ≤ 16384 ⌝ }
+    ensures { λ r. ⌜ Tells seen (foundIn r) ⌝ }
 {
     if seen.count == 0 {
-        return Found::Nowhere;
+        return NOWHERE;
     }
     if seen.count == 1 {
-        return Found::At {
-            unit: seen.unit,
-            end: seen.end,
-        };
+        return AT + 8 * (seen.end as u64) + 524288 * (seen.unit as u64);
     }
-    Found::Many(seen.count)
+    MANY + 8 * (seen.count as u64)
 }
 
 // Where the search that goes by bytes from i on stops to look at blocks: `span` places on, or behind the last place at which 00 00 01 has room. Near a

@@ -2,7 +2,6 @@
 -- Assumes nothing.
 use Prim.Native.Nat.{_-_}
 use native.Mathlib.Omega.{arith}
-use denote.Ref.{now}
 use lib.ListN.{length}
 use Rattle.units.specs.Inside.{Goes}
 use Rattle.units.proofs.Reach.{goes-none, goes-on}
