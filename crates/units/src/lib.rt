@@ -194,8 +194,8 @@ fn told(seen: Seen) -> u64
     MANY + 8 * (seen.count as u64)
 }
 
-// Where the search that goes by bytes from i on stops to look at blocks: `span` places on, or behind the last place at which 00 00 01 has room. Near a
-// start a block is looked at in vain, so that after such a look the search goes by bytes for as long as a block.
+// Where the search that goes by bytes from i on stops to look at blocks: `span` places on, or behind the last place at which 00 00 01 has room.
+// Near a start a block is looked at in vain, so that after such a look the search goes by bytes for as long as a block.
 fn bound(s: &[u8], i: usize, span: usize) -> usize
     requires { ⌜ 2 ≤ length (now s) ⌝ }
     requires { ⌜ i ≤ length (now s) ⌝ }
