@@ -5,7 +5,7 @@ use native.Mathlib.Omega.{arith}
 use mathlib.Core.Path.{_≡_, _∙_, ap, ap₂, refl}
 use mathlib.Core.Bool.{Bool, true, false, not, _&&_, and-false, and-eq-true-iff}
 use mathlib.Core.List.{List, [], _∷_}
-use borrow.Author.Tests.{eq-eqb, ne-eqb, lt-ltb, le-ltb, not-false}
+use borrow.Author.Tests.{ne-eqb, lt-ltb, le-ltb, not-false}
 use lib.Dec.{eqb, ltb}
 use lib.ListN.{length, getD, List·getD-eq-default}
 use Rattle.refusal.specs.declared.Verdict.{Verdict}
@@ -16,7 +16,7 @@ use Rattle.refusal.specs.Checks.{refuseIf, andThen, first}
 use Rattle.refusal.proofs.Checks.{accepted-andThen, accepted-refuseIf, accepted-within}
 use Rattle.units.specs.Layout.{prefixed}
 use Rattle.units.specs.Split.{opened, empty, frontVerdict}
-use Rattle.units.proofs.Reach.{first-other, second-other, third-other, three-here}
+use Rattle.units.proofs.Reach.{first-other, second-other, third-other}
 
 -- the front's two checks, by what their tests say
 abbrev checked : Bool → Bool → Verdict
@@ -32,9 +32,6 @@ module _ (s : List ℕ) where
 
   pub short-unopened : length s < 4 → opened s ≡ false
   short-unopened h = fourth-unopened (λ e. let past : length s ≤ 3 = omega arith in omega (arith, List·getD-eq-default s 0 past))
-
-  pub four-opened : 3 < length s → getD s 0 0 ≡ 0 → getD s 1 0 ≡ 0 → getD s 2 0 ≡ 1 → getD s 3 0 ≡ 0xB2 → opened s ≡ true
-  four-opened h a b c d = let three : 2 < length s = omega arith in ap₂ _&&_ (three-here s 0 three a b c) (eq-eqb (getD s 3 0) 0xB2 d)
 
   -- what the front's checks say
   pub front-long : 16384 < length s → frontVerdict s ≡ Refused TooLong Whole
@@ -60,11 +57,6 @@ third-unopened [] h = refl
 third-unopened (a ∷ []) h = refl
 third-unopened (a ∷ b ∷ []) h = refl
 third-unopened (a ∷ b ∷ c ∷ s) h = unopened (a ∷ b ∷ c ∷ s) (third-other a b c s h)
-
-pub front-empty : (s : List ℕ) → length s ≡ 0 → frontVerdict s ≡ Accepted
-unfolding frontVerdict
-front-empty [] e = refl
-front-empty (b ∷ s) e = let f : ⊥ = omega arith in absurd f
 
 pub front-unopened : (s : List ℕ) → length s ≤ 16384 → (length s ≡ 0 → ⊥) → opened s ≡ false → frontVerdict s ≡ Refused NoStart Whole
 unfolding frontVerdict

@@ -5,13 +5,13 @@ use native.Mathlib.Omega.{arith}
 use mathlib.Core.Path.{_≡_, _∙_, ap, sym, refl}
 use mathlib.Core.Bool.{Bool, true, false, _&&_, and-false}
 use mathlib.Core.List.{List, [], _∷_}
-use borrow.Author.Tests.{ne-eqb, eqb-true, eqb-false}
-use lib.Dec.{eqb}
+use borrow.Author.Tests.{ne-eqb, eqb-true, eqb-false, ltb-true, ltb-false}
+use lib.Dec.{eqb, ltb}
 use lib.ListN.{length, getD, drop, length-drop, drop-of-length-le}
 use lib.Seq.{drop-cons}
 use Rattle.units.specs.Layout.{prefixed}
 use Rattle.units.specs.Split.{cutAt, cutOf, reach, nextOf}
-use Rattle.units.specs.Inside.{Passes}
+use Rattle.units.specs.Inside.{Passes, Goes, Bounds}
 
 -- a 00 00 01 is reached at once
 pub reach-here : (s : List ℕ) → prefixed s ≡ true → reach s ≡ 0
@@ -135,3 +135,31 @@ passes s i r some e h = record { here = λ z. let f : ⊥ = omega arith in absur
 
 pub passes-none : (s : List ℕ) (i : ℕ) → prefixed (drop i s) ≡ true → i ≤ length s → Passes s i 0
 passes-none s i e h = record { here = λ z. e; ahead = λ n. let f : ⊥ = omega arith in absurd f; within = omega arith }
+
+-- the search goes on: not at all, by what can be passed, and from there
+pub goes-none : (s : List ℕ) (i : ℕ) → i ≤ length s → Goes s i i
+goes-none s i h = record { ahead = refl; onward = omega arith; within = h }
+
+pub goes-by : (s : List ℕ) (i r : ℕ) → Passes s i r → (r ≡ 0 → ⊥) → Goes s i (i + r)
+goes-by s i r passed some = record { ahead = passed .ahead some; onward = omega arith; within = passed .within }
+
+pub goes-on : {s : List ℕ} {i j k : ℕ} → Goes s i j → Goes s j k → Goes s i k
+goes-on g h = record { ahead = g .ahead ∙ h .ahead; onward = omega (arith, g .onward, h .onward); within = h .within }
+
+-- by no place of a block, and by one more where 00 01 does not follow
+pub block-none : (s : List ℕ) (i : ℕ) → i ≤ length s → Goes s i (i + 0)
+block-none s i h = let same : i ≡ i + 0 = omega arith in record { ahead = ap (nextOf s) same; onward = omega arith; within = omega arith }
+
+pub block-more : (s : List ℕ) (i j : ℕ) → Goes s i (i + j) → i + j + 2 < length s → (getD s (i + j + 1) 0 ≡ 0 → getD s (i + j + 2) 0 ≡ 1 → ⊥)
+    → Goes s i (i + (j + 1))
+block-more s i j before inside other =
+    let same : i + j + 1 ≡ i + (j + 1) = omega arith in
+    record { ahead = before .ahead ∙ next-pass s (i + j) inside other ∙ ap (nextOf s) same; onward = omega arith; within = omega arith }
+
+-- where 00 00 01 has room at i the bound is behind it
+pub beyond : (s : List ℕ) (i r : ℕ) → Bounds s i r → i + 2 < length s → i < r
+beyond s i r bounds room = by (ltb i r) refl
+  where
+    by : (t : Bool) → ltb i r ≡ t → i < r
+    by true e = ltb-true i r e
+    by false e = let none = bounds .1 (ltb-false i r e) in let f : ⊥ = omega (arith, none) in absurd f

@@ -24,7 +24,7 @@ use Rattle.units.specs.Layout.{prefixed, layoutUnit}
 use Rattle.units.specs.Split.{Span, allOpened, cutOf, foundOf, frontVerdict, nextOf, putIf, scanOf, spansOf, splitVerdict}
 use Rattle.units.specs.Inside.{Notes, seenOf}
 use Rattle.units.proofs.Opened.{accepted-short, accepted-prefixed}
-use Rattle.units.proofs.Kept.{count-seen}
+use Rattle.units.proofs.Kept.{Low, count-seen, noted-low}
 use Rattle.units.proofs.Steps.{unit-cut, next-within, next-prefixed, first-refused}
 
 -- what the pieces from `at` on answer behind the units of the kind so far
@@ -40,6 +40,7 @@ pub record Going (ours : List ℕ → Bool) (s : List ℕ) (seen : Seen) (at : �
   pub spans : List Span
   pub kept : seen ≡ seenOf spans
   pub few : length spans ≤ at
+  pub low : Low seen
   pub answers : scanOf ours s ≡ answer ours at (cutOf (drop at s) .pieces) spans
 
 -- where the front is refused the search answers so
@@ -49,6 +50,12 @@ front-refused ours s reason item e =
     ap
     (λ (v : Verdict). foundOf (andThen v (andThen (refuseIf (not (allOpened (cutOf s .pieces))) StartCode Whole) Accepted)) (spansOf ours 0 (cutOf s .pieces)))
     e
+
+-- and in no bytes there is nothing
+pub empty-nowhere : (ours : List ℕ → Bool) (s : List ℕ) → length s ≡ 0 → scanOf ours s ≡ found.Nowhere
+unfolding splitVerdict frontVerdict
+empty-nowhere ours [] e = refl
+empty-nowhere ours (b ∷ s) e = let f : ⊥ = omega arith in absurd f
 
 -- else it begins
 pub begins : (ours : List ℕ → Bool) (s : List ℕ) → frontVerdict s ≡ Accepted → Going ours s (seenOf []) 0
@@ -62,6 +69,7 @@ begins ours s e =
       spans = [];
       kept = refl;
       few = omega arith;
+      low = (omega arith, omega arith);
       answers = ap (λ (v : Verdict). foundOf v (spansOf ours 0 (cutOf s .pieces))) (ap (λ (v : Verdict). andThen v (andThen codes Accepted)) e ∙ andThen-last codes);
     }
 
@@ -121,6 +129,7 @@ module _ {ours : List ℕ → Bool} {s : List ℕ} {seen : Seen} {at : ℕ} (goi
           spans = going .spans;
           kept = going .kept;
           few = omega (arith, going .few);
+          low = going .low;
           answers = answer-next false foreign;
         }
 
@@ -137,6 +146,7 @@ module _ {ours : List ℕ → Bool} {s : List ℕ} {seen : Seen} {at : ℕ} (goi
           spans = spans;
           kept = notes (going .spans) (going .kept);
           few = omega (arith, going .few, length-append (going .spans) (span ∷ []));
+          low = noted-low seen span r (going .low) (omega (arith, going .short), omega (arith, going .short, inside)) (going .spans) (going .kept) (notes (going .spans) (going .kept));
           answers = answer-next true is
               ∙ ap (foundOf (refuseIf (not (allOpened rest)) StartCode Whole)) (sym (append-assoc (going .spans) (span ∷ []) (spansOf ours next rest)));
         }

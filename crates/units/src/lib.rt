@@ -6,12 +6,11 @@ ghost use Prim.Native.Nat.{_+_, _≤_, _<_};
 ghost use lib.ListN.{length};
 ghost use Rattle.kind.specs.Ours.{ours};
 ghost use Rattle.units.specs.Layout.{started};
-ghost use Rattle.units.specs.Split.{frontVerdict, nextOf, scanOf};
-ghost use Rattle.units.specs.Inside.{Notes, Passes, Quiet, Tells};
+ghost use Rattle.units.specs.Split.{nextOf, opened, scanOf};
+ghost use Rattle.units.specs.Inside.{Bounds, foundIn, Goes, Notes, Passes, Quiet, Stops, Tells};
 use kind::Kind;
 use refusal::Item;
 use refusal::Reason;
-use refusal::Verdict;
 
 pub const MAX_BYTES: usize = 16384;
 
@@ -20,8 +19,23 @@ pub const START_BYTES: usize = 4;
 // user_data_start_code, what follows 00 00 01
 pub const USER_DATA: u8 = 0xB2;
 
-// How many places the search looks at in one step, where it can.
+// How many places the search looks at in one step, where it can, and how many where all bytes are 0.
 const BLOCK: usize = 64;
+
+const ZEROS: usize = 256;
+
+// The cases of `find`'s number: its last octal digit.
+const NOWHERE: u64 = 0;
+
+const AT: u64 = 1;
+
+const MANY: u64 = 2;
+
+const TOO_LONG: u64 = 3;
+
+const NO_START: u64 = 4;
+
+const START_CODE: u64 = 5;
 
 // What the search for the units of one kind found.
 pub enum Found {
@@ -41,19 +55,25 @@ struct Seen {
     end: usize,
 }
 
-// How many places the search passes, and where it next looks at a block.
-struct Ahead {
-    passed: usize,
-    look: usize,
-}
-
 // Judges an area's start codes and looks for the units of one kind.
 pub fn scan(s: &[u8], kind: Kind) -> Found
     ensures { λ r. ⌜ r ≡ scanOf (ours kind) (now (s .entry)) ⌝ }
 {
-    let front = judge_front(s);
-    if let Verdict::Refused(reason, item) = front {
-        return Found::NotUnits(reason, item);
+    found_in(find(s, kind))
+}
+
+// The same in one number, which `found_in` tells: a number is handed back in a register.
+pub fn find(s: &[u8], kind: Kind) -> u64
+    ensures { λ r. ⌜ foundIn r ≡ scanOf (ours kind) (now (s .entry)) ⌝ }
+{
+    if MAX_BYTES < s.len() {
+        return TOO_LONG;
+    }
+    if s.len() == 0 {
+        return NOWHERE;
+    }
+    if !is_opened(s) {
+        return NO_START;
     }
     let mut seen = Seen {
         count: 0,
@@ -61,27 +81,24 @@ pub fn scan(s: &[u8], kind: Kind) -> Found
         end: 0,
     };
     let mut at = 0;
-    'units: while at < s.len() {
+    'units: while at + START_BYTES <= s.len() {
         // 00 00 01 stands at `at`.
-        if s.len() - at < START_BYTES {
-            return Found::NotUnits(Reason::StartCode, Item::Whole);
-        }
         if s[at + 3] != USER_DATA {
-            return Found::NotUnits(Reason::StartCode, Item::Whole);
+            return START_CODE;
         }
         let body = at + START_BYTES;
         let mut next = s.len();
         let mut i = body;
         // A short unit has no block to look at.
-        let mut look = body + 16;
-        while i + 2 < s.len() {
-            let ahead = pace(s, i, look);
-            if ahead.passed == 0 {
+        let mut stop = bound(s, body, 16);
+        while i < stop {
+            i = by_bytes(s, i, stop);
+            if i < stop {
                 next = i;
                 break;
             }
-            i += ahead.passed;
-            look = ahead.look;
+            i = by_blocks(s, i);
+            stop = bound(s, i, BLOCK);
         }
         let unit = at;
         at = next;
@@ -90,35 +107,57 @@ pub fn scan(s: &[u8], kind: Kind) -> Found
         }
         seen = noted(seen, unit, next);
     }
-    found_in(seen)
+    if at < s.len() {
+        // 00 00 01 at the very end.
+        return START_CODE;
+    }
+    told(seen)
 }
 
-// 1 and 2.
-fn judge_front(s: &[u8]) -> Verdict
-    ensures { λ r. ⌜ r ≡ frontVerdict (now (s .entry)) ⌝ }
+// What a number of `find` tells.
+pub fn found_in(r: u64) -> Found
+    ensures { λ f. ⌜ f ≡ foundIn r ⌝ }
 {
-    if MAX_BYTES < s.len() {
-        return Verdict::Refused(Reason::TooLong, Item::Whole);
+    let case = r % 8;
+    let rest = r / 8;
+    if case == AT {
+        return Found::At {
+            unit: (rest / 65536) as usize,
+            end: (rest % 65536) as usize,
+        };
     }
-    if s.len() == 0 {
-        return Verdict::Accepted;
+    if case == NOWHERE {
+        return Found::Nowhere;
     }
+    if case == MANY {
+        return Found::Many(rest as usize);
+    }
+    if case == TOO_LONG {
+        return Found::NotUnits(Reason::TooLong, Item::Whole);
+    }
+    if case == NO_START {
+        return Found::NotUnits(Reason::NoStart, Item::Whole);
+    }
+    Found::NotUnits(Reason::StartCode, Item::Whole)
+}
+
+// Whether 00 00 01 B2 stands at the front.
+fn is_opened(s: &[u8]) -> bool
+    ensures { λ r. ⌜ r ≡ opened (now (s .entry)) ⌝ }
+{
     if s.len() < START_BYTES {
-        return Verdict::Refused(Reason::NoStart, Item::Whole);
+        return false;
     }
     if s[0] != 0 {
-        return Verdict::Refused(Reason::NoStart, Item::Whole);
+        return false;
     }
     if s[1] != 0 {
-        return Verdict::Refused(Reason::NoStart, Item::Whole);
+        return false;
     }
     if s[2] != 1 {
-        return Verdict::Refused(Reason::NoStart, Item::Whole);
+        return false;
     }
-    if s[3] != USER_DATA {
-        return Verdict::Refused(Reason::NoStart, Item::Whole);
-    }
-    Verdict::Accepted
+    s[3] == USER_DATA
 }
 
 // A unit of the kind more. Only the first is kept.
@@ -140,49 +179,69 @@ fn noted(seen: Seen, unit: usize, end: usize) -> Seen
     }
 }
 
-fn found_in(seen: Seen) -> Found
-    ensures { λ r. ⌜ Tells seen r ⌝ }
+fn told(seen: Seen) -> u64
+    requires { ⌜ seen .count ≤ 16384 ⌝ }
+    requires { ⌜ seen .unit ≤ 16384 ⌝ }
+    requires { ⌜ seen .end ≤ 16384 ⌝ }
+    ensures { λ r. ⌜ Tells seen (foundIn r) ⌝ }
 {
     if seen.count == 0 {
-        return Found::Nowhere;
+        return NOWHERE;
     }
     if seen.count == 1 {
-        return Found::At {
-            unit: seen.unit,
-            end: seen.end,
-        };
+        return AT + 8 * (seen.end as u64) + 524288 * (seen.unit as u64);
     }
-    Found::Many(seen.count)
+    MANY + 8 * (seen.count as u64)
 }
 
-// How far the search goes from i on, and where it next looks at a block. Near a start a block is looked at in vain, so that after such a look the
-// search goes by bytes for as long as a block.
-fn pace(s: &[u8], i: usize, look: usize) -> Ahead
-    requires { ⌜ i + 2 < length (now s) ⌝ }
-    ensures { λ r. ⌜ Passes (now (s .entry)) i (r .passed) ⌝ }
+// Where the search that goes by bytes from i on stops to look at blocks: `span` places on, or behind the last place at which 00 00 01 has room.
+// Near a start a block is looked at in vain, so that after such a look the search goes by bytes for as long as a block.
+fn bound(s: &[u8], i: usize, span: usize) -> usize
+    requires { ⌜ 2 ≤ length (now s) ⌝ }
+    requires { ⌜ i ≤ length (now s) ⌝ }
+    requires { ⌜ 0 < span ⌝ }
+    requires { ⌜ span ≤ 64 ⌝ }
+    ensures { λ r. ⌜ Bounds (now (s .entry)) i r ⌝ }
 {
-    if i < look {
-        return Ahead {
-            passed: passable(s, i),
-            look,
-        };
+    if s.len() - i < span + 2 {
+        return s.len() - 2;
     }
-    if s.len() - i < BLOCK + 2 {
-        return Ahead {
-            passed: passable(s, i),
-            look: s.len(),
-        };
+    i + span
+}
+
+// Goes from place to place up to `stop`, or up to a 00 00 01 before it.
+fn by_bytes(s: &[u8], from: usize, stop: usize) -> usize
+    requires { ⌜ from ≤ length (now s) ⌝ }
+    requires { ⌜ stop + 2 ≤ length (now s) ⌝ }
+    ensures { λ r. ⌜ Stops (now (s .entry)) from stop r ⌝ }
+{
+    let mut i = from;
+    while i < stop {
+        let passed = passable(s, i);
+        if passed == 0 {
+            return i;
+        }
+        i += passed;
     }
-    if is_quiet(s, i) {
-        return Ahead {
-            passed: BLOCK,
-            look,
-        };
+    i
+}
+
+// Goes from block to block for as long as they show that no 00 00 01 begins there.
+fn by_blocks(s: &[u8], from: usize) -> usize
+    requires { ⌜ from ≤ length (now s) ⌝ }
+    ensures { λ r. ⌜ Goes (now (s .entry)) from r ⌝ }
+{
+    let mut i = from;
+    while BLOCK + 2 <= s.len() - i {
+        if is_blank(s, i) {
+            i += ZEROS;
+        } else if is_quiet(s, i) {
+            i += BLOCK;
+        } else {
+            return i;
+        }
     }
-    Ahead {
-        passed: passable(s, i),
-        look: i + BLOCK,
-    }
+    i
 }
 
 // How many places from i on can be passed by what stands there, since no 00 00 01 begins at any of them: none where one begins at i.
@@ -209,7 +268,7 @@ fn passable(s: &[u8], i: usize) -> usize
 // early is done by wide registers.
 fn is_quiet(s: &[u8], i: usize) -> bool
     requires { ⌜ i + 66 ≤ length (now s) ⌝ }
-    ensures { λ r. ⌜ Quiet (now (s .entry)) i r ⌝ }
+    ensures { λ r. ⌜ Quiet 64 (now (s .entry)) i r ⌝ }
 {
     let mut clean = true;
     let mut j = 0;
@@ -224,22 +283,41 @@ fn is_quiet(s: &[u8], i: usize) -> bool
     clean
 }
 
+// Whether, at the 256 places from i on, no 00 00 01 begins, since each third byte is 0.
+fn is_blank(s: &[u8], i: usize) -> bool
+    requires { ⌜ i + 2 < length (now s) ⌝ }
+    ensures { λ r. ⌜ Quiet 256 (now (s .entry)) i r ⌝ }
+{
+    if s[i + 2] != 0 {
+        return false;
+    }
+    if s.len() - i < ZEROS + 2 {
+        return false;
+    }
+    let mut any = 0;
+    let mut j = 0;
+    while j < ZEROS {
+        any = any | s[i + j + 2];
+        j += 1;
+    }
+    any == 0
+}
+
 // The first 00 00 01 from index `from` on, or the end: where the unit ends in whose body `from` lies.
 pub fn next(s: &[u8], from: usize) -> usize
     ensures { λ r. ⌜ r ≡ nextOf (now (s .entry)) from ⌝ }
 {
     let mut i = from;
-    let mut look = from;
     while i < s.len() {
         if s.len() - i < 3 {
             return s.len();
         }
-        let ahead = pace(s, i, look);
-        if ahead.passed == 0 {
+        let stop = bound(s, i, BLOCK);
+        i = by_bytes(s, i, stop);
+        if i < stop {
             return i;
         }
-        i += ahead.passed;
-        look = ahead.look;
+        i = by_blocks(s, i);
     }
     i
 }

@@ -7,15 +7,15 @@ use borrow.Author.Needs.{needs}
 use denote.Ref.{now}
 use lib.ListN.{length}
 use Rattle.units.specs.Split.{nextOf}
-use Rattle.units.proofs.Reach.{next-here, next-past, next-short}
+use Rattle.units.proofs.Reach.{next-here, next-past, next-short, beyond}
 use Rattle.units.proofs.next.Statement.{statement}
 use Rattle.units.proofs.next.Tie as tie
 
 abbrev Inv-loop : tie.InvT-loop
-Inv-loop s from i₀ look₀ i look = nextOf s from ≡ nextOf s i
+Inv-loop s from i₀ i = nextOf s from ≡ nextOf s i
 
 abbrev μ-loop : tie.MeasureT-loop
-μ-loop s from i₀ look₀ i look = length s - i
+μ-loop s from i₀ i = length s - i
 
 too-few : tie.Need-returns Inv-loop μ-loop
 too-few c =
@@ -26,11 +26,18 @@ too-few c =
 found : tie.Need-returns-2 Inv-loop μ-loop
 found c =
     let at = c .before .before .before .before .before in
-    let passed = c .before .before .pace in
-    sym (at .loop .inv ∙ next-here (now (at .before .before .args .s)) (at .loop .i) (passed .ensures .here (c .if2 .taken)))
+    let bytes = c .before .by-bytes in
+    sym (at .loop .inv ∙ bytes .ensures .goes .ahead ∙ next-here (now (at .before .before .args .s)) (bytes .result) (bytes .ensures .here (c .if2 .taken)))
+
+loop-less : tie.Need-loop-less Inv-loop μ-loop
+loop-less c =
+    let bounded = c .before .before .before in
+    let at = bounded .before .before .before in
+    let ahead = beyond (now (at .before .before .args .s)) (at .loop .i) (bounded .bound .result) (bounded .bound .ensures) (omega arith) in
+    omega (arith, ahead, c .before .if2 .left, c .by-blocks .ensures .onward)
 
 loop-again : tie.Need-loop-again Inv-loop μ-loop
-loop-again c = c .before .before .before .before .before .before .loop .inv ∙ c .before .before .before .pace .ensures .ahead (c .before .if2 .left)
+loop-again c = c .before .before .before .before .before .before .loop .inv ∙ c .before .before .by-bytes .ensures .goes .ahead ∙ c .by-blocks .ensures .ahead
 
 at-end : tie.Need-returns-3 Inv-loop μ-loop
 at-end c = sym (c .before .loop .inv ∙ next-past (now (c .before .before .before .args .s)) (c .before .loop .i) (c .loop-test .left))
@@ -45,8 +52,9 @@ next-spec =
     (λ c. search needs)
     too-few
     (λ c κs. omega arith)
+    (λ c κs. omega (arith, c .bound .ensures .0))
     found
-    (λ c. omega (arith, c .before .before .before .pace .ensures .within))
-    (λ c. omega (arith, c .before .if2 .left))
+    (λ c κs. c .before .by-bytes .ensures .goes .within)
+    loop-less
     loop-again
     at-end)
