@@ -26,14 +26,14 @@ use units::START_BYTES;
 pub fn ga94_read_into(s: &[u8], records: &mut [u8; LENT_RECORDS]) -> Ga94Head
     ensures { λ r. ⌜ ReadsInto Ga94 (now (s .entry)) (now (records .entry)) (ga94Headed r) (now (records .exit)) ⌝ }
 {
-    head_of(s, units::scan(s, Kind::Ga94), records)
+    head_of(s, units::found_in(units::find(s, Kind::Ga94)), records)
 }
 
 // Reads an area for one who puts another GA94 unit into it: the refusal that `ga94_read_into` answers, and which bytes give way.
 pub fn ga94_read_old(s: &[u8]) -> Old
     ensures { λ r. ⌜ ReadsOld Ga94 (now (s .entry)) r ⌝ }
 {
-    let found = units::scan(s, Kind::Ga94);
+    let found = units::found_in(units::find(s, Kind::Ga94));
     let refusal = refusal::told(verdict_of(s, found));
     let spot = places::spot_of(found, s.len());
     Old { refusal, spot }

@@ -42,14 +42,14 @@ pub fn read(s: &[u8]) -> Answer
 pub fn read_into(s: &[u8], records: &mut [u8; LENT_RECORDS]) -> Head
     ensures { λ r. ⌜ ReadsInto Scte20 (now (s .entry)) (now (records .entry)) (headed r) (now (records .exit)) ⌝ }
 {
-    head_of(s, units::scan(s, Kind::Scte20), records)
+    head_of(s, units::found_in(units::find(s, Kind::Scte20)), records)
 }
 
 // Reads an area for one who puts another caption unit into it: the refusal that `read_into` answers, and which bytes give way.
 pub fn read_old(s: &[u8]) -> Old
     ensures { λ r. ⌜ ReadsOld Scte20 (now (s .entry)) r ⌝ }
 {
-    let found = units::scan(s, Kind::Scte20);
+    let found = units::found_in(units::find(s, Kind::Scte20));
     let refusal = refusal::told(verdict_of(s, found));
     let spot = places::spot_of(found, s.len());
     Old { refusal, spot }
