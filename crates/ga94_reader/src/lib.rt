@@ -2,19 +2,23 @@
 //
 // Normative references: docs/RULES.md, "GA94" and "Order of checks"; document 003, Table 3.
 ghost use mathlib.Core.Path.{_≡_};
-ghost use Prim.Native.Nat.{_+_, _*_, _/_, _%_, _≤_};
-ghost use lib.ListN.{length};
+ghost use mathlib.Core.Bool.{true};
+ghost use mathlib.Core.List.{[], _∷_};
+ghost use Prim.Native.Nat.{_+_, _*_, _/_, _%_, _≤_, _<_};
+ghost use lib.ListN.{length, getD};
+ghost use lib.Seq.{sets};
 ghost use Rattle.lists.specs.Room.{filled};
+ghost use Rattle.refusal.specs.declared.Verdict.the-variants.{Accepted};
 ghost use Rattle.ga94.specs.Value.{blank, none, stored};
 ghost use Rattle.ga94.specs.Reading.{identifierIn, headVerdict, constructsVerdict, closingVerdict, contentVerdict, recordsAt};
 ghost use Rattle.ga94.specs.Lent.{recordsBytes, numbersOf, ReadsInto};
 use ga94::CONSTRUCT_BYTES;
 use ga94::CONSTRUCTS;
 use ga94::Head;
+use ga94::LENT_RECORD;
 use ga94::LENT_RECORDS;
 use ga94::MAX_BYTES;
 use ga94::Numbers;
-use ga94::Record;
 use refusal::Fixed;
 use refusal::Item;
 use refusal::Reason;
@@ -29,7 +33,10 @@ const EM_DATA: usize = 6;
 pub fn read_into(body: &[u8], records: &mut [u8; LENT_RECORDS]) -> Head
     ensures { λ r. ⌜ ReadsInto (now (body .entry)) (now (records .entry)) r (now (records .exit)) ⌝ }
 {
-    let verdict = judge(body);
+    let mut verdict = Verdict::Accepted;
+    if !is_clean(body) {
+        verdict = first_wrong(body);
+    }
     if let Verdict::Refused(_, _) = verdict {
         return refused(verdict);
     }
@@ -50,8 +57,88 @@ pub fn read_into(body: &[u8], records: &mut [u8; LENT_RECORDS]) -> Head
     }
 }
 
-// All checks of a body. Nothing is stored before they accept.
-fn judge(body: &[u8]) -> Verdict
+// All checks of a body, for one who does not ask for its records.
+pub fn judge(body: &[u8]) -> Verdict
+    ensures { λ r. ⌜ r ≡ contentVerdict (now (body .entry)) ⌝ }
+{
+    if is_clean(body) {
+        return Verdict::Accepted;
+    }
+    first_wrong(body)
+}
+
+// Whether a body passes all checks. It keeps nothing of what a refusal tells; where it answers no, none may refuse.
+fn is_clean(body: &[u8]) -> bool
+    ensures { λ r. ⌜ (r ≡ true → contentVerdict (now (body .entry)) ≡ Accepted) ⌝ }
+{
+    if !has_head(body) {
+        return false;
+    }
+    let n = (body[FLAGS] % 32) as usize;
+    let closing = CONSTRUCTS + CONSTRUCT_BYTES * n;
+    if body.len() <= closing {
+        return false;
+    }
+    if !are_marked(body, n) {
+        return false;
+    }
+    is_closed(body, closing)
+}
+
+// Whether what stands before the constructs is all there and right.
+fn has_head(body: &[u8]) -> bool
+    ensures { λ r. ⌜ (r ≡ true → headVerdict (now (body .entry)) ≡ Accepted) ⌝ }
+{
+    if MAX_BYTES < body.len() {
+        return false;
+    }
+    if body.len() < CONSTRUCTS {
+        return false;
+    }
+    if !has_identifier(body) {
+        return false;
+    }
+    if body[4] != 3 {
+        return false;
+    }
+    body[FLAGS] / 32 % 2 == 0
+}
+
+// Whether each of n constructs begins with five ones. It looks at all of them, since a loop that does not leave early takes several at a time.
+fn are_marked(body: &[u8], n: usize) -> bool
+    requires { ⌜ n ≤ 31 ⌝ }
+    requires { ⌜ 7 + 3 * n ≤ length (now body) ⌝ }
+    ensures { λ r. ⌜ (r ≡ true → constructsVerdict n 7 (now (body .entry)) ≡ Accepted) ⌝ }
+{
+    let mut clean = true;
+    let mut i = 0;
+    while i < n {
+        if body[CONSTRUCTS + CONSTRUCT_BYTES * i] / 8 != 31 {
+            clean = false;
+        }
+        i += 1;
+    }
+    clean
+}
+
+// Whether eight ones stand at byte `at`, and only zero bytes behind them.
+fn is_closed(body: &[u8], at: usize) -> bool
+    requires { ⌜ length (now body) ≤ 16384 ⌝ }
+    requires { ⌜ at < length (now body) ⌝ }
+    ensures { λ r. ⌜ (r ≡ true → closingVerdict at (now (body .entry)) ≡ Accepted) ⌝ }
+{
+    if body[at] != 0xFF {
+        return false;
+    }
+    let stuffing = at + 1;
+    if body.len() <= stuffing {
+        return true;
+    }
+    body.len() <= bits::first_set(body, stuffing)
+}
+
+// All checks of a body, one after the other: the first that refuses.
+fn first_wrong(body: &[u8]) -> Verdict
     ensures { λ r. ⌜ r ≡ contentVerdict (now (body .entry)) ⌝ }
 {
     let head = judge_head(body);
@@ -156,31 +243,49 @@ fn judge_closing(body: &[u8], at: usize) -> Verdict
     Verdict::Accepted
 }
 
-// Stores the records of n constructs that were judged, and zeros behind them.
+// Stores the records of n constructs that were judged, and zeros behind them. A byte follows the constructs, so that each can be taken with the
+// byte behind it, as one number.
 fn store(body: &[u8], n: usize, records: &mut [u8; LENT_RECORDS])
     requires { ⌜ n ≤ 31 ⌝ }
-    requires { ⌜ 7 + 3 * n ≤ length (now body) ⌝ }
+    requires { ⌜ 7 + 3 * n < length (now body) ⌝ }
     ensures { λ _. ⌜ now (records .exit) ≡ recordsBytes (filled (recordsAt n 7 (now (body .entry))) 31 blank) ⌝ }
 {
+    lists::known(body);
     *records = [0; LENT_RECORDS];
     let mut i = 0;
     while i < n {
-        let at = CONSTRUCTS + CONSTRUCT_BYTES * i;
-        ga94::put_record(record_of(body[at], body[at + 1], body[at + 2]), i, records);
+        let construct = four_at(body, CONSTRUCTS + CONSTRUCT_BYTES * i);
+        put_four(record_of(construct), LENT_RECORD * i, records);
         i += 1;
     }
 }
 
-// The record of a construct: cc_valid and cc_type in the low three bits of its first byte, then the data bytes as they are.
-fn record_of(first: u8, second: u8, third: u8) -> Record
-    ensures { λ r. ⌜ r ≡ record { «cc_valid» = first / 4 % 2; «cc_type» = first % 4; «cc_data_1» = second; «cc_data_2» = third } ⌝ }
+// Four bytes as one number, the first of them its lowest.
+fn four_at(s: &[u8], at: usize) -> u32
+    requires { ⌜ at + 4 ≤ length (now s) ⌝ }
+    ensures { λ r. ⌜ r ≡ getD (now (s .entry)) at 0 + 256 * getD (now (s .entry)) (at + 1) 0 + 65536 * (getD (now (s .entry)) (at + 2) 0 + 256 * getD (now (s .entry)) (at + 3) 0) ⌝ }
 {
-    Record {
-        cc_valid: first / 4 % 2,
-        cc_type: first % 4,
-        cc_data_1: second,
-        cc_data_2: third,
-    }
+    let low = s[at] as u32 + 256 * s[at + 1] as u32;
+    let high = s[at + 2] as u32 + 256 * s[at + 3] as u32;
+    low + 65536 * high
+}
+
+// The four bytes of a construct's record: cc_valid and cc_type, which are the low three bits of its first byte, then the data bytes as they are.
+fn record_of(construct: u32) -> u32
+    ensures { λ r. ⌜ r ≡ construct / 4 % 2 + 256 * (construct % 4) + 65536 * (construct / 256 % 65536) ⌝ }
+{
+    construct / 4 % 2 + 256 * (construct % 4) + 65536 * (construct / 256 % 65536)
+}
+
+// Stores a number's four bytes, the lowest first.
+fn put_four(x: u32, at: usize, records: &mut [u8; LENT_RECORDS])
+    requires { ⌜ at + 4 ≤ 124 ⌝ }
+    ensures { λ _. ⌜ now (records .exit) ≡ sets (now (records .entry)) at (x % 256 ∷ x / 256 % 256 ∷ x / 65536 % 256 ∷ x / 16777216 ∷ []) ⌝ }
+{
+    records[at] = (x % 256) as u8;
+    records[at + 1] = (x / 256 % 256) as u8;
+    records[at + 2] = (x / 65536 % 256) as u8;
+    records[at + 3] = (x / 16777216) as u8;
 }
 
 // A refusal, and no value beside it.

@@ -3,8 +3,10 @@
 use Prim.Native.Nat.{ℕ, _+_, _-_, _*_, _≤_, _<_}
 use native.Mathlib.Omega.{arith}
 use mathlib.Core.Path.{_≡_, _∙_, sym, subst, refl}
+use mathlib.Core.Logic.{⊎-elim}
 use mathlib.Core.List.{List}
 use borrow.Author.Needs.{needs}
+use borrow.Author.Tests.{not-false}
 use denote.Ref.{now}
 use lib.ListN.{length, getD}
 use Rattle.lists.specs.Bytes.{Bytes}
@@ -12,7 +14,7 @@ use Rattle.lists.specs.Room.{filled}
 use Rattle.lists.proofs.Each.{each-of}
 use Rattle.ga94.specs.declared.Head.{Head}
 use Rattle.ga94.specs.Value.{stored, blank}
-use Rattle.ga94.specs.Reading.{emFlagIn, ccFlagIn, countIn, recordsAt, valueOf}
+use Rattle.ga94.specs.Reading.{emFlagIn, ccFlagIn, countIn, recordsAt, contentVerdict, valueOf}
 use Rattle.ga94.specs.Lent.{recordsBytes, numbersOf, ReadsInto}
 use Rattle.ga94.proofs.Constructs.{length-records}
 use Rattle.ga94.proofs.Contents.{Accepts, accepted-content}
@@ -24,25 +26,33 @@ use Rattle.ga94_reader.proofs.read_into.Tie as tie
 bytes : (c : tie.After-shared-slice-known) → Bytes (now (c .before .args .body))
 bytes c = each-of (λ (b : ℕ). b < 256) 0 (now (c .before .args .body)) (λ i h. omega (arith, c .shared-slice-known .given i))
 
+-- a yes of the quick look vouches for the body, and after a no the checks decide
+decided : (c : tie.Joined1) → c .if1 .verdict ≡ contentVerdict (now (c .before .before .before .args .body))
+decided c =
+    ⊎-elim
+    (λ came. came .2 ∙ came .1 .ensures)
+    (λ came. came .1 ∙ sym (c .before .is-clean .ensures (not-false _ (came .0 .left))))
+    (c .if1 .came)
+
 refuses : tie.Need-returns
 refuses c =
     let past = c .before .before .before in
-    let known = past .before in
+    let known = past .before .before in
     let body = now (known .before .args .body) in
     let lent = now (known .before .args .records) in
     subst (λ (r : Head). ReadsInto body lent r lent) (sym (c .refused .ensures))
-    (refused-into body lent (bytes known) _ (past .judge .ensures) _ _ (c .before .enum-told .given .1))
+    (refused-into body lent (bytes known) _ (decided past) _ _ (c .before .enum-told .given .1))
 
 -- the body is accepted
 module _ (c : tie.After-enum-told2) where
   abbrev known : tie.After-shared-slice-known
-  known = c .before .before .before
+  known = c .before .before .before .before
 
   abbrev bodyOf : List ℕ
   bodyOf = now (known .before .args .body)
 
   accepts : Accepts bodyOf
-  accepts = accepted-content bodyOf (sym (c .before .before .judge .ensures) ∙ c .enum-told2 .given .1)
+  accepts = accepted-content bodyOf (sym (decided (c .before .before)) ∙ c .enum-told2 .given .1)
 
   long : 7 ≤ length bodyOf
   long = accepts .head .complete
@@ -83,15 +93,16 @@ stores c =
     let told = c .before .before .before .before in
     let body = bodyOf told in
     let lent = now (known told .before .args .records) in
-    let verdict = told .before .before .judge .result in
+    let verdict = told .before .before .if1 .verdict in
     subst (λ (numbers : _). ReadsInto body lent (record { verdict = verdict; numbers = numbers }) (c .store .last .1 .1 .0)) (numbers-read body (accepts told))
-    (accepted-into body lent (bytes (known told)) verdict (told .before .before .judge .ensures) _ (told .enum-told2 .given .1)
+    (accepted-into body lent (bytes (known told)) verdict (decided (told .before .before)) _ (told .enum-told2 .given .1)
     (c .store .ensures ∙ sym (records-read body)))
 
 pub read-into-spec : {M : Type 1} → statement M
 read-into-spec =
     tie.close
     (tie.spec
+    (λ c κs. search needs)
     (λ c κs. search needs)
     (λ c. search needs)
     (λ c κs. search needs)
