@@ -265,9 +265,7 @@ fn four_at(s: &[u8], at: usize) -> u32
     requires { ⌜ at + 4 ≤ length (now s) ⌝ }
     ensures { λ r. ⌜ r ≡ getD (now (s .entry)) at 0 + 256 * getD (now (s .entry)) (at + 1) 0 + 65536 * (getD (now (s .entry)) (at + 2) 0 + 256 * getD (now (s .entry)) (at + 3) 0) ⌝ }
 {
-    let low = s[at] as u32 + 256 * s[at + 1] as u32;
-    let high = s[at + 2] as u32 + 256 * s[at + 3] as u32;
-    low + 65536 * high
+    s[at] as u32 + 256 * s[at + 1] as u32 + 65536 * s[at + 2] as u32 + 16777216 * s[at + 3] as u32
 }
 
 // The four bytes of a construct's record: cc_valid and cc_type, which are the low three bits of its first byte, then the data bytes as they are.

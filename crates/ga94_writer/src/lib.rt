@@ -2,18 +2,20 @@
 //
 // Normative references: docs/RULES.md, "GA94" and "Order of checks"; document 003, Table 3.
 ghost use mathlib.Core.Path.{_≡_};
-ghost use Prim.Native.Nat.{_+_, _*_, _≤_, _<_};
+ghost use mathlib.Core.Bool.{true};
+ghost use Prim.Native.Nat.{_+_, _*_, _/_, _%_, _≤_, _<_};
 ghost use mathlib.Core.List.{[], _∷_};
-ghost use lib.ListN.{length};
+ghost use lib.ListN.{length, getD, take};
 ghost use Rattle.lists.specs.Flat.{flat};
 ghost use Rattle.lists.specs.Room.{over, overAt};
 ghost use Rattle.refusal.specs.declared.Verdict.the-variants.{Accepted};
 ghost use Rattle.ga94.specs.Value.{held};
 ghost use Rattle.ga94.specs.Layout.{constructBytes, layout};
-ghost use Rattle.ga94.specs.Lent.{unitIn};
-ghost use Rattle.ga94.specs.Writing.{wholeVerdict, rangeVerdict, valueVerdict, Writes};
+ghost use Rattle.ga94.specs.Lent.{lentRecords, unitIn};
+ghost use Rattle.ga94.specs.Writing.{wholeVerdict, rangeVerdict, recordsVerdict, valueVerdict, Writes};
 use ga94::CONSTRUCT_BYTES;
 use ga94::CONSTRUCTS;
+use ga94::LENT_RECORD;
 use ga94::LENT_RECORDS;
 use ga94::MAX_BYTES;
 use ga94::MAX_RECORDS;
@@ -73,6 +75,9 @@ fn judge_value(v: Numbers, records: &[u8; LENT_RECORDS]) -> Verdict
         return Verdict::Refused(Reason::AdditionalData, Item::Whole);
     }
     let n = v.n;
+    if are_in_range(records, n) {
+        return Verdict::Accepted;
+    }
     let mut i = 0;
     while i < n {
         let range = judge_range(ga94::record_in(records, i), FIRST_BIT + CONSTRUCT_BITS * i);
@@ -123,6 +128,35 @@ fn judge_range(r: Record, at: usize) -> Verdict
     Verdict::Accepted
 }
 
+// Whether the first n records hold numbers that their constructs can. It looks at all of them, since a loop that does not leave early takes
+// several at a time; where it answers no, none may be too large.
+fn are_in_range(records: &[u8; LENT_RECORDS], n: usize) -> bool
+    requires { ⌜ n ≤ 31 ⌝ }
+    ensures { λ r. ⌜ (r ≡ true → recordsVerdict 56 (take n (lentRecords (now (records .entry)))) ≡ Accepted) ⌝ }
+{
+    lists::known(records);
+    let mut clean = true;
+    let mut i = 0;
+    while i < n {
+        let lent = four_at(records, LENT_RECORD * i);
+        if !is_in_range(lent) {
+            clean = false;
+        }
+        i += 1;
+    }
+    clean
+}
+
+// Whether the first of a record's four bytes is a bit, and the second has two.
+fn is_in_range(lent: u32) -> bool
+    ensures { λ r. ⌜ (r ≡ true → (lent % 256 ≤ 1) × (lent / 256 % 256 ≤ 3)) ⌝ }
+{
+    if 1 < lent % 256 {
+        return false;
+    }
+    lent / 256 % 256 <= 3
+}
+
 // Stores the body of a value that was judged, in a part that it fills.
 fn put(v: Numbers, records: &[u8; LENT_RECORDS], out: &mut [u8])
     requires { ⌜ valueVerdict (unitIn v (now records)) ≡ Accepted ⌝ }
@@ -167,4 +201,12 @@ fn put_constructs(v: Numbers, records: &[u8; LENT_RECORDS], out: &mut [u8])
         out[at + 2] = r.cc_data_2;
         i += 1;
     }
+}
+
+// Four bytes as one number, the first of them its lowest. In a function of their own they become one load.
+fn four_at(s: &[u8], at: usize) -> u32
+    requires { ⌜ at + 4 ≤ length (now s) ⌝ }
+    ensures { λ r. ⌜ r ≡ getD (now (s .entry)) at 0 + 256 * getD (now (s .entry)) (at + 1) 0 + 65536 * (getD (now (s .entry)) (at + 2) 0 + 256 * getD (now (s .entry)) (at + 3) 0) ⌝ }
+{
+    s[at] as u32 + 256 * s[at + 1] as u32 + 65536 * s[at + 2] as u32 + 16777216 * s[at + 3] as u32
 }

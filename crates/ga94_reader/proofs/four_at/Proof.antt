@@ -20,12 +20,14 @@ four-at-spec =
     (λ c. search needs)
     (λ c. search needs)
     (λ c. omega (arith, c .shared-slice-known3 .given (c .before .before .before .args .at + 2)))
+    (λ c. omega (arith, c .shared-slice-known3 .given (c .before .before .before .args .at + 2)))
+    (λ c.
+    let at = c .before .before .before .args .at in
+    omega (arith, c .shared-slice-known3 .given (at + 2), c .before .shared-slice-known2 .given (at + 1), c .before .before .shared-slice-known .given at))
     (λ c. search needs)
     (λ c. search needs)
     (λ c. omega (arith, c .shared-slice-known4 .given (c .before .before .before .before .args .at + 3)))
     (λ c. omega (arith, c .shared-slice-known4 .given (c .before .before .before .before .args .at + 3)))
-    (λ c. omega (arith, c .shared-slice-known4 .given (c .before .before .before .before .args .at + 3), c .before .shared-slice-known3 .given (c .before .before .before .before .args .at + 2)))
-    (λ c. omega (arith, c .shared-slice-known4 .given (c .before .before .before .before .args .at + 3), c .before .shared-slice-known3 .given (c .before .before .before .before .args .at + 2)))
     (λ c.
     let at = c .before .before .before .before .args .at in
     omega (

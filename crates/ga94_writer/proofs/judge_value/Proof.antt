@@ -74,10 +74,17 @@ flagged c =
     let told = c .before .before in
     refused-first _ (sym (flag-set (unit told) (c .if1 .taken))) refl ∙ sym (behind told)
 
+-- a yes of the quick look vouches for the records
+vouched : tie.Need-returns-3 Inv-loop μ-loop
+vouched c =
+    let zero = c .before .before in
+    let told = zero .before .before in
+    sym (behind told ∙ accepted-first _ (sym (flag-accepted (unit told) (zero .if1 .left))) refl ∙ c .before .are-in-range .ensures (c .if2 .taken))
+
 -- and the third flag is 0
 module _ (c : tie.At-loop Inv-loop μ-loop) where
   abbrev past : tie.After-enum-told2 Inv-loop μ-loop
-  past = c .before .before .before
+  past = c .before .before .before .before .before
 
   abbrev rs : List Record
   rs = held (unit past) .records
@@ -86,7 +93,7 @@ module _ (c : tie.At-loop Inv-loop μ-loop) where
   counted = length-held (unit past) (lent-length (now (past .before .before .before .args .records))) (few past)
 
   told : valueVerdict (unit past) ≡ recordsVerdict (56 + 24 * c .loop .i) (drop (c .loop .i) rs)
-  told = behind past ∙ accepted-first _ (sym (flag-accepted (unit past) (c .before .if1 .left))) refl ∙ c .loop .inv
+  told = behind past ∙ accepted-first _ (sym (flag-accepted (unit past) (c .before .before .before .if1 .left))) refl ∙ c .loop .inv
 
 -- a turn of the loop
 module _ (c : tie.After-record-in Inv-loop μ-loop) where
@@ -111,7 +118,7 @@ module _ (c : tie.After-record-in Inv-loop μ-loop) where
       ≡ andThen (rangeVerdict (56 + 24 * i) (c .record-in .result)) (recordsVerdict (56 + 24 * (i + 1)) (drop (i + 1) (rs head)))
   here = records-here (rs head) i (c .record-in .result) inside record-held
 
-out-of-range : tie.Need-returns-3 Inv-loop μ-loop
+out-of-range : tie.Need-returns-4 Inv-loop μ-loop
 out-of-range c =
     let judged = c .before .before in
     let turn = judged .before in
@@ -123,7 +130,7 @@ loop-again c =
     let turn = judged .before in
     head turn .loop .inv ∙ here turn ∙ accepted-first _ (judged .judge-range .ensures) (c .enum-told4 .given .1)
 
-done : tie.Need-returns-4 Inv-loop μ-loop
+done : tie.Need-returns-5 Inv-loop μ-loop
 done c =
     let end = c .before in
     sym (told end ∙ records-done (rs end) (end .loop .i) (omega (arith, counted end, c .loop-test .left)))
@@ -139,6 +146,8 @@ judge-value-spec =
     unholdable
     (λ c. search needs)
     flagged
+    (λ c κs. few (c .before .before))
+    vouched
     (λ c. refl)
     (λ c κs. search needs)
     (λ c. omega (arith, below c))
