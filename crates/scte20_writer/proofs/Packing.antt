@@ -1,24 +1,21 @@
--- Bits packed into bytes: the number of a construct, and what one push of the pen leaves.
+-- Bits packed into words and bytes: the number of a construct, and the word that a construct and the bits before it make.
 -- Assumes nothing.
 use Prim.Native.Nat.{ℕ, _+_, _-_, _*_, _/_, _%_, _^_, _≤_, _<_}
 use native.Mathlib.Omega.{arith}
 use mathlib.Core.Path.{_≡_, _∙_, ap, ap₂, sym, refl}
-use mathlib.Core.List.{List, [], _∷_, _++_}
-use lib.ListN.{length, drop, length-append}
-use lib.Pow.{low}
-use lib.Seq.{sets}
-use Rattle.lists.specs.Room.{overAt}
-use Rattle.bits.specs.Bits.{bits, num, bytesOf, field, reversed}
-use Rattle.bits.proofs.Numbers.{AreBits, length-bits, bits-are, are-append, num-lt, num-bits-small, num-front}
-use Rattle.bits.proofs.Stream.{length-bytesOf}
-use Rattle.bits.proofs.Fields.{bytesAt, bytes-at, rest-at}
+use mathlib.Core.List.{List, [], _∷_, _++_, append-assoc}
+use lib.ListN.{length, drop, replicate}
+use lib.Seq.{drop-at}
+use Rattle.bits.specs.Bits.{bits, num, bytesOf, reversed}
+use Rattle.bits.proofs.Numbers.{length-bits, bits-are, num-lt, num-bits-small, num-front, bits-mod, bits-add}
+use Rattle.bits.proofs.Stream.{bytesOf-front}
+use Rattle.bits.proofs.Fields.{bytesAt, bytes-at}
+use Rattle.bits.proofs.Runs.{bits-shifted}
 use Rattle.bits.proofs.Turn.{reversed-lt}
-use Rattle.lists.proofs.Lay.{sets-overAt}
 use Rattle.scte20.specs.declared.Record.{Record}
-use Rattle.scte20_writer.specs.declared.Pen.{Pen}
 use Rattle.scte20.specs.Value.{fieldOf, Ranged}
 use Rattle.scte20.specs.Layout.{constructBits}
-use Rattle.scte20_writer.specs.Inside.{pushed, Pushes}
+use Rattle.scte20_writer.specs.Inside.{pushed}
 use Rattle.scte20.proofs.Sizes.{construct-are}
 
 -- ---- a construct
@@ -48,45 +45,65 @@ construct-num r h =
     (num-front 8 a five (b * 2 + 1) (reversed-lt (r .«cc_data_1») (h .bytes .data-1)) (num-front 8 b (1 ∷ []) 1 (reversed-lt (r .«cc_data_2») (h .bytes .data-2)) refl))))
     ∙ parts-sum p f l a b
 
--- ---- a pen and one construct more
+-- ---- a word
 
-module _ (p : Pen) (c : ℕ) where
-  pushed-are : AreBits (pushed p c)
-  pushed-are = are-append (bits (p .width) (p .bits)) (bits 26 c) (bits-are (p .width) (p .bits)) (bits-are 26 c)
+-- its four bytes, as they are stored
+pub word-bytes : (word : ℕ) → word < 4294967296 → bytesOf 4 (bits 32 word) ≡ word / 16777216 ∷ word / 65536 % 256 ∷ word / 256 % 256 ∷ word % 256 ∷ []
+word-bytes word small =
+    let first : word / 16777216 % 256 ≡ word / 16777216 = omega arith in
+    let last : word / 1 % 256 ≡ word % 256 = omega arith in
+    bytes-at 4 0 (bits 32 word) (bits-are 32 word) (omega arith)
+    ∙ ap₂ (bytesAt 4 0) (length-bits 32 word) (num-bits-small 32 word small)
+    ∙ ap₂ (λ (a b : ℕ). a ∷ word / 65536 % 256 ∷ word / 256 % 256 ∷ b ∷ []) first last
 
-  length-pushed : length (pushed p c) ≡ p .width + 26
-  length-pushed = length-append (bits (p .width) (p .bits)) (bits 26 c) ∙ ap (λ (n : ℕ). n + 26) (length-bits (p .width) (p .bits))
+-- ---- a construct behind other bits
 
-  module _ (small : p .bits < 2 ^ p .width) (fits : c < 67108864) where
-    pushed-num : num (pushed p c) ≡ p .bits * 67108864 + c
-    pushed-num = num-front (p .width) (p .bits) (bits 26 c) c small (num-bits-small 26 c fits)
+-- the bits of a number in front of some, without the first of them
+front-dropped : (w j x : ℕ) (ys : List ℕ) → drop j (bits (j + w) x ++ ys) ≡ bits w x ++ ys
+front-dropped w j x ys =
+    ap (λ (xs : List ℕ). drop j (xs ++ ys)) (bits-add j w x)
+    ∙ ap (drop j) (append-assoc (bits j (x / 2 ^ w)) (bits w x) ys)
+    ∙ drop-at (bits j (x / 2 ^ w)) (bits w x ++ ys) j (length-bits j (x / 2 ^ w))
 
-    pushed-bytes : (k : ℕ) → 8 * k ≤ p .width + 26 → bytesOf k (pushed p c) ≡ bytesAt k 0 (p .width + 26) (p .bits * 67108864 + c)
-    pushed-bytes k h = bytes-at k 0 (pushed p c) pushed-are (omega (arith, length-pushed)) ∙ ap₂ (bytesAt k 0) length-pushed pushed-num
+module _ (bit last c : ℕ) (small : last < 67108864) (fits : c < 67108864) where
+  -- how many bits stand before the construct in a byte that is not whole
+  abbrev w : ℕ
+  w = bit % 8
 
-    pushed-rest : (at : ℕ) → at ≤ p .width + 26 → num (drop at (pushed p c)) ≡ (p .bits * 67108864 + c) % 2 ^ (p .width + 26 - at)
-    pushed-rest at h =
-        rest-at at (pushed p c) pushed-are (omega (arith, length-pushed))
-        ∙ ap₂ (λ (n m : ℕ). m % 2 ^ (n - at)) length-pushed pushed-num
+  -- both numbers, and eight zeros
+  abbrev m : ℕ
+  m = (last * 67108864 + c) * 2 ^ 8
 
-    -- k bytes are whole then
-    pub pushes : (k : ℕ) (out : List ℕ) → 8 * k ≤ p .width + 26 → p .width + 26 < 8 * k + 8 → p .at + k ≤ length out
-        → Pushes
-        p
-        c
-        out
-        record { at = p .at + k; width = p .width + 26 - 8 * k; bits = (p .bits * 67108864 + c) % 2 ^ (p .width + 26 - 8 * k) }
-        (sets out (p .at) (bytesAt k 0 (p .width + 26) (p .bits * 67108864 + c)))
-    pushes k out low high room =
-        let bytes = bytesAt k 0 (p .width + 26) (p .bits * 67108864 + c) in
-        let whole : k ≡ (p .width + 26) / 8 = omega arith in
-        let long : length bytes ≡ k = ap length (sym (pushed-bytes k low)) ∙ length-bytesOf k (pushed p c) in
-        record {
-          at = ap (λ (n : ℕ). p .at + n) whole;
-          width = omega arith;
-          bits = sym (pushed-rest (8 * k) low) ∙ ap (λ (n : ℕ). num (drop (8 * n) (pushed p c))) whole;
-          left =
-              sets-overAt (p .at) bytes out (omega arith)
-              ∙ ap (λ (piece : List ℕ). overAt (p .at) piece out)
-              (sym (pushed-bytes k low) ∙ ap (λ (n : ℕ). bytesOf n (pushed p c)) whole);
-        }
+  both-bits : bits 60 m ≡ (bits 26 last ++ bits 26 c) ++ replicate 8 0
+  both-bits =
+      let both = last * 67108864 + c in
+      let first : both / 2 ^ 26 ≡ last = omega arith in
+      let second : both % 2 ^ 26 ≡ c = omega arith in
+      let two : bits 52 both ≡ bits 26 last ++ bits 26 c =
+      bits-add 26 26 both ∙ ap₂ (λ (a : ℕ) (b : List ℕ). bits 26 a ++ b) first (sym (bits-mod 26 both) ∙ ap (bits 26) second)
+      in
+      bits-shifted 52 8 both ∙ ap (λ (xs : List ℕ). xs ++ replicate 8 0) two
+
+  -- what is pushed, by the number that both make
+  pushed-tail : pushed bit last c ≡ drop (26 - w) (bits 60 m)
+  pushed-tail =
+      let all : 26 - w + w ≡ 26 = omega arith in
+      sym
+      (ap (drop (26 - w)) (both-bits ∙ append-assoc (bits 26 last) (bits 26 c) (replicate 8 0))
+      ∙ ap (λ (n : ℕ). drop (26 - w) (bits n last ++ (bits 26 c ++ replicate 8 0))) (sym all)
+      ∙ front-dropped w (26 - w) last (bits 26 c ++ replicate 8 0)
+      ∙ sym (append-assoc (bits w last) (bits 26 c) (replicate 8 0)))
+
+  -- its first 32 bits are the word that the code makes
+  pub pushed-word : bytesOf 4 (bits 32 (m / 2 ^ (w + 2) % 4294967296)) ≡ bytesOf 4 (pushed bit last c)
+  pushed-word =
+      let q = m / 2 ^ (w + 2) in
+      let all : 26 - w + 32 + (w + 2) ≡ 60 = omega arith in
+      let split : drop (26 - w) (bits 60 m) ≡ bits 32 q ++ bits (w + 2) m =
+      ap (λ (n : ℕ). drop (26 - w) (bits n m)) (sym all)
+      ∙ ap (drop (26 - w)) (bits-add (26 - w + 32) (w + 2) m)
+      ∙ front-dropped 32 (26 - w) q (bits (w + 2) m)
+      in
+      ap (bytesOf 4) (bits-mod 32 q)
+      ∙ sym (bytesOf-front 4 (bits 32 q) (bits (w + 2) m) (omega (arith, length-bits 32 q)))
+      ∙ ap (bytesOf 4) (sym (pushed-tail ∙ split))

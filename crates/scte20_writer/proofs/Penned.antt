@@ -1,145 +1,166 @@
--- Bits that a pen brings into an output: the whole bytes stand in it from index 2 on, and the rest waits in the pen.
+-- Bits that are brought into an output: the whole bytes stand in it from index 2 on, and the rest is the end of the last number.
 -- Assumes nothing.
 use Prim.Native.Nat.{ℕ, _+_, _-_, _*_, _/_, _%_, _^_, _≤_, _<_}
 use native.Mathlib.Omega.{arith}
 use native.Mathlib.Numerals.{add-one}
 use mathlib.Core.Path.{_≡_, _∙_, ap, ap₂, sym, subst, refl}
-use mathlib.Core.List.{List, [], _∷_, _++_}
-use lib.ListN.{length, getD, take, drop, set, replicate, length-append, length-drop, take-append-drop}
-use lib.Seq.{take-at, take-suc, drop-drop, drop-append-le}
+use mathlib.Core.List.{List, [], _∷_, _++_, append-assoc, append-nil}
+use lib.ListN.{length, getD, take, drop, set, replicate, length-append, length-drop, length-set}
+use lib.Pow.{mod-mod-pow}
+use lib.Seq.{length-take-le, take-at, take-suc, take-append-le, take-append-add, take-suc-set, drop-at, drop-append-le, drop-append-add}
 use Rattle.lists.specs.Room.{overAt}
-use Rattle.lists.proofs.Lay.{length-overAt, sets-overAt, overAt-overAt}
+use Rattle.lists.proofs.Lay.{length-overAt}
 use Rattle.bits.specs.Bits.{bits, num, bytesOf}
-use Rattle.bits.proofs.Numbers.{AreBits, length-bits, num-bits-small, num-lt, bits-num, are-drop}
+use Rattle.bits.proofs.Numbers.{AreBits, length-bits, num-bits, num-lt, bits-num, bits-add}
 use Rattle.bits.proofs.Stream.{length-bytesOf, bytesOf-add, bytesOf-front}
 use Rattle.bits.proofs.Runs.{bits-shifted}
 use Rattle.scte20.specs.declared.Record.{Record}
-use Rattle.scte20_writer.specs.declared.Pen.{Pen}
 use Rattle.scte20.specs.Layout.{constructBits, constructsBits}
-use Rattle.scte20_writer.specs.Inside.{pushed, Pushes}
-use Rattle.scte20.proofs.Trailing.{moved-lt}
+use Rattle.scte20_writer.specs.Inside.{pushed}
 use Rattle.scte20_writer.proofs.Pieces.{zeros-more}
 
--- ---- the pen
-
--- the bits xs are written so far
-pub record Penned (out xs : List ℕ) (pen : Pen) (exit : List ℕ) : Type 0 where
-  pub at : pen .at ≡ 2 + length xs / 8
-  pub width : pen .width ≡ length xs % 8
-  pub bits : pen .bits ≡ num (drop (8 * (length xs / 8)) xs)
-  pub left : exit ≡ overAt 2 (bytesOf (length xs / 8) xs) out
+-- the bits xs are written so far. Those that fill no byte are the last of a number of 26 bits
+pub record Penned (out xs : List ℕ) (last : ℕ) (exit : List ℕ) : Type 0 where
+  pub long : length exit ≡ length out
+  pub front : take (2 + length xs / 8) exit ≡ take 2 out ++ bytesOf (length xs / 8) xs
+  pub small : last < 67108864
+  pub waiting : bits (length xs % 8) last ≡ drop (8 * (length xs / 8)) xs
 
 -- cc_count alone fills no byte
-pub penned-start : (out : List ℕ) (n : ℕ) → n < 32 → Penned out (bits 5 n) (record { at = 2; width = 5; bits = n }) out
-penned-start out n small =
+pub penned-start : (out : List ℕ) (n : ℕ) → n < 32 → Penned out (bits 5 n) n out
+penned-start out n few =
     record {
-      at = refl;
-      width = refl;
-      bits = sym (num-bits-small 5 n small);
-      left = sym (take-append-drop 2 out);
+      long = refl;
+      front = sym (append-nil (take 2 out));
+      small = omega arith;
+      waiting = refl;
     }
 
-module _ (out xs : List ℕ) (are : AreBits xs) (pen : Pen) (exit : List ℕ) (p : Penned out xs pen exit) where
-  -- what waits in the pen
-  abbrev waiting : List ℕ
-  waiting = drop (8 * (length xs / 8)) xs
+-- the last bits of the number that 26 bits write
+last-bits : (w : ℕ) (ys : List ℕ) → AreBits ys → length ys ≡ 26 → w ≤ 26 → bits w (num ys) ≡ drop (26 - w) ys
+last-bits w ys are long fits =
+    let j = 26 - w in
+    let all : j + w ≡ 26 = omega arith in
+    sym
+    (ap (drop j) (sym (bits-num ys are) ∙ ap (λ (n : ℕ). bits n (num ys)) (long ∙ sym all) ∙ bits-add j w (num ys))
+    ∙ drop-at (bits j (num ys / 2 ^ w)) (bits w (num ys)) j (length-bits j (num ys / 2 ^ w)))
 
-  length-waiting : length waiting ≡ pen .width
-  length-waiting = omega (arith, length-drop (8 * (length xs / 8)) xs, p .width)
+module _ (out xs : List ℕ) (last : ℕ) (exit : List ℕ) (p : Penned out xs last exit) where
+  -- how many bytes are whole
+  abbrev whole : ℕ
+  whole = length xs / 8
 
-  pub penned-width : pen .width < 8
-  penned-width = omega (arith, p .width)
-
-  pub penned-bits : pen .bits < 2 ^ pen .width
-  penned-bits =
-      subst (λ (b : ℕ). b < 2 ^ pen .width) (sym (p .bits))
-      (subst (λ (w : ℕ). num waiting < 2 ^ w) length-waiting (num-lt waiting (are-drop (8 * (length xs / 8)) xs are)))
-
-  waiting-bits : bits (pen .width) (pen .bits) ≡ waiting
-  waiting-bits = ap₂ (λ (w b : ℕ). bits w b) (sym length-waiting) (p .bits) ∙ bits-num waiting (are-drop (8 * (length xs / 8)) xs are)
+  length-front : 2 + whole ≤ length out → length (take 2 out ++ bytesOf whole xs) ≡ 2 + whole
+  length-front fits = simp length-append (omega (arith, length-take-le 2 out (omega arith), length-bytesOf whole xs))
 
   -- one construct more
-  module _ (ys : List ℕ) (are-ys : AreBits ys) (long : length ys ≡ 26) (next : Pen) (then : List ℕ) (step : Pushes pen (num ys) exit next then) where
-    pushed-bits : pushed pen (num ys) ≡ drop (8 * (length xs / 8)) (xs ++ ys)
-    pushed-bits =
-        let whole : bits 26 (num ys) ≡ ys = ap (λ (n : ℕ). bits n (num ys)) (sym long) ∙ bits-num ys are-ys in
-        ap₂ (λ (a b : List ℕ). a ++ b) waiting-bits whole ∙ sym (drop-append-le (8 * (length xs / 8)) xs ys (omega arith))
-
-    -- how many bytes it fills
-    abbrev filled : ℕ
-    filled = (pen .width + 26) / 8
+  module _ (ys : List ℕ) (are : AreBits ys) (long : length ys ≡ 26) (then : List ℕ) (laid : then ≡ overAt (2 + length xs / 8) (bytesOf 4 (pushed (length xs) last (num ys))) exit)
+      (room : 2 + length xs / 8 + 4 ≤ length out) where
+    abbrev k : ℕ
+    k = length xs / 8
 
     length-longer : length (xs ++ ys) ≡ length xs + 26
     length-longer = length-append xs ys ∙ ap (λ (n : ℕ). length xs + n) long
 
-    longer-bytes : length (xs ++ ys) / 8 ≡ length xs / 8 + filled
-    longer-bytes = omega (arith, length-longer, p .width)
+    -- how many bytes it fills
+    abbrev filled : ℕ
+    filled = (length xs % 8 + 26) / 8
 
-    pub penned-on : 2 ≤ length out → Penned out (xs ++ ys) next then
-    penned-on fits =
-        let k = length xs / 8 in
-        let far : 8 * k + 8 * filled ≡ 8 * (length (xs ++ ys) / 8) = omega (arith, longer-bytes) in
-        let bytes : bytesOf k xs ++ bytesOf filled (pushed pen (num ys)) ≡ bytesOf (length (xs ++ ys) / 8) (xs ++ ys) =
-        ap₂ (λ (a b : List ℕ). a ++ bytesOf filled b) (sym (bytesOf-front k xs ys (omega arith))) pushed-bits
+    longer-bytes : length (xs ++ ys) / 8 ≡ k + filled
+    longer-bytes = omega (arith, length-longer)
+
+    -- the bits from the last whole byte on
+    abbrev open-bits : List ℕ
+    open-bits = drop (8 * k) (xs ++ ys)
+
+    pushed-bits : pushed (length xs) last (num ys) ≡ open-bits ++ replicate 8 0
+    pushed-bits =
+        let same : bits 26 (num ys) ≡ ys = ap (λ (n : ℕ). bits n (num ys)) (sym long) ∙ bits-num ys are in
+        ap₂ (λ (a b : List ℕ). (a ++ b) ++ replicate 8 0) (p .waiting) same
+        ∙ ap (λ (a : List ℕ). a ++ replicate 8 0) (sym (drop-append-le (8 * k) xs ys (omega arith)))
+
+    length-open : 8 * filled ≤ length open-bits
+    length-open = omega (arith, length-drop (8 * k) (xs ++ ys), length-longer)
+
+    -- of the four bytes, those that are whole
+    filled-bytes : take filled (bytesOf 4 (pushed (length xs) last (num ys))) ≡ bytesOf filled open-bits
+    filled-bytes =
+        let more = 4 - filled in
+        let all : filled + more ≡ 4 = omega arith in
+        let zeros = open-bits ++ replicate 8 0 in
+        ap (λ (bs : List ℕ). take filled (bytesOf 4 bs)) pushed-bits
+        ∙ ap (λ (n : ℕ). take filled (bytesOf n zeros)) (sym all)
+        ∙ ap (take filled) (bytesOf-add filled more zeros)
+        ∙ take-at (bytesOf filled zeros) (bytesOf more (drop (8 * filled) zeros)) filled (length-bytesOf filled zeros)
+        ∙ bytesOf-front filled open-bits (replicate 8 0) length-open
+
+    pub penned-on : Penned out (xs ++ ys) (num ys) then
+    penned-on =
+        let front = take 2 out ++ bytesOf k xs in
+        let four = bytesOf 4 (pushed (length xs) last (num ys)) in
+        let behind = four ++ drop (length four) (drop (2 + k) exit) in
+        let size : length four ≡ 4 = length-bytesOf 4 (pushed (length xs) last (num ys)) in
+        let before : length front ≡ 2 + k = length-front (omega arith) in
+        let few : filled ≤ length four = omega arith in
+        let far : 2 + length (xs ++ ys) / 8 ≡ length front + filled = omega (arith, longer-bytes) in
+        let bytes : bytesOf k xs ++ bytesOf filled open-bits ≡ bytesOf (length (xs ++ ys) / 8) (xs ++ ys) =
+        ap (λ (a : List ℕ). a ++ bytesOf filled open-bits) (sym (bytesOf-front k xs ys (omega arith)))
         ∙ sym (bytesOf-add k filled (xs ++ ys))
         ∙ ap (λ (n : ℕ). bytesOf n (xs ++ ys)) (sym longer-bytes)
         in
-        let behind : 2 + length (bytesOf k xs) ≡ pen .at = omega (arith, length-bytesOf k xs, p .at) in
+        let w = length (xs ++ ys) % 8 in
+        let end : 8 * (length (xs ++ ys) / 8) ≡ length xs + (26 - w) = omega (arith, length-longer) in
         record {
-          at = omega (arith, step .at, p .at, longer-bytes);
-          width = omega (arith, step .width, p .width, length-longer);
-          bits = step .bits ∙ ap (λ (a : List ℕ). num (drop (8 * filled) a)) pushed-bits ∙ ap num (drop-drop (8 * filled) (8 * k) (xs ++ ys) ∙ ap (λ (n : ℕ). drop n (xs ++ ys)) far);
-          left = step .left ∙ ap (overAt (pen .at) (bytesOf filled (pushed pen (num ys)))) (p .left)
-              ∙ overAt-overAt 2 (bytesOf k xs) (bytesOf filled (pushed pen (num ys))) out (pen .at) fits behind
-              ∙ ap (λ (piece : List ℕ). overAt 2 piece out) bytes;
+          long = ap length laid ∙ length-overAt (2 + k) four exit (omega (arith, p .long)) ∙ p .long;
+          front =
+              ap (take (2 + length (xs ++ ys) / 8)) (laid ∙ ap (λ (a : List ℕ). a ++ behind) (p .front))
+              ∙ ap (λ (n : ℕ). take n (front ++ behind)) far
+              ∙ take-append-add front behind filled
+              ∙ ap (λ (a : List ℕ). front ++ a) (take-append-le filled four (drop (length four) (drop (2 + k) exit)) few ∙ filled-bytes)
+              ∙ append-assoc (take 2 out) (bytesOf k xs) (bytesOf filled open-bits)
+              ∙ ap (λ (a : List ℕ). take 2 out ++ a) bytes;
+          small = subst (λ (n : ℕ). num ys < 2 ^ n) long (num-lt ys are);
+          waiting =
+              last-bits w ys are long (omega arith)
+              ∙ sym (ap (λ (n : ℕ). drop n (xs ++ ys)) end ∙ drop-append-add xs ys (26 - w));
         }
 
-  -- the output keeps its length
-  pub length-penned : 2 + length xs / 8 ≤ length out → length exit ≡ length out
-  length-penned fits =
-      let k = length xs / 8 in
-      ap length (p .left) ∙ length-overAt 2 (bytesOf k xs) out (omega (arith, length-bytesOf k xs))
-
-  -- the pen's bits, moved up to a byte's first bits,
-  pub moved-small : pen .bits * 2 ^ (8 - pen .width) < 256
-  moved-small = moved-lt (pen .width) (pen .bits) penned-bits (omega (arith, penned-width))
-
-  -- are the last byte
-  last-byte : pen .bits * 2 ^ (8 - pen .width) ≡ num (take 8 (waiting ++ replicate 8 0))
+  -- the last byte: the bits that fill none, and zeros
+  last-byte : last * 2 ^ (8 - length xs % 8) % 4294967296 % 256 ≡ num (take 8 (drop (8 * whole) xs ++ replicate 8 0))
   last-byte =
-      let w = pen .width in
+      let w = length xs % 8 in
       let free = 8 - w in
-      let one : w + free ≡ 8 = omega (arith, penned-width) in
+      let m = last * 2 ^ free in
+      let one : w + free ≡ 8 = omega arith in
       let other : free + w ≡ 8 = omega arith in
-      let moved = pen .bits * 2 ^ free in
-      let shifted : bits 8 moved ≡ waiting ++ replicate free 0 =
-      ap (λ (n : ℕ). bits n moved) (sym one) ∙ bits-shifted w free (pen .bits) ∙ ap (λ (xs : List ℕ). xs ++ replicate free 0) waiting-bits
+      let shifted : bits 8 m ≡ bits w last ++ replicate free 0 = ap (λ (n : ℕ). bits n m) (sym one) ∙ bits-shifted w free last in
+      let size : length (bits w last ++ replicate free 0) ≡ 8 = sym (ap length shifted) ∙ length-bits 8 m in
+      let zeros : take 8 (bits w last ++ replicate 8 0) ≡ bits w last ++ replicate free 0 =
+      ap (λ (n : ℕ). take 8 (bits w last ++ replicate n 0)) (sym other)
+      ∙ ap (take 8) (sym (zeros-more (bits w last) free w))
+      ∙ take-at (bits w last ++ replicate free 0) (replicate w 0) 8 size
       in
-      let long : length (waiting ++ replicate free 0) ≡ 8 = sym (ap length shifted) ∙ length-bits 8 moved in
-      let zeros : take 8 (waiting ++ replicate 8 0) ≡ waiting ++ replicate free 0 =
-      ap (λ (n : ℕ). take 8 (waiting ++ replicate n 0)) (sym other)
-      ∙ ap (take 8) (sym (zeros-more waiting free w))
-      ∙ take-at (waiting ++ replicate free 0) (replicate w 0) 8 long
-      in
-      sym (num-bits-small 8 moved moved-small) ∙ ap num (shifted ∙ sym zeros)
+      mod-mod-pow m 24 8
+      ∙ sym (num-bits 8 m)
+      ∙ ap num (shifted ∙ sym zeros)
+      ∙ ap (λ (a : List ℕ). num (take 8 (a ++ replicate 8 0))) (p .waiting)
 
   -- storing it brings in all bits
-  pub penned-end : 2 + length xs / 8 < length out
-      → set exit (pen .at) (pen .bits * 2 ^ (8 - pen .width)) ≡ overAt 2 (bytesOf (length xs / 8 + 1) (xs ++ replicate 8 0)) out
-  penned-end fits =
+  pub penned-end : 2 + length xs / 8 < length out → (byte : ℕ) → byte ≡ last * 2 ^ (8 - length xs % 8) % 4294967296 % 256
+      → take (2 + length xs / 8 + 1) (set exit (2 + length xs / 8) byte) ≡ take 2 out ++ bytesOf (length xs / 8 + 1) (xs ++ replicate 8 0)
+  penned-end fits byte e =
       let k = length xs / 8 in
-      let byte = pen .bits * 2 ^ (8 - pen .width) in
-      let inside : pen .at < length exit = omega (arith, p .at, length-penned (omega arith)) in
-      let one : set exit (pen .at) byte ≡ overAt (pen .at) (byte ∷ []) exit = sets-overAt (pen .at) (byte ∷ []) exit (omega arith) in
-      let behind : 2 + length (bytesOf k xs) ≡ pen .at = omega (arith, length-bytesOf k xs, p .at) in
+      let inside : 2 + k < length exit = omega (arith, p .long) in
       let bytes : bytesOf k xs ++ (byte ∷ []) ≡ bytesOf (k + 1) (xs ++ replicate 8 0) =
       ap₂ (λ (a : List ℕ) (b : ℕ). a ++ (b ∷ [])) (sym (bytesOf-front k xs (replicate 8 0) (omega arith)))
-      (last-byte ∙ ap (λ (r : List ℕ). num (take 8 r)) (sym (drop-append-le (8 * k) xs (replicate 8 0) (omega arith))))
+      (e ∙ last-byte ∙ ap (λ (r : List ℕ). num (take 8 r)) (sym (drop-append-le (8 * k) xs (replicate 8 0) (omega arith))))
       ∙ sym (bytesOf-add k 1 (xs ++ replicate 8 0))
       in
-      one ∙ ap (overAt (pen .at) (byte ∷ [])) (p .left)
-      ∙ overAt-overAt 2 (bytesOf k xs) (byte ∷ []) out (pen .at) (omega arith) behind
-      ∙ ap (λ (piece : List ℕ). overAt 2 piece out) bytes
+      ap (λ (n : ℕ). take n (set exit (2 + k) byte)) (add-one (2 + k))
+      ∙ take-suc-set exit (2 + k) byte inside
+      ∙ ap (λ (a : List ℕ). a ++ (byte ∷ [])) (p .front)
+      ∙ append-assoc (take 2 out) (bytesOf k xs) (byte ∷ [])
+      ∙ ap (λ (a : List ℕ). take 2 out ++ a) bytes
 
 -- ---- the records
 

@@ -6,18 +6,17 @@ use mathlib.Core.Path.{_≡_, _∙_, ap, ap₂, sym, subst}
 use mathlib.Core.List.{List, [], _∷_, _++_, append-assoc}
 use borrow.Rule.Slice.PartMut.{putMid}
 use lib.ListN.{length, take, drop, set, replicate, length-append, length-replicate, length-set, replicate-append-replicate}
-use lib.Seq.{drop-drop, sets-eq}
+use lib.Seq.{sets-eq}
 use Rattle.lists.specs.Bytes.{Bytes}
-use Rattle.lists.specs.Room.{over, overAt}
-use Rattle.lists.proofs.Lay.{length-over, take-over, cleared}
+use Rattle.lists.proofs.Lay.{cleared}
 use Rattle.lists.proofs.Each.{each-append, each-replicate}
 use Rattle.bits.specs.Bits.{bits, num, bitsOf, bytesOf}
 use Rattle.bits.proofs.Numbers.{AreBits, num-append, num-bits-small, bits-add, are-append, are-zeros, bits-are}
-use Rattle.bits.proofs.Stream.{bitsOf-append, bitsOf-zeros, bitsOf-same, length-bytesOf, bytesOf-bytes, bitsOf-bytesOf, bytesOf-front}
+use Rattle.bits.proofs.Stream.{bitsOf-append, bitsOf-zeros, bitsOf-same, bytesOf-bytes, bitsOf-bytesOf, bytesOf-front}
 use Rattle.scte20.specs.declared.Record.{Record}
 use Rattle.scte20.specs.Value.{Content}
 use Rattle.scte20.specs.Layout.{constructsBits, itemBits, padding, layout, sizeIn}
-use Rattle.scte20_writer.specs.Inside.{countedBits, countedSize, countedBytes}
+use Rattle.scte20_writer.specs.Inside.{countedBits, countedSize, countedBytes, Counts}
 use Rattle.scte20.proofs.Constructs.{length-constructs}
 use Rattle.scte20.proofs.Sizes.{padded, length-items, length-layout, constructs-are, layout-bytes, bitsOf-layout}
 
@@ -175,30 +174,13 @@ module _ (c : Content) (h : c .reserved < 128) (out : List ℕ) (fills : length 
       ∙ ap₂ (λ (xs : List ℕ) (n : ℕ). take 2 xs ++ replicate n 0) two-stored all
       ∙ sym (bare-layout c e h)
 
-  -- cc_count and the constructs behind them
-  module _ (e : c .flag ≡ 1) (xs : List ℕ) (laid : xs ≡ overAt 2 (countedBytes (c .records)) two) where
-    abbrev front : List ℕ
-    front = 3 ∷ second ∷ countedBytes (c .records)
+  -- cc_count and the constructs behind them, then zeros
+  pub flagged-stored : c .flag ≡ 1 → (end : ℕ) (xs : List ℕ) → Counts (c .records) two end xs → take end xs ++ replicate (length xs - end) 0 ≡ layout c
+  flagged-stored e end xs counts =
+      let rest : length xs - end ≡ length (layout c) - (2 + countedSize (length (c .records))) = omega (arith, counts .long, counts .ends, length-two) in
+      ap₂ (λ (a : List ℕ) (n : ℕ). a ++ replicate n 0) (counts .front ∙ ap (λ (ys : List ℕ). take 2 ys ++ countedBytes (c .records)) two-stored) rest
+      ∙ sym (flagged-layout c e h)
 
-    length-front : length front ≡ 2 + countedSize (length (c .records))
-    length-front =
-        let k = countedSize (length (c .records)) in
-        omega (arith, length-bytesOf k (countedBits (c .records) ++ replicate 8 0))
-
-    laid-stored : xs ≡ over front out
-    laid-stored =
-        let k = length (countedBytes (c .records)) in
-        let more : 2 + k ≡ length front = omega arith in
-        laid ∙ ap (overAt 2 (countedBytes (c .records))) two-stored ∙ ap (λ (r : List ℕ). front ++ r) (drop-drop k 2 out ∙ ap (λ (n : ℕ). drop n out) more)
-
-    pub length-laid : length xs ≡ length (layout c)
-    length-laid = ap length laid-stored ∙ length-over front out (omega (arith, length-front, flagged-long c e)) ∙ fills
-
-    pub flagged-stored : (end : ℕ) → end ≡ 2 + countedSize (length (c .records)) → (part : List ℕ) → part ≡ replicate (length (take (length xs - end) (drop end xs))) 0
-        → putMid end (length xs - end) xs part ≡ layout c
-    flagged-stored end here part zeros =
-        let rest : length xs - end ≡ length (layout c) - (2 + countedSize (length (c .records))) = omega (arith, length-laid) in
-        cleared xs part end zeros
-        ∙ ap₂ (λ (ys : List ℕ) (n : ℕ). take end ys ++ replicate n 0) laid-stored rest
-        ∙ ap (λ (ys : List ℕ). ys ++ replicate (length (layout c) - (2 + countedSize (length (c .records)))) 0) (take-over front out end (length-front ∙ sym here))
-        ∙ sym (flagged-layout c e h)
+  -- they fit
+  pub flagged-ends : c .flag ≡ 1 → (end : ℕ) (xs : List ℕ) → Counts (c .records) two end xs → end ≤ length xs
+  flagged-ends e end xs counts = omega (arith, counts .long, counts .ends, length-two, flagged-long c e)

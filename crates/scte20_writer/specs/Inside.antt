@@ -2,24 +2,14 @@
 use Prim.Native.Nat.{ℕ, _+_, _*_, _/_, _%_}
 use mathlib.Core.Path.{_≡_}
 use mathlib.Core.List.{List, _++_}
-use lib.ListN.{length, drop, replicate}
-use Rattle.lists.specs.Room.{overAt}
-use Rattle.bits.specs.Bits.{bits, num, bytesOf}
+use lib.ListN.{length, take, replicate}
+use Rattle.bits.specs.Bits.{bits, bytesOf}
 use Rattle.scte20.specs.declared.Record.{Record}
 use Rattle.scte20.specs.Layout.{constructsBits}
-use Rattle.scte20_writer.specs.declared.Pen.{Pen}
 
--- what a pen and one construct more write: the pen's bits, then the construct's
-abbrev pub pushed : Pen → ℕ → List ℕ
-pushed p c = bits (p .width) (p .bits) ++ bits 26 c
-
--- the promise of `push`: the bytes that these bits fill stand in the output from where the pen was, and what is left
--- over waits in the pen
-pub record Pushes (p : Pen) (c : ℕ) (out : List ℕ) (r : Pen) (exit : List ℕ) : Type 0 where
-  pub at : r .at ≡ p .at + (p .width + 26) / 8
-  pub width : r .width ≡ (p .width + 26) % 8
-  pub bits : r .bits ≡ num (drop (8 * ((p .width + 26) / 8)) (pushed p c))
-  pub left : exit ≡ overAt (p .at) (bytesOf ((p .width + 26) / 8) (pushed p c)) out
+-- what stands from the last whole byte before bit `bit` on: the last bits of the number that ends there, a construct of 26 bits, zeros
+abbrev pub pushed : ℕ → ℕ → ℕ → List ℕ
+pushed bit last c = (bits (bit % 8) last ++ bits 26 c) ++ replicate 8 0
 
 -- cc_count and the constructs, behind the first two bytes
 abbrev pub countedBits : List Record → List ℕ
@@ -32,3 +22,9 @@ countedSize n = (5 + 26 * n) / 8 + 1
 -- these bytes
 abbrev pub countedBytes : List Record → List ℕ
 countedBytes rs = bytesOf (countedSize (length rs)) (countedBits rs ++ replicate 8 0)
+
+-- the promise of `put_constructs`: these bytes stand behind the first two, up to the index that it answers. What stands behind them is not said
+pub record Counts (rs : List Record) (out : List ℕ) (end : ℕ) (exit : List ℕ) : Type 0 where
+  pub ends : end ≡ 2 + countedSize (length rs)
+  pub long : length exit ≡ length out
+  pub front : take end exit ≡ take 2 out ++ countedBytes rs

@@ -2,17 +2,18 @@
 //
 // Normative references: docs/RULES.md, "Picture area" and "Order of checks"; document 001, 5.4 to 5.8.
 ghost use mathlib.Core.Path.{_≡_};
-ghost use Prim.Native.Nat.{_+_, _≤_, _<_, _^_};
-ghost use lib.ListN.{length};
+ghost use mathlib.Core.List.{_++_};
+ghost use Prim.Native.Nat.{_+_, _-_, _*_, _/_, _≤_, _<_};
+ghost use lib.ListN.{length, take, replicate};
 ghost use Rattle.lists.specs.Room.{overAt};
 ghost use Rattle.refusal.specs.declared.Verdict.the-variants.{Accepted};
-ghost use Rattle.bits.specs.Bits.{num};
+ghost use Rattle.bits.specs.Bits.{bits, num, bytesOf};
 ghost use Rattle.bits.specs.Table.{Reverses};
 ghost use Rattle.scte20.specs.Value.{held, Ranged};
 ghost use Rattle.scte20.specs.Layout.{constructBits, layout, sizeIn};
 ghost use Rattle.scte20.specs.Lent.{unitIn};
 ghost use Rattle.scte20.specs.Writing.{valueVerdict, Writes};
-ghost use Rattle.scte20_writer.specs.Inside.{countedBytes, countedSize, Pushes};
+ghost use Rattle.scte20_writer.specs.Inside.{countedSize, Counts, pushed};
 use refusal::Laid;
 use refusal::Verdict;
 use scte20::CONSTRUCT_BITS;
@@ -22,14 +23,6 @@ use scte20::MAX_BYTES;
 use scte20::Numbers;
 use scte20::Record;
 use scte20::SAMPLED_BITS;
-
-// Bits on their way into an output. The whole bytes stand in it up to index `at`; `bits` holds those behind them, `width` of
-// them, which do not fill a byte.
-struct Pen {
-    at: usize,
-    width: u32,
-    bits: u64,
-}
 
 // Writes the body of the unit that numbers and a lent array tell, into out from index `before` on. Judged is the whole result,
 // which has `before` bytes in front of the body and `after` bytes behind it.
@@ -43,12 +36,14 @@ pub fn write_from(
     ensures { λ r. ⌜ Writes (unitIn v (now (records .entry))) before after (now (out .entry)) r (now (out .exit)) ⌝ }
 {
     lists::known(records);
-    let value = scte20_value::judge_value(v, records);
-    if let Verdict::Refused(_, _) = value {
-        return Laid {
-            verdict: value,
-            len: 0,
-        };
+    if !scte20_value::is_value(v, records) {
+        let value = scte20_value::judge_value(v, records);
+        if let Verdict::Refused(_, _) = value {
+            return Laid {
+                verdict: value,
+                len: 0,
+            };
+        }
     }
     let len = size(v);
     let fit = refusal::judge_fit(MAX_BYTES, before, len, after, out.len());
@@ -88,30 +83,45 @@ fn put(v: Numbers, records: &[u8; LENT_RECORDS], out: &mut [u8])
         return;
     }
     let end = put_constructs(v, records, out);
-    lists::clear(&mut out[end..]);
+    clear_from(end, out);
 }
 
-// cc_count and the constructs, behind the first two bytes. Answers the first index behind them.
+// Zeros from index `end` on. One byte is stored, since it takes no call.
+fn clear_from(end: usize, out: &mut [u8])
+    requires { ⌜ end ≤ length (now out) ⌝ }
+    ensures { λ _. ⌜ now (out .exit) ≡ take end (now (out .entry)) ++ replicate (length (now (out .entry)) - end) 0 ⌝ }
+{
+    if end == out.len() {
+        return;
+    }
+    out[end] = 0;
+    let next = end + 1;
+    if next < out.len() {
+        lists::clear(&mut out[next..]);
+    }
+}
+
+// cc_count and the constructs, behind the first two bytes. Answers the first index behind them. A construct is stored as a whole word, with zeros
+// behind it.
 fn put_constructs(v: Numbers, records: &[u8; LENT_RECORDS], out: &mut [u8]) -> usize
     requires { ⌜ valueVerdict (unitIn v (now records)) ≡ Accepted ⌝ }
     requires { ⌜ 2 + countedSize (v .n) ≤ length (now out) ⌝ }
-    ensures { λ r. ⌜ (r ≡ 2 + countedSize (v .n)) × (now (out .exit) ≡ overAt 2 (countedBytes (held (unitIn v (now (records .entry))) .records)) (now (out .entry))) ⌝ }
+    ensures { λ r. ⌜ Counts (held (unitIn v (now (records .entry))) .records) (now (out .entry)) r (now (out .exit)) ⌝ }
 {
     // Once for all constructs: wherever the table is asked for, its 256 bytes are laid on the stack.
     let table = bits::reversed_bytes();
-    let mut pen = Pen {
-        at: 2,
-        width: 5,
-        bits: v.n as u64,
-    };
+    let mut last = v.n as u32;
     let mut i = 0;
     while i < v.n {
         let next = scte20::record_in(records, i);
-        pen = push(pen, construct_of(next, &table), out);
+        let construct = construct_of(next, &table);
+        push(last, construct, i, out);
+        last = construct;
         i += 1;
     }
-    let at = pen.at;
-    out[at] = (pen.bits << (8 - pen.width)) as u8;
+    let bit = 5 + CONSTRUCT_BITS * v.n;
+    let at = 2 + bit / 8;
+    out[at] = ((last << (8 - bit % 8) as u32) % 256) as u8;
     at + 1
 }
 
@@ -128,31 +138,27 @@ fn construct_of(r: Record, table: &[u8; 256]) -> u32
     ((place * 256 + first) * 256 + second) * 2 + 1
 }
 
-// Puts a construct behind the pen's bits. Three bytes are whole then, or four.
-fn push(pen: Pen, construct: u32, out: &mut [u8]) -> Pen
-    requires { ⌜ pen .width < 8 ⌝ }
-    requires { ⌜ pen .bits < 2 ^ (pen .width) ⌝ }
+// Stores the construct of index i, and before it those last bits of the number in front that fill no byte.
+fn push(last: u32, construct: u32, i: usize, out: &mut [u8])
+    requires { ⌜ last < 67108864 ⌝ }
     requires { ⌜ construct < 67108864 ⌝ }
-    requires { ⌜ pen .at + 4 ≤ length (now out) ⌝ }
-    ensures { λ r. ⌜ Pushes pen construct (now (out .entry)) r (now (out .exit)) ⌝ }
+    requires { ⌜ i < 31 ⌝ }
+    requires { ⌜ 2 + (5 + 26 * i) / 8 + 4 ≤ length (now out) ⌝ }
+    ensures { λ _. ⌜ now (out .exit) ≡ overAt (2 + (5 + 26 * i) / 8) (bytesOf 4 (pushed (5 + 26 * i) last construct)) (now (out .entry)) ⌝ }
 {
-    let at = pen.at;
-    let width = pen.width + 26;
-    let bits = pen.bits * 67108864 + construct as u64;
-    out[at] = ((bits >> (width - 8)) % 256) as u8;
-    out[at + 1] = ((bits >> (width - 16)) % 256) as u8;
-    out[at + 2] = ((bits >> (width - 24)) % 256) as u8;
-    if width < 32 {
-        return Pen {
-            at: at + 3,
-            width: width - 24,
-            bits: bits % (1u64 << (width - 24)),
-        };
-    }
-    out[at + 3] = ((bits >> (width - 32)) % 256) as u8;
-    Pen {
-        at: at + 4,
-        width: width - 32,
-        bits: bits % (1u64 << (width - 32)),
-    }
+    let bit = 5 + CONSTRUCT_BITS * i;
+    let both = last as u64 * 67108864 + construct as u64;
+    let word = ((both << 8) >> (bit % 8 + 2) as u32) % 4294967296;
+    put_word(word as u32, 2 + bit / 8, out);
+}
+
+// Stores a word, most significant byte first.
+fn put_word(word: u32, at: usize, out: &mut [u8])
+    requires { ⌜ at + 4 ≤ length (now out) ⌝ }
+    ensures { λ _. ⌜ now (out .exit) ≡ overAt at (bytesOf 4 (bits 32 word)) (now (out .entry)) ⌝ }
+{
+    out[at] = (word / 16777216) as u8;
+    out[at + 1] = (word / 65536 % 256) as u8;
+    out[at + 2] = (word / 256 % 256) as u8;
+    out[at + 3] = (word % 256) as u8;
 }

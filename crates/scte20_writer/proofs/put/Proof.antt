@@ -9,10 +9,9 @@ use lib.ListN.{length, length-set}
 use Rattle.scte20.specs.declared.CaptionUnit.{CaptionUnit}
 use Rattle.scte20.specs.Value.{held}
 use Rattle.scte20.specs.Lent.{unitIn}
-use Rattle.scte20_writer.specs.Inside.{countedSize}
 use Rattle.scte20.proofs.Lending.{lent-length}
 use Rattle.scte20.proofs.Holding.{Whole, value-whole, length-held}
-use Rattle.scte20_writer.proofs.Pieces.{layout-long, bare-stored, flagged-stored, flagged-long, length-laid}
+use Rattle.scte20_writer.proofs.Pieces.{layout-long, bare-stored, flagged-stored, flagged-long, flagged-ends}
 use Rattle.scte20_writer.proofs.put.Statement.{statement}
 use Rattle.scte20_writer.proofs.put.Tie as tie
 
@@ -73,32 +72,18 @@ module _ (c : tie.After-put-constructs) where
   abbrev start : tie.Start
   start = c .before .before .before .before .before .before .before
 
-  ends : c .put-constructs .result ≡ 2 + countedSize (length (held (unit start) .records))
-  ends = c .put-constructs .ensures .0 ∙ ap (λ (n : ℕ). 2 + countedSize n) (sym (counted start))
-
   fits : c .put-constructs .result ≤ length (c .put-constructs .last .1 .1 .0)
   fits =
-      let value = held (unit start) in
-      let set = flagged (c .before .before) in
-      let kept = length-laid value (small start) (now (start .args .out)) (start .pre .1) set (c .put-constructs .last .1 .1 .0) (c .put-constructs .ensures .1) in
-      omega (arith, ends, kept, flagged-long value set)
+      flagged-ends (held (unit start)) (small start) (now (start .args .out)) (start .pre .1) (flagged (c .before .before)) (c .put-constructs .result)
+      (c .put-constructs .last .1 .1 .0) (c .put-constructs .ensures)
 
 returns-2 : tie.Need-returns-2
 returns-2 c =
     let laid = c .before .before .before .before .before .before in
     let entry = start laid in
-    flagged-stored
-    (held (unit entry))
-    (small entry)
-    (now (entry .args .out))
-    (entry .pre .1)
-    (flagged (laid .before .before))
-    (laid .put-constructs .last .1 .1 .0)
-    (laid .put-constructs .ensures .1)
-    (laid .put-constructs .result)
-    (ends laid)
-    (c .before .before .clear2 .last .0)
-    (c .before .before .clear2 .ensures)
+    c .before .before .clear-from .ensures
+    ∙ flagged-stored (held (unit entry)) (small entry) (now (entry .args .out)) (entry .pre .1) (flagged (laid .before .before)) (laid .put-constructs .result)
+    (laid .put-constructs .last .1 .1 .0) (laid .put-constructs .ensures)
 
 pub put-spec : {M : Type 1} → statement M
 put-spec =
@@ -115,9 +100,6 @@ put-spec =
     (λ c. ap length (returns c) ∙ sym (c .before .before .before .before .before .before .before .before .before .pre .1))
     returns
     put-constructs-requires
-    (λ c. fits (c .before .before))
-    (λ c. fits (c .before .before))
-    (λ c. search needs)
-    (λ c κs. search needs)
+    (λ c κs. fits (c .before .before .before))
     (λ c. ap length (returns-2 c) ∙ sym (start (c .before .before .before .before .before .before) .pre .1))
     returns-2)

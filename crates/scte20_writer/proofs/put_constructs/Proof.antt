@@ -1,9 +1,8 @@
--- `scte20_writer::put_constructs` meets its contract. The loop's invariant: the pen has brought in cc_count and the first i constructs.
+-- `scte20_writer::put_constructs` meets its contract. The loop's invariant: cc_count and the first i constructs are brought in.
 -- Assumes nothing.
 use Prim.Native.Nat.{ℕ, _+_, _-_, _*_, _/_, _%_, _^_, _≤_, _<_}
-use native.Mathlib.Nat.{mod-eq-of-lt}
 use native.Mathlib.Omega.{arith}
-use mathlib.Core.Path.{_≡_, _∙_, ap, sym, subst}
+use mathlib.Core.Path.{_≡_, _∙_, ap, ap₂, sym, subst, refl}
 use mathlib.Core.List.{List, _++_}
 use borrow.Author.Needs.{needs}
 use denote.Ref.{now}
@@ -11,15 +10,14 @@ use lib.ListN.{length, getD, take, set, replicate, length-set}
 use lib.Seq.{length-take-le, getD-take}
 use Rattle.lists.specs.Room.{overAt}
 use Rattle.lists.proofs.Each.{each-at}
-use Rattle.bits.specs.Bits.{bits, bytesOf}
+use Rattle.bits.specs.Bits.{bits, num, bytesOf}
 use Rattle.bits.proofs.Numbers.{AreBits, bits-are, are-append}
 use Rattle.scte20.specs.declared.Record.{Record}
 use Rattle.scte20.specs.declared.CaptionUnit.{CaptionUnit}
-use Rattle.scte20_writer.specs.declared.Pen.{Pen}
 use Rattle.scte20.specs.Value.{blank, held}
 use Rattle.scte20.specs.Lent.{unitIn}
 use Rattle.scte20.specs.Layout.{constructBits, constructsBits}
-use Rattle.scte20_writer.specs.Inside.{countedSize, countedBytes, Pushes}
+use Rattle.scte20_writer.specs.Inside.{countedSize, countedBytes, pushed}
 use Rattle.scte20.proofs.Constructs.{length-construct, length-constructs}
 use Rattle.scte20.proofs.Sizes.{construct-are, constructs-are}
 use Rattle.scte20.proofs.Types.{byte-record}
@@ -27,7 +25,7 @@ use Rattle.scte20.proofs.Lending.{lent-length}
 use Rattle.scte20.proofs.Holding.{value-whole, length-held}
 use Rattle.scte20.proofs.Writable.{InRange, in-range, value-ranged}
 use Rattle.scte20_writer.proofs.Packing.{construct-lt}
-use Rattle.scte20_writer.proofs.Penned.{Penned, penned-start, penned-width, penned-bits, penned-on, length-penned, moved-small, penned-end, constructs-more}
+use Rattle.scte20_writer.proofs.Penned.{Penned, penned-start, penned-on, penned-end, constructs-more}
 use Rattle.scte20_writer.proofs.put_constructs.Statement.{statement}
 use Rattle.scte20_writer.proofs.put_constructs.Tie as tie
 
@@ -51,10 +49,10 @@ counted-written u i room few all =
     ∙ ap (λ (m : ℕ). bytesOf (countedSize m) ((bits 5 m ++ constructsBits (held u .records)) ++ replicate 8 0)) (sym (length-held u room few))
 
 abbrev Inv-loop : tie.InvT-loop
-Inv-loop v records out₀ table pen₀ i₀ out pen i = (i ≤ v .n) × Penned out₀ (written (unitIn v records) i) pen out
+Inv-loop v records out₀ table last₀ i₀ out last i = (i ≤ v .n) × Penned out₀ (written (unitIn v records) i) last out
 
 abbrev μ-loop : tie.MeasureT-loop
-μ-loop v records out₀ table pen₀ i₀ out pen i = v .n - i
+μ-loop v records out₀ table last₀ i₀ out last i = v .n - i
 
 module _ (c : tie.Start Inv-loop μ-loop) where
   -- the value that is written
@@ -76,46 +74,26 @@ module _ (c : tie.Start Inv-loop μ-loop) where
 -- at the loop's head
 module _ (c : tie.At-loop Inv-loop μ-loop) where
   abbrev start : tie.Start Inv-loop μ-loop
-  start = c .before .before .before
+  start = c .before .before .before .before
 
   abbrev out : List ℕ
   out = now (start .args .out)
 
-  -- what is written, and the pen
+  -- what is written
   abbrev so-far : List ℕ
   so-far = written (unit start) (c .loop .i)
-
-  are : AreBits so-far
-  are = written-are (unit start) (c .loop .i)
-
-  abbrev pen : Pen
-  pen = c .loop .pen
 
   sized : length so-far ≡ 5 + 26 * c .loop .i
   sized =
       let h : c .loop .i ≤ length (unit start .records) = omega (arith, places start, few start) in
       length-written (unit start) (c .loop .i) h
 
-  fits : 2 + length so-far / 8 < length out
-  fits = omega (arith, sized, start .pre .1)
-
-  width : pen .width < 8
-  width = penned-width out so-far are pen (c .loop .out) (c .loop .inv .1)
-
-  -- the output keeps its length
-  kept : length (c .loop .out) ≡ length out
-  kept = length-penned out so-far are pen (c .loop .out) (c .loop .inv .1) (omega (arith, fits))
-
-  -- the pen's bits, moved up to a byte's first bits
-  small : pen .bits * 2 ^ (8 - pen .width) < 256
-  small = moved-small out so-far are pen (c .loop .out) (c .loop .inv .1)
-
-  moved : pen .bits * 2 ^ (8 - pen .width) % 18446744073709551616 ≡ pen .bits * 2 ^ (8 - pen .width)
-  moved = mod-eq-of-lt (omega (arith, small))
+  abbrev penned : Penned out so-far (c .loop .last) (c .loop .out)
+  penned = c .loop .inv .1
 
 loop-holds : tie.Need-loop-holds Inv-loop μ-loop
 loop-holds c =
-    let start = c .before .before in
+    let start = c .before .before .before in
     (omega arith, penned-start (now (start .args .out)) (start .args .v .n) (omega (arith, few start)))
 
 construct-of-requires : tie.Need-construct-of-requires Inv-loop μ-loop
@@ -124,7 +102,7 @@ construct-of-requires c κs =
     let at = c .before .before .before .before in (
       in-range (told .result) (byte-record (told .result) _ (told .ok))
           (subst InRange (sym (told .ensures)) (ranged (start at) (at .loop .i) (c .before .before .if1 .taken))),
-      at .before .reversed-bytes .ensures,
+      at .before .before .reversed-bytes .ensures,
     )
 
 push-requires : tie.Need-push-requires Inv-loop μ-loop
@@ -132,9 +110,8 @@ push-requires c κs =
     let at = c .before .before .before .before .before .before in
     let i = at .loop .i in
     let below : i < unit (start at) .n = c .before .before .before .before .if1 .taken in
-    let narrow = penned-bits (out at) (so-far at) (are at) (pen at) (at .loop .out) (at .loop .inv .1) in
     let construct = subst (λ (n : ℕ). n < 67108864) (sym (c .before .construct-of .ensures)) (construct-lt (c .before .before .before .record-in .result)) in
-    (width at, (narrow, (construct, omega (arith, at .loop .inv .1 .at, sized at, kept at, start at .pre .1))))
+    (penned at .small, (construct, (omega (arith, few (start at)), omega (arith, penned at .long, start at .pre .1))))
 
 loop-again : tie.Need-loop-again Inv-loop μ-loop
 loop-again c =
@@ -145,28 +122,48 @@ loop-again c =
     let below : i < u .n = told .before .before .before .if1 .taken in
     let inside : i < length (u .records) = omega (arith, places (start at), few (start at)) in
     let r = told .before .before .record-in .result in
-    let next = c .before .before .push .result in
-    let then = c .before .before .push .last .1 .1 .0 in
-    let step = subst (λ (n : ℕ). Pushes (pen at) n (at .loop .out) next then) (told .construct-of .ensures) (c .before .before .push .ensures) in
+    let then = c .before .before .push .last .1 .1 .1 .0 in
+    let laid = c .before .before .push .ensures
+    ∙ ap₂ (λ (n k : ℕ). overAt (2 + n / 8) (bytesOf 4 (pushed n (at .loop .last) k)) (at .loop .out)) (sym (sized at)) (told .construct-of .ensures)
+    in
+    let room : 2 + length (so-far at) / 8 + 4 ≤ length (out at) = omega (arith, sized at, start at .pre .1) in
+    let on = penned-on (out at) (so-far at) (at .loop .last) (at .loop .out) (penned at) (constructBits r) (construct-are r) (length-construct r) then laid room in
     let more : so-far at ++ constructBits r ≡ written u (i + 1) =
     ap (λ (s : Record). so-far at ++ constructBits s) (told .before .before .record-in .ensures)
     ∙ ap (λ (xs : List ℕ). bits 5 (u .n) ++ xs) (sym (constructs-more (u .records) i blank inside))
     in (
       omega arith,
-      subst (λ (xs : List ℕ). Penned (out at) xs next then) more
-          (penned-on (out at) (so-far at) (are at) (pen at) (at .loop .out) (at .loop .inv .1) (constructBits r) (construct-are r) (length-construct r) next then step (omega (arith, fits at))),
+      subst (λ (last : ℕ). Penned (out at) (written u (i + 1)) last then) (sym (told .construct-of .ensures))
+          (subst (λ (xs : List ℕ). Penned (out at) xs (num (constructBits r)) then) more on),
     )
+
+-- behind the loop all are brought in
+module _ (c : tie.Else1 Inv-loop μ-loop) where
+  abbrev at : tie.At-loop Inv-loop μ-loop
+  at = c .before .before
+
+  all : at .loop .i ≡ unit (start at) .n
+  all = omega (arith, at .loop .inv .0, c .if1 .left)
+
+  all-sized : length (so-far at) ≡ 5 + 26 * unit (start at) .n
+  all-sized = sized at ∙ ap (λ (n : ℕ). 5 + 26 * n) all
 
 returns : tie.Need-returns Inv-loop μ-loop
 returns c =
-    let at = c .before .before .before .before in
-    let u = unit (start at) in
-    let all : at .loop .i ≡ u .n = omega (arith, at .loop .inv .0, c .before .before .if1 .left) in (
-      omega (arith, at .loop .inv .1 .at, sized at),
-      ap (set (at .loop .out) (pen at .at)) (moved at)
-          ∙ penned-end (out at) (so-far at) (are at) (pen at) (at .loop .out) (at .loop .inv .1) (fits at)
-          ∙ ap (λ (piece : List ℕ). overAt 2 piece (out at)) (counted-written u (at .loop .i) (places (start at)) (few (start at)) all),
-    )
+    let past = c .before in
+    let head = at past in
+    let u = unit (start head) in
+    let exit = head .loop .out in
+    let last = head .loop .last in
+    let n = u .n in
+    record {
+      ends = omega (arith, length-held u (places (start head)) (few (start head)));
+      long = length-set exit _ _ ∙ penned head .long;
+      front =
+          ap (λ (k : ℕ). take (2 + k / 8 + 1) (set exit (2 + k / 8) (last * 2 ^ (8 - k % 8) % 4294967296 % 256))) (sym (all-sized past))
+          ∙ penned-end (out head) (so-far head) last exit (penned head) (omega (arith, all-sized past, start head .pre .1)) _ refl
+          ∙ ap (λ (bytes : List ℕ). take 2 (out head) ++ bytes) (counted-written u (head .loop .i) (places (start head)) (few (start head)) (all past));
+    }
 
 pub put-constructs-spec : {M : Type 1} → statement M
 put-constructs-spec =
@@ -175,18 +172,22 @@ put-constructs-spec =
     Inv-loop
     μ-loop
     (λ c κs. search needs)
+    (λ c. omega (arith, few (c .before .before .before)))
     loop-holds
     (λ c κs. search needs)
     construct-of-requires
     push-requires
-    (λ c. omega (arith, few (c .before .before .before .before .before .before .before .before .before .before .before .before)))
+    (λ c. omega (arith, few (start (c .before .before .before .before .before .before .before .before .before))))
     (λ c. omega arith)
     loop-again
-    (λ c. omega (arith, width (c .before .before .before)))
-    (λ c. omega (arith, width (c .before .before .before)))
-    (λ c. omega (arith, width (c .before .before .before .before)))
-    (λ c. omega (arith, moved (c .before .before .before .before), small (c .before .before .before .before)))
-    (λ c. omega (arith, c .before .before .before .before .loop .inv .1 .at, kept (c .before .before .before .before), fits (c .before .before .before .before)))
-    (λ c. omega (arith, c .before .before .before .before .loop .inv .1 .at, sized (c .before .before .before .before), few (c .before .before .before .before .before .before .before)))
-    (λ c. length-set (c .before .before .before .before .loop .out) (c .before .before .before .before .loop .pen .at) _ ∙ kept (c .before .before .before .before))
+    (λ c. omega (arith, few (start (at (c .before)))))
+    (λ c. omega (arith, few (start (at (c .before)))))
+    (λ c. omega (arith, few (start (at (c .before)))))
+    (λ c. omega arith)
+    (λ c. omega arith)
+    (λ c. omega arith)
+    (λ c. omega arith)
+    (λ c. omega (arith, penned (at (c .before)) .long, start (at (c .before)) .pre .1))
+    (λ c. omega (arith, few (start (at (c .before)))))
+    (λ c. length-set (at (c .before) .loop .out) _ _ ∙ penned (at (c .before)) .long)
     returns)

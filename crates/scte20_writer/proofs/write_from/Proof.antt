@@ -1,10 +1,12 @@
--- `scte20_writer::write_from` meets its contract: the value's checks refuse, else those of the result do, else the body is stored in its place.
+-- `scte20_writer::write_from` meets its contract: the value's checks refuse where no quick look vouched for it, else those of the result do, else the body is stored in its place.
 -- Assumes nothing.
 use Prim.Native.Nat.{ℕ, _+_, _-_, _≤_}
 use native.Mathlib.Omega.{arith}
-use mathlib.Core.Path.{_≡_, _∙_, ap, ap₂, sym}
+use mathlib.Core.Path.{_≡_, _∙_, ap, ap₂, sym, refl}
+use mathlib.Core.Logic.{⊎-elim}
 use mathlib.Core.List.{List}
 use borrow.Author.Needs.{needs}
+use borrow.Author.Tests.{not-false}
 use borrow.Rule.Slice.PartMut.{putMid}
 use denote.Ref.{now}
 use lib.ListN.{length, take, drop, length-drop}
@@ -68,30 +70,30 @@ module _ (c : tie.After-known) where
 
 value-refused : tie.Need-returns
 value-refused c =
-    let at = c .before .before .before in
+    let at = c .before .before .before .before .before in
     let args = start at .args in
     let value = c .before .before .judge-value in
     let fit = fitVerdict 16384 (args .before + length (layout (held (unit at))) + args .after) (length (now (args .out))) in
     refuses (unit at) (args .before) (args .after) (now (args .out)) (known at) (value .result)
     (refused-first fit (value .ensures) (c .enum-told .given .1)) _ _ (c .enum-told .given .1)
 
--- past the first test the value is accepted
-accepted : (c : tie.After-enum-told2) → valueVerdict (unit (c .before .before .before)) ≡ Accepted
-accepted c = sym (c .before .before .judge-value .ensures) ∙ c .enum-told2 .given .1
+-- past the first test the value is accepted: the quick look vouched for it, or the checks let it through
+accepted : (c : tie.Joined1) → valueVerdict (unit (c .before .before)) ≡ Accepted
+accepted c = ⊎-elim (λ judged. sym (judged .1 .ensures) ∙ judged .3 .given .1) (λ vouched. c .before .is-value .ensures (not-false _ (vouched .left))) (c .if1 .came)
 
-whole : (c : tie.After-enum-told2) → Whole (unit (c .before .before .before))
-whole c = value-whole (unit (c .before .before .before)) (accepted c)
+whole : (c : tie.Joined1) → Whole (unit (c .before .before))
+whole c = value-whole (unit (c .before .before)) (accepted c)
 
 -- what the code counts is how long the layout is
-counted : (c : tie.After-size) → c .size .result ≡ length (layout (held (unit (c .before .before .before .before))))
+counted : (c : tie.After-size) → c .size .result ≡ length (layout (held (unit (c .before .before .before))))
 counted c =
-    let at = c .before .before .before .before in
+    let at = c .before .before .before in
     c .size .ensures ∙ sym (length-layout-held (unit at) (known at .places) (whole (c .before) .few))
 
 -- then the checks of the result decide
 module _ (c : tie.After-judge-fit) where
   abbrev at : tie.After-known
-  at = c .before .before .before .before .before
+  at = c .before .before .before .before
 
   abbrev before : ℕ
   before = start at .args .before
@@ -107,11 +109,10 @@ module _ (c : tie.After-judge-fit) where
 
   judged : c .judge-fit .result ≡ bodyVerdict (unit at) before after (length out)
   judged =
-      let told = c .before .before in
       let fit = fitVerdict 16384 (before + length body + after) (length out) in
       c .judge-fit .ensures
       ∙ ap (λ (n : ℕ). fitVerdict 16384 (before + n + after) (length out)) (counted (c .before))
-      ∙ sym (accepted-first fit (told .before .before .judge-value .ensures) (told .enum-told2 .given .1))
+      ∙ sym (accepted-first fit refl (accepted (c .before .before)))
 
   -- the body's place is within the limit and within the output
   within : c .judge-fit .result ≡ Accepted → (before + c .before .size .result ≤ 16384) × (before + c .before .size .result ≤ length out)
@@ -158,6 +159,7 @@ pub write-from-spec : {M : Type 1} → statement M
 write-from-spec =
     tie.close
     (tie.spec
+    (λ c κs. search needs)
     (λ c κs. search needs)
     (λ c κs. search needs)
     (λ c. search needs)
