@@ -21,6 +21,10 @@ pub const MAX_WORDS: usize = 245;
 // A packet: the flag, DID, SDID, DC, the user words, CS.
 pub const USER: usize = 6;
 
+const DID: u16 = 0x143;
+
+const SDID: u16 = 0x102;
+
 // What reading answers: the numbers, or a refusal and zeros.
 #[repr(C)]
 pub struct Answer {
@@ -58,10 +62,10 @@ fn holds(words: &[u16]) -> bool
     if words[2] != 0x3FF {
         return false;
     }
-    if words[3] != 0x143 {
+    if words[3] != DID {
         return false;
     }
-    if words[4] != 0x102 {
+    if words[4] != SDID {
         return false;
     }
     if (words[5] % 256) as usize != n - 7 {
@@ -131,10 +135,10 @@ fn judge_header(words: &[u16]) -> Verdict
     requires { ⌜ 20 ≤ length (now words) ⌝ }
     ensures { λ r. ⌜ r ≡ headerVerdict (now (words .entry)) ⌝ }
 {
-    if words[3] != 0x143 {
+    if words[3] != DID {
         return Verdict::Refused(Reason::Unfixed(Fixed::Identifier), Item::Word(3));
     }
-    if words[4] != 0x102 {
+    if words[4] != SDID {
         return Verdict::Refused(Reason::Unfixed(Fixed::Identifier), Item::Word(4));
     }
     if (words[5] % 256) as usize != words.len() - 7 {
