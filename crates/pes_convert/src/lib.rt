@@ -116,9 +116,9 @@ fn put_slots(p: Packet, rows: &[[u8; ROW_BYTES]; SLOTS], out: &mut [u8]) -> usiz
     let mut at = 0;
     let mut i = 0;
     while i < SLOTS {
-        let slot = p.slots[i];
-        if slot.full != 0 {
-            put_row(slot.field.0, slot.line, rows, i, &table, &mut out[at..]);
+        let s = p.slots[i];
+        if s.full != 0 {
+            put_row(s.field.0, s.line, rows, i, &table, &mut out[at..]);
             at += UNIT_BYTES;
         }
         i += 1;
