@@ -1,4 +1,5 @@
 pub mod Slots
+pub mod Vouched
 pub mod Bytes
 pub mod Numbers
 pub mod Descriptors

@@ -6,6 +6,7 @@ ghost use Rattle.sdp.specs.Value.{descriptor as Value·descriptor, toget
 ghost use Rattle.sdp.specs.Layout.{count as Layout·count};
 ghost use Rattle.sdp.specs.User.{slotOf};
 ghost use Rattle.sdp.specs.SlotVerdict.{allZero, unwritable, slotVerdict};
+ghost use Rattle.sdp.specs.Inside.{SlotVouches};
 use crate::Packet;
 use crate::ROW_BYTES;
 use crate::SLOTS;
@@ -60,6 +61,34 @@ pub fn judge_slot(s: Slot, row: [u8; ROW_BYTES]) -> Verdict
         return Verdict::Refused(Reason::Unholdable(Excess::SlotUnwritable), Item::Whole);
     }
     judge_line(s.line, Item::Whole)
+}
+
+// Whether a slot passes 15 and 7, with the mark asked first. Where it answers no, all may be well.
+pub fn slot_holds(s: Slot, row: [u8; ROW_BYTES]) -> bool
+    ensures { λ r. ⌜ SlotVouches (together s row) r ⌝ }
+{
+    if s.full == 0 {
+        if descriptor(s) != 0 {
+            return false;
+        }
+        return is_blank(row);
+    }
+    if 1 < s.full {
+        return false;
+    }
+    if 3 < s.reserved {
+        return false;
+    }
+    if 1 < s.field.0 {
+        return false;
+    }
+    if s.line == 0 {
+        return descriptor(s) != 0;
+    }
+    if s.line < 6 {
+        return false;
+    }
+    s.line < 23
 }
 
 // A full slot whose descriptor is 0, or an empty one that holds anything else.

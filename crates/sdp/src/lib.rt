@@ -9,6 +9,7 @@ use fields::OddEven;
 pub use holding::count;
 pub use holding::descriptor;
 pub use holding::judge_slot;
+pub use holding::slot_holds;
 pub use holding::slot_of;
 pub use user::byte_sum;
 pub use user::judge_line;

@@ -5,6 +5,7 @@ ghost use mathlib.Core.Path.{_≡_};
 ghost use Prim.Native.Nat.{_≤_};
 ghost use lib.ListN.{length};
 ghost use Rattle.subtitling.specs.Reading.{formVerdict, headerVerdict, checksumVerdict, packetVerdict};
+ghost use Rattle.subtitling.specs.Inside.{Vouches};
 use refusal::Fixed;
 use refusal::Item;
 use refusal::Misfit;
@@ -20,6 +21,10 @@ pub const MAX_WORDS: usize = 245;
 // A packet: the flag, DID, SDID, DC, the user words, CS.
 pub const USER: usize = 6;
 
+const DID: u16 = 0x143;
+
+const SDID: u16 = 0x102;
+
 // What reading answers: the numbers, or a refusal and zeros.
 #[repr(C)]
 pub struct Answer {
@@ -29,6 +34,57 @@ pub struct Answer {
 
 // RULES, "Order of checks": the whole order of reading a packet.
 pub fn judge(words: &[u16]) -> Verdict
+    ensures { λ r. ⌜ r ≡ packetVerdict (now (words .entry)) ⌝ }
+{
+    if holds(words) {
+        return Verdict::Accepted;
+    }
+    in_order(words)
+}
+
+// Whether all words pass all checks, in the order that takes the fewest steps. Where it answers no, all may be well.
+fn holds(words: &[u16]) -> bool
+    ensures { λ r. ⌜ Vouches (now (words .entry)) r ⌝ }
+{
+    let n = words.len();
+    if MAX_WORDS < n {
+        return false;
+    }
+    if n < MIN_WORDS {
+        return false;
+    }
+    if words[0] != 0x000 {
+        return false;
+    }
+    if words[1] != 0x3FF {
+        return false;
+    }
+    if words[2] != 0x3FF {
+        return false;
+    }
+    if words[3] != DID {
+        return false;
+    }
+    if words[4] != SDID {
+        return false;
+    }
+    if (words[5] % 256) as usize != n - 7 {
+        return false;
+    }
+    let all = anc::clean_sum(words, 3, n - 1);
+    if 65535 < all {
+        return false;
+    }
+    if words[n - 1] != anc::cs(all as u16) {
+        return false;
+    }
+    // What the user words add up to: DID, SDID and DC are taken off. 256 divides 1,024, which keeps the number above 0.
+    let user = (all + 1024 - 0x143 - 0x102 - (words[5] % 256) as u32) % 256;
+    sdp_reader::holds(&words[USER..n - 1], user as u16)
+}
+
+// The checks in the order of RULES.
+fn in_order(words: &[u16]) -> Verdict
     ensures { λ r. ⌜ r ≡ packetVerdict (now (words .entry)) ⌝ }
 {
     let form = judge_form(words);
@@ -79,10 +135,10 @@ fn judge_header(words: &[u16]) -> Verdict
     requires { ⌜ 20 ≤ length (now words) ⌝ }
     ensures { λ r. ⌜ r ≡ headerVerdict (now (words .entry)) ⌝ }
 {
-    if words[3] != 0x143 {
+    if words[3] != DID {
         return Verdict::Refused(Reason::Unfixed(Fixed::Identifier), Item::Word(3));
     }
-    if words[4] != 0x102 {
+    if words[4] != SDID {
         return Verdict::Refused(Reason::Unfixed(Fixed::Identifier), Item::Word(4));
     }
     if (words[5] % 256) as usize != words.len() - 7 {

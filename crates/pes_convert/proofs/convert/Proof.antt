@@ -54,14 +54,14 @@ returns c =
 
 write-slots-requires : tie.Need-write-slots-requires
 write-slots-requires c κs =
-    let past = c .before .before in
+    let past = c .before .before .before in
     let s = wordsOf (past .before .before .before) in
     ap ownVerdict (same past) ∙ own-accepted (valueOf s) (accepted-legal s (accepted past) .legal)
 
 returns-2 : tie.Need-returns-2
 returns-2 c =
     let wrote = c .before .before in
-    let past = wrote .before .before .before in
+    let past = wrote .before .before .before .before in
     let out = now (past .before .before .before .before .before .before .before .args .out) in
     subst₂ (λ (packet : Verdict) (v : Sdp). Wrote (convertVerdict packet v (length out)) (layout (converted v)) out (wrote .write-slots .result) (wrote .write-slots .last .1 .1 .0))
     (sym (accepted past))

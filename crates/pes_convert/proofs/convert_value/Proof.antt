@@ -46,7 +46,7 @@ returns c =
 returns-2 : tie.Need-returns-2
 returns-2 c =
     let wrote = c .before .before in
-    let past = wrote .before .before .before in
+    let past = wrote .before .before in
     let judged = past .before .before in
     let v = valueOf judged in
     let out = now (judged .before .before .before .args .out) in
@@ -61,4 +61,4 @@ returns-2 c =
 pub convert-value-spec : {M : Type 1} → statement M
 convert-value-spec =
     tie.close
-    (tie.spec (λ c κs. search needs) (λ c κs. search needs) returns (λ c κs. accepted (c .before .before)) (λ c. search needs) returns-2)
+    (tie.spec (λ c κs. search needs) (λ c κs. search needs) returns (λ c κs. accepted (c .before)) (λ c. search needs) returns-2)

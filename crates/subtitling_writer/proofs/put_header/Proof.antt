@@ -20,7 +20,7 @@ returns : tie.Need-returns
 unfolding wordOf parityOf
 returns c =
     let out = now (c .before .before .args .out) in
-    sets-eq (header (c .word .result)) out 0 (c .before .before .pre) ∙ ap (λ (w : ℕ). over (header w) out) (c .word .ensures)
+    (c .word .ensures, sets-eq (header (c .word .result)) out 0 (c .before .before .pre) ∙ ap (λ (w : ℕ). over (header w) out) (c .word .ensures))
 
 pub put-header-spec : {M : Type 1} → statement M
 put-header-spec =
