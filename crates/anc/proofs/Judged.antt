@@ -1,6 +1,6 @@
 -- The words of a slice from an index on, which a loop judges one after the other, and of a part of something longer.
 -- Assumes nothing.
-use Prim.Native.Nat.{ℕ, suc, _+_, _-_, _≤_, _<_}
+use Prim.Native.Nat.{ℕ, suc, _+_, _-_, _/_, _≤_, _<_}
 use native.Mathlib.Omega.{arith}
 use native.Mathlib.Numerals.{add-one}
 use mathlib.Core.Path.{_≡_, _∙_, ap, ap₂, sym}
@@ -12,8 +12,8 @@ use Rattle.lists.proofs.Part.{part-cons, part-none}
 use Rattle.refusal.specs.declared.Verdict.{Verdict}
 use Rattle.refusal.specs.declared.Verdict.the-variants.{Accepted}
 use Rattle.refusal.specs.Checks.{andThen}
-use Rattle.anc.specs.Words.{byteOf, wordVerdict, wordsVerdict}
-use Rattle.anc.proofs.Words.{bytes-bytes, words-accepted, accepted-words}
+use Rattle.anc.specs.Words.{parityOf, byteOf, wordVerdict, wordsVerdict}
+use Rattle.anc.proofs.Words.{bits-accepted, bytes-bytes, words-accepted, accepted-words}
 
 -- the words from index i up to index to
 abbrev pub judged : List ℕ → ℕ → ℕ → Verdict
@@ -25,6 +25,11 @@ module _ (ws : List ℕ) (to i : ℕ) where
   judged-next more inside =
       ap (wordsVerdict i) (part-cons ws 0 i to more inside)
       ∙ ap (λ (k : ℕ). andThen (wordVerdict i (getD ws i 0)) (wordsVerdict k (part (i + 1) to ws))) (sym (add-one i))
+
+  -- where that is a byte's word, they decide alone
+  pub judged-right : i < to → i < length ws → getD ws i 0 / 256 + parityOf (byteOf (getD ws i 0)) ≡ 2 → judged ws to i ≡ judged ws to (i + 1)
+  judged-right more inside two =
+      judged-next more inside ∙ ap (λ (v : Verdict). andThen v (judged ws to (i + 1))) (bits-accepted i (getD ws i 0) two)
 
   -- behind the last word there is none
   pub judged-past : length ws ≤ i → judged ws to i ≡ Accepted

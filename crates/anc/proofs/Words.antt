@@ -1,6 +1,6 @@
 -- The words of bytes hold these bytes, and the checks accept them and no others; a CS word passes its own check.
 -- Assumes nothing.
-use Prim.Native.Nat.{ℕ, suc, _+_, _/_, _%_, _≤_, _<_}
+use Prim.Native.Nat.{ℕ, suc, _+_, _-_, _*_, _/_, _%_, _≤_, _<_}
 use native.Mathlib.Omega.{arith}
 use native.Mathlib.Nat.{mod-lt}
 use mathlib.Core.Path.{_≡_, _∙_, ap, ap₂, refl, sym}
@@ -9,12 +9,15 @@ use mathlib.Core.List.{List, [], _∷_, map}
 use lib.Dec.{eqb, ltb}
 use borrow.Author.Tests.{eq-eqb, eqb-false, ne-eqb, le-ltb}
 use Rattle.lists.specs.Bytes.{Bytes}
+use Rattle.lists.specs.Sum.{sum}
+use Rattle.lists.proofs.Sum as sums
 use Rattle.refusal.specs.declared.Verdict.the-variants.{Accepted}
 use Rattle.refusal.specs.declared.Reason.the-variants.{WordRange, WordParity}
 use Rattle.refusal.specs.declared.Item.the-variants.{Word}
 use Rattle.refusal.specs.Checks.{refuseIf, andThen}
 use Rattle.refusal.proofs.Checks.{accepted-refuseIf, accepted-andThen, andThen-accepted, accepted-equal, accepted-within}
 use Rattle.anc.specs.Words.{parityOf, wordOf, byteOf, wordVerdict, wordsVerdict, nineBitSum, checksumOf, sumVerdict}
+use Rattle.anc.specs.Inside.{csOf}
 
 -- a parity is a bit
 pub parity-low : (b : ℕ) → parityOf b < 2
@@ -109,3 +112,8 @@ pub checksum-holds : (ws : List ℕ)
     → (checksumOf ws % 512 ≡ nineBitSum ws) × (checksumOf ws / 512 + checksumOf ws / 256 % 2 ≡ 1)
 unfolding checksumOf nineBitSum
 checksum-holds ws = (omega arith, omega arith)
+
+-- CS of words is that of their sum modulo 65,536
+pub checksum-sum : (ws : List ℕ) → checksumOf ws ≡ csOf (sum ws % 65536)
+unfolding checksumOf nineBitSum csOf
+checksum-sum ws = ap (λ (s : ℕ). s + 512 * (1 - s / 256)) (sym (sums.sum-low 512 128 ws))

@@ -6,7 +6,7 @@ ghost use Prim.Native.Nat.{_%_, _<_};
 ghost use Rattle.lists.specs.Part.{part};
 ghost use Rattle.lists.specs.Sum.{sum as Sum·sum};
 ghost use Rattle.anc.specs.Words.{parityOf, wordOf, wordVerdict, wordsVerdict, sumVerdict, checksumOf};
-ghost use Rattle.anc.specs.Inside.{Vouches};
+ghost use Rattle.anc.specs.Inside.{Vouches, VouchesSum, csOf};
 use refusal::Item;
 use refusal::Reason;
 use refusal::Verdict;
@@ -47,6 +47,31 @@ fn are_words(words: &[u16], from: usize, to: usize) -> bool
         i += 1;
     }
     clean
+}
+
+// The sum of words, modulo 65,536, if each is a byte's word: both in one walk. 65,536 is a no, and where it answers that, none may be wrong.
+pub fn clean_sum(words: &[u16], from: usize, to: usize) -> u32
+    ensures { λ r. ⌜ VouchesSum from (part from to (now (words .entry))) r ⌝ }
+{
+    if words.len() < to {
+        return 65536;
+    }
+    let mut clean = true;
+    let mut total: u16 = 0;
+    let mut i = from;
+    while i < to {
+        let w = words[i];
+        // As in `are_words`.
+        if w / 256 + parity(w % 256) != 2 {
+            clean = false;
+        }
+        total = std::num::wrapping_add_u16(total, w);
+        i += 1;
+    }
+    if clean {
+        return total as u32;
+    }
+    65536
 }
 
 // The parity of a byte, in the width of a word.
@@ -126,8 +151,15 @@ pub fn judge_sum(w: u16, place: usize) -> Verdict
 pub fn checksum(words: &[u16]) -> u16
     ensures { λ r. ⌜ r ≡ checksumOf (now (words .entry)) ⌝ }
 {
-    let sum = sum(words) % 512;
-    sum + 512 * (1 - sum / 256)
+    cs(sum(words))
+}
+
+// The CS word of a sum of words, which may be taken modulo any multiple of 512.
+pub fn cs(sum: u16) -> u16
+    ensures { λ r. ⌜ r ≡ csOf sum ⌝ }
+{
+    let low = sum % 512;
+    low + 512 * (1 - low / 256)
 }
 
 // The sum of words, modulo 65,536. 512 and 256 divide that, so that the sums of their low nine bits and of their bytes follow.

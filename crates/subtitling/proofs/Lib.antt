@@ -3,6 +3,7 @@ pub mod Rows
 pub mod Accepted
 pub mod Sequence
 pub mod Packets
+pub mod Vouched
 pub mod Back
 pub mod Held
 pub mod HeldStructures

@@ -73,27 +73,27 @@ three-first s h =
     drop-cons s 0 0 (omega arith)
     ∙ ap (λ (r : List ℕ). getD s 0 0 ∷ r) (drop-cons s 1 0 (omega arith) ∙ ap (λ (r : List ℕ). getD s 1 0 ∷ r) (drop-cons s 2 0 (omega arith)))
 
+-- the covered words: DID, SDID, DC, and the user words
+pub covered-cons : (s : List ℕ) → 20 ≤ length s → coveredIn s ≡ getD s 3 0 ∷ getD s 4 0 ∷ getD s 5 0 ∷ part 6 (length s - 1) s
+covered-cons s long =
+    let to = length s - 1 in
+    part-cons s 0 3 to (omega arith) (omega arith)
+    ∙ ap (λ (r : List ℕ). getD s 3 0 ∷ r)
+    (part-cons s 0 4 to (omega arith) (omega arith) ∙ ap (λ (r : List ℕ). getD s 4 0 ∷ r) (part-cons s 0 5 to (omega arith) (omega arith)))
+
 module _ (s : List ℕ) (whole : Whole s) where
   begun : s ≡ 0x000 ∷ 0x3FF ∷ 0x3FF ∷ drop 3 s
   begun =
       let three : 3 ≤ length s = omega (arith, whole .form .long) in
       three-first s three ∙ (λ i. whole .form .flag0 i ∷ whole .form .flag1 i ∷ whole .form .flag2 i ∷ drop 3 s)
 
-  -- the covered words, and the bytes that they hold
-  covered-cons : coveredIn s ≡ getD s 3 0 ∷ getD s 4 0 ∷ getD s 5 0 ∷ part 6 (length s - 1) s
-  covered-cons =
-      let to = length s - 1 in
-      part-cons s 0 3 to (omega (arith, whole .form .long)) (omega (arith, whole .form .long))
-      ∙ ap (λ (r : List ℕ). getD s 3 0 ∷ r)
-      (part-cons s 0 4 to (omega (arith, whole .form .long)) (omega (arith, whole .form .long))
-      ∙ ap (λ (r : List ℕ). getD s 4 0 ∷ r) (part-cons s 0 5 to (omega (arith, whole .form .long)) (omega (arith, whole .form .long))))
-
+  -- the bytes that the covered words hold
   covered-bytes : map byteOf (coveredIn s) ≡ 0x43 ∷ 0x02 ∷ length (userIn s) ∷ userIn s
   covered-bytes =
       let did : byteOf (getD s 3 0) ≡ 0x43 = ap byteOf (whole .header .did) in
       let sdid : byteOf (getD s 4 0) ≡ 0x02 = ap byteOf (whole .header .sdid) in
       let dc : byteOf (getD s 5 0) ≡ length (userIn s) = whole .header .dc ∙ sym (length-userIn s (whole .form .long)) in
-      ap (map byteOf) covered-cons ∙ (λ i. did i ∷ sdid i ∷ dc i ∷ userIn s)
+      ap (map byteOf) (covered-cons s (whole .form .long)) ∙ (λ i. did i ∷ sdid i ∷ dc i ∷ userIn s)
 
   user-covered : covered (userIn s) ≡ coveredIn s
   user-covered = ap (map wordOf) (sym covered-bytes) ∙ accepted-words 3 (coveredIn s) (whole .form .words)

@@ -2,16 +2,14 @@
 -- Assumes nothing.
 use Prim.Native.Nat.{_+_, _-_, _/_, _<_}
 use native.Mathlib.Omega.{arith}
-use mathlib.Core.Path.{_≡_, _∙_, ap, sym, refl}
+use mathlib.Core.Path.{_≡_, _∙_, sym, refl}
 use mathlib.Core.Logic.{⊎-elim}
 use mathlib.Core.Bool.{true, false≢true}
 use denote.Ref.{now}
 use lib.ListN.{length, getD}
-use Rattle.refusal.specs.declared.Verdict.{Verdict}
-use Rattle.refusal.specs.Checks.{andThen}
 use Rattle.anc.specs.Words.{parityOf, byteOf}
-use Rattle.anc.proofs.Words.{parity-low, bits-accepted}
-use Rattle.anc.proofs.Judged.{judged, judged-next, judged-none}
+use Rattle.anc.proofs.Words.{parity-low}
+use Rattle.anc.proofs.Judged.{judged, judged-right, judged-none}
 use Rattle.anc.proofs.are_words.Statement.{statement}
 use Rattle.anc.proofs.are_words.Tie as tie
 
@@ -41,9 +39,7 @@ loop-again c =
     (λ came is. absurd (false≢true (sym (came .1) ∙ is)))
     (λ came is.
     let two : w / 256 + parityOf (byteOf w) ≡ 2 = omega (arith, came .0 .left, c .before .parity .ensures) in
-    turn .before .loop .inv (sym (came .1) ∙ is)
-    ∙ judged-next words to i (turn .loop-test .taken) inside
-    ∙ ap (λ (v : Verdict). andThen v (judged words to (i + 1))) (bits-accepted i w two))
+    turn .before .loop .inv (sym (came .1) ∙ is) ∙ judged-right words to i (turn .loop-test .taken) inside two)
     (c .if2 .came)
 
 -- all words were looked at
