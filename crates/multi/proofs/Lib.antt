@@ -3,6 +3,7 @@ pub mod Inner
 pub mod Inners
 pub mod Frame
 pub mod Whole
+pub mod Clean
 pub mod Lending
 pub mod Answers
 pub mod Accepting
