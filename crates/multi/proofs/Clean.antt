@@ -175,12 +175,15 @@ module _ (s : List ℕ) (end at : ℕ) where
   word-in : (i : ℕ) → at + i < end → getD (drop at (take end s)) i 0 ≡ getD s (at + i) 0
   word-in i h = getD-drop at (take end s) i 0 ∙ getD-take end s (at + i) 0 h
 
+  pub word-part : (i : ℕ) → at + i < end → getD (part at end s) i 0 ≡ getD s (at + i) 0
+  word-part i h = ap (λ (u : List ℕ). getD u i 0) (part-front at end s) ∙ word-in i h
+
   -- an inner packet that is all there ends before CS
   pub inner-inside : (n : ℕ) → end ≤ length s → Sums (part at end s) n → (at + 4 ≤ end) × (at + 5 + byteOf (getD s (at + 3) 0) ≤ end)
   inner-inside n fits sums =
       let size = length-part s at end fits in
       let header : at + 4 ≤ end = omega (arith, size, sums .header) in
-      let word : getD (part at end s) 3 0 ≡ getD s (at + 3) 0 = ap (λ (u : List ℕ). getD u 3 0) (part-front at end s) ∙ word-in 3 (omega (arith, header)) in
+      let word = word-part 3 (omega (arith, header)) in
       (header, omega (arith, size, sums .long, word))
 
 -- at a turn: the sum so far, and the strays

@@ -5,6 +5,7 @@ pub mod Frame
 pub mod Whole
 pub mod Clean
 pub mod Lending
+pub mod Walk
 pub mod Answers
 pub mod Accepting
 pub mod Writable

@@ -14,7 +14,8 @@ use Rattle.refusal.specs.Checks.{first}
 use Rattle.anc.specs.Words.{parityOf, wordOf, byteOf, checksumOf}
 use Rattle.sdp.specs.User.{userVerdict}
 use Rattle.multi.specs.Order.{subtitlingId, onlyIf, bytesIn, ncsAt, sizeIn, innersIn, coveredIn, lastWord, innerChecks, outerChecks}
-use Rattle.multi.specs.Reading.{innerVerdict, innersVerdict, multiVerdict}
+use Rattle.multi.specs.Value.{Inner}
+use Rattle.multi.specs.Reading.{innerVerdict, innersVerdict, multiVerdict, readInners}
 
 -- the checks of `outerChecks` up to 11, and those behind
 unfoldable pub outerForm : List ℕ → Verdict
@@ -33,6 +34,10 @@ innerRules at u = first (drop 4 (innerChecks at u))
 -- the rules over the user words, where the identifiers ask for them
 abbrev pub ownVerdict : ℕ → List ℕ → Verdict
 ownVerdict at u = onlyIf (subtitlingId (byteOf (getD u 1 0)) (byteOf (getD u 2 0))) (userVerdict (at + 3) (bytesIn u))
+
+-- the inner packets of a multipacket from word `at` on, up to CS
+abbrev pub innersFrom : ℕ → List ℕ → List Inner
+innersFrom at s = readInners (length (part at (length s - 1) s)) (part at (length s - 1) s)
 
 -- the words of the inner packets that heads tell of, by their counts
 abbrev pub headsWords : List (List ℕ) → ℕ
