@@ -51,7 +51,7 @@ fn put_heads(words: &[u16], at: usize, i: usize, heads: &mut [[u16; HEAD]; MAX_I
 {
     let count = words[at + 3] % 256;
     let next = at + INNER_WORDS + count as usize;
-    let line_field = word_at(words, at);
+    let line_field = words[at];
     heads[i] = [
         line_field % 32,
         line_field / 32 % 2,
@@ -64,16 +64,6 @@ fn put_heads(words: &[u16], at: usize, i: usize, heads: &mut [[u16; HEAD]; MAX_I
         return put_heads(words, next, i + 1, heads);
     }
     i + 1
-}
-
-// The word at index i, or 0 where there is none.
-fn word_at(words: &[u16], i: usize) -> u16
-    ensures { λ r. ⌜ r ≡ getD (now (words .entry)) i 0 ⌝ }
-{
-    if words.len() <= i {
-        return 0;
-    }
-    words[i]
 }
 
 // Hands out inner packet i, from LINE/FIELD to NCS: no words where there is no such, and where the multipacket is refused.

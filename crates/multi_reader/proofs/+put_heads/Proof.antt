@@ -1,11 +1,11 @@
 -- `multi_reader::put_heads` meets its contract. The measure is the number of words that are left.
 -- Assumes nothing.
-use Prim.Native.Nat.{ℕ, _+_, _-_, _%_, _≤_, _<_}
+use Prim.Native.Nat.{ℕ, _+_, _-_, _%_, _<_}
 use native.Mathlib.Omega.{arith}
-use mathlib.Core.Path.{_≡_, _∙_, ap, ap₂, sym}
-use mathlib.Core.List.{List, [], _∷_}
+use mathlib.Core.Path.{_∙_, ap, sym}
+use mathlib.Core.List.{List, _∷_}
 use denote.Ref.{now}
-use lib.ListN.{length, getD, set, length-set}
+use lib.ListN.{length, getD, length-set}
 use Rattle.lists.specs.Room.{overAt}
 use Rattle.multi.specs.Value.{Inner}
 use Rattle.multi.specs.Lent.{headsOf}
@@ -16,7 +16,6 @@ use borrow.Fn.PlainCycle.{Measures, is, falls, and}
 use Rattle.multi_reader.proofs.put_heads.Reads as put-heads
 use Rattle.multi_reader.proofs.put_heads.Kinds as put-heads-kinds
 use Rattle.multi_reader.proofs.+put_heads.Lts-put_heads as put-heads-lts
-use Rattle.multi_reader.proofs.word_at.Reads as word-at-reads
 use Rattle.multi_reader.proofs.+put_heads.{statement}
 use Rattle.multi_reader.proofs.+put_heads.Tie.{close}
 
@@ -30,41 +29,35 @@ abbrev put-heads-below : ℕ → In 2 put-heads-kinds.ps
 put-heads-below t =
     and 2 put-heads-kinds.ps (falls 2 put-heads-kinds.ps _<_ μ-put-heads t) put-heads.Pre
 
-put-heads-add-count : (t : ℕ) → put-heads-lts.Need-add-count (
-  word-at-reads.Asked,
-  word-at-reads.Learnt,
-  put-heads-below t,
-  put-heads.Post,
-) (put-heads-at t) put-heads.Post
+put-heads-add-count :
+    (t : ℕ) →
+    put-heads-lts.Need-add-count
+    (put-heads-below t, put-heads.Post)
+    (put-heads-at t)
+    put-heads.Post
 put-heads-add-count t c =
     let start = c .before in
     let words = now (start .args .words) in
     let at = start .args .at in
-    let heads = now (start .args .heads) in
     let h = header-in words at (start .pre .1 .0 .1) (start .pre .1 .1 .0) in
     let n = next-in words at (start .pre .1 .0 .1) (start .pre .1 .1 .0) in
-    let k = count-next words at (start .pre .1 .0 .1) (start .pre .1 .1 .0) in
     omega (arith, h, n, start .pre .1 .0 .0)
 
-put-heads-mul-count : (t : ℕ) → put-heads-lts.Need-mul-count (
-  word-at-reads.Asked,
-  word-at-reads.Learnt,
-  put-heads-below t,
-  put-heads.Post,
-) (put-heads-at t) put-heads.Post
+put-heads-mul-count :
+    (t : ℕ) →
+    put-heads-lts.Need-mul-count
+    (put-heads-below t, put-heads.Post)
+    (put-heads-at t)
+    put-heads.Post
 put-heads-mul-count t c =
     let start = c .before in
     let words = now (start .args .words) in
     let at = start .args .at in
-    let heads = now (start .args .heads) in
     let h = header-in words at (start .pre .1 .0 .1) (start .pre .1 .1 .0) in
     let n = next-in words at (start .pre .1 .0 .1) (start .pre .1 .1 .0) in
-    let k = count-next words at (start .pre .1 .0 .1) (start .pre .1 .1 .0) in
     omega (arith, h, n, start .pre .1 .0 .0)
 
 put-heads-shared-slice-read-count : (t : ℕ) → put-heads-lts.Need-shared-slice-read-count (
-  word-at-reads.Asked,
-  word-at-reads.Learnt,
   put-heads-below t,
   put-heads.Post,
 ) (put-heads-at t) put-heads.Post
@@ -72,215 +65,180 @@ put-heads-shared-slice-read-count t c =
     let start = c .before .before in
     let words = now (start .args .words) in
     let at = start .args .at in
-    let heads = now (start .args .heads) in
     let h = header-in words at (start .pre .1 .0 .1) (start .pre .1 .1 .0) in
     let n = next-in words at (start .pre .1 .0 .1) (start .pre .1 .1 .0) in
-    let k = count-next words at (start .pre .1 .0 .1) (start .pre .1 .1 .0) in
     omega (arith, h, n, start .pre .1 .0 .0)
 
-put-heads-add-next : (t : ℕ) → put-heads-lts.Need-add-next (
-  word-at-reads.Asked,
-  word-at-reads.Learnt,
-  put-heads-below t,
-  put-heads.Post,
-) (put-heads-at t) put-heads.Post
+put-heads-add-next :
+    (t : ℕ) →
+    put-heads-lts.Need-add-next
+    (put-heads-below t, put-heads.Post)
+    (put-heads-at t)
+    put-heads.Post
 put-heads-add-next t c =
     let start = c .before .before in
     let words = now (start .args .words) in
     let at = start .args .at in
-    let heads = now (start .args .heads) in
     let h = header-in words at (start .pre .1 .0 .1) (start .pre .1 .1 .0) in
     let n = next-in words at (start .pre .1 .0 .1) (start .pre .1 .1 .0) in
-    let k = count-next words at (start .pre .1 .0 .1) (start .pre .1 .1 .0) in
     omega (arith, h, n, start .pre .1 .0 .0)
 
-put-heads-cast-next : (t : ℕ) → put-heads-lts.Need-cast-next (
-  word-at-reads.Asked,
-  word-at-reads.Learnt,
-  put-heads-below t,
-  put-heads.Post,
-) (put-heads-at t) put-heads.Post
+put-heads-cast-next :
+    (t : ℕ) →
+    put-heads-lts.Need-cast-next
+    (put-heads-below t, put-heads.Post)
+    (put-heads-at t)
+    put-heads.Post
 put-heads-cast-next t c =
     let start = c .before .before in
     let words = now (start .args .words) in
     let at = start .args .at in
-    let heads = now (start .args .heads) in
     let h = header-in words at (start .pre .1 .0 .1) (start .pre .1 .1 .0) in
     let n = next-in words at (start .pre .1 .0 .1) (start .pre .1 .1 .0) in
-    let k = count-next words at (start .pre .1 .0 .1) (start .pre .1 .1 .0) in
     omega (arith, h, n, start .pre .1 .0 .0)
 
-put-heads-add-next-2 : (t : ℕ) → put-heads-lts.Need-add-next-2 (
-  word-at-reads.Asked,
-  word-at-reads.Learnt,
-  put-heads-below t,
-  put-heads.Post,
-) (put-heads-at t) put-heads.Post
+put-heads-add-next-2 :
+    (t : ℕ) →
+    put-heads-lts.Need-add-next-2
+    (put-heads-below t, put-heads.Post)
+    (put-heads-at t)
+    put-heads.Post
 put-heads-add-next-2 t c =
     let start = c .before .before in
     let words = now (start .args .words) in
     let at = start .args .at in
-    let heads = now (start .args .heads) in
     let h = header-in words at (start .pre .1 .0 .1) (start .pre .1 .1 .0) in
     let n = next-in words at (start .pre .1 .0 .1) (start .pre .1 .1 .0) in
-    let k = count-next words at (start .pre .1 .0 .1) (start .pre .1 .1 .0) in
     omega (arith, h, n, start .pre .1 .0 .0)
 
-put-heads-word-at-requires : (t : ℕ) → put-heads-lts.Need-word-at-requires (
-  word-at-reads.Asked,
-  word-at-reads.Learnt,
+put-heads-mul-line-field : (t : ℕ) → put-heads-lts.Need-mul-line-field (
   put-heads-below t,
   put-heads.Post,
 ) (put-heads-at t) put-heads.Post
-put-heads-word-at-requires t c κs = omega arith
+put-heads-mul-line-field t c =
+    let start = c .before .before in
+    let words = now (start .args .words) in
+    let at = start .args .at in
+    let h = header-in words at (start .pre .1 .0 .1) (start .pre .1 .1 .0) in
+    let n = next-in words at (start .pre .1 .0 .1) (start .pre .1 .1 .0) in
+    omega (arith, h, n, start .pre .1 .0 .0)
 
-put-heads-add-t9 : (t : ℕ) → put-heads-lts.Need-add-t9 (
-  word-at-reads.Asked,
-  word-at-reads.Learnt,
+put-heads-shared-slice-read-line-field : (t : ℕ) → put-heads-lts.Need-shared-slice-read-line-field (
   put-heads-below t,
   put-heads.Post,
 ) (put-heads-at t) put-heads.Post
+put-heads-shared-slice-read-line-field t c =
+    let start = c .before .before .before in
+    let words = now (start .args .words) in
+    let at = start .args .at in
+    let h = header-in words at (start .pre .1 .0 .1) (start .pre .1 .1 .0) in
+    let n = next-in words at (start .pre .1 .0 .1) (start .pre .1 .1 .0) in
+    omega (arith, h, n, start .pre .1 .0 .0)
+
+put-heads-add-t9 :
+    (t : ℕ) →
+    put-heads-lts.Need-add-t9 (put-heads-below t, put-heads.Post) (put-heads-at t) put-heads.Post
 put-heads-add-t9 t c =
     let start = c .before .before .before in
     let words = now (start .args .words) in
     let at = start .args .at in
-    let heads = now (start .args .heads) in
     let h = header-in words at (start .pre .1 .0 .1) (start .pre .1 .1 .0) in
     let n = next-in words at (start .pre .1 .0 .1) (start .pre .1 .1 .0) in
-    let k = count-next words at (start .pre .1 .0 .1) (start .pre .1 .1 .0) in
     omega (arith, h, n, start .pre .1 .0 .0)
 
-put-heads-mul-t8 : (t : ℕ) → put-heads-lts.Need-mul-t8 (
-  word-at-reads.Asked,
-  word-at-reads.Learnt,
-  put-heads-below t,
-  put-heads.Post,
-) (put-heads-at t) put-heads.Post
+put-heads-mul-t8 :
+    (t : ℕ) →
+    put-heads-lts.Need-mul-t8 (put-heads-below t, put-heads.Post) (put-heads-at t) put-heads.Post
 put-heads-mul-t8 t c =
     let start = c .before .before .before in
     let words = now (start .args .words) in
     let at = start .args .at in
-    let heads = now (start .args .heads) in
     let h = header-in words at (start .pre .1 .0 .1) (start .pre .1 .1 .0) in
     let n = next-in words at (start .pre .1 .0 .1) (start .pre .1 .1 .0) in
-    let k = count-next words at (start .pre .1 .0 .1) (start .pre .1 .1 .0) in
     omega (arith, h, n, start .pre .1 .0 .0)
 
-put-heads-shared-slice-read-t15 : (t : ℕ) → put-heads-lts.Need-shared-slice-read-t15 (
-  word-at-reads.Asked,
-  word-at-reads.Learnt,
+put-heads-shared-slice-read-t16 : (t : ℕ) → put-heads-lts.Need-shared-slice-read-t16 (
   put-heads-below t,
   put-heads.Post,
 ) (put-heads-at t) put-heads.Post
-put-heads-shared-slice-read-t15 t c =
+put-heads-shared-slice-read-t16 t c =
     let start = c .before .before .before .before in
     let words = now (start .args .words) in
     let at = start .args .at in
-    let heads = now (start .args .heads) in
     let h = header-in words at (start .pre .1 .0 .1) (start .pre .1 .1 .0) in
     let n = next-in words at (start .pre .1 .0 .1) (start .pre .1 .1 .0) in
-    let k = count-next words at (start .pre .1 .0 .1) (start .pre .1 .1 .0) in
     omega (arith, h, n, start .pre .1 .0 .0)
 
-put-heads-add-t17 : (t : ℕ) → put-heads-lts.Need-add-t17 (
-  word-at-reads.Asked,
-  word-at-reads.Learnt,
-  put-heads-below t,
-  put-heads.Post,
-) (put-heads-at t) put-heads.Post
-put-heads-add-t17 t c =
+put-heads-add-t18 :
+    (t : ℕ) →
+    put-heads-lts.Need-add-t18 (put-heads-below t, put-heads.Post) (put-heads-at t) put-heads.Post
+put-heads-add-t18 t c =
     let start = c .before .before .before .before in
     let words = now (start .args .words) in
     let at = start .args .at in
-    let heads = now (start .args .heads) in
     let h = header-in words at (start .pre .1 .0 .1) (start .pre .1 .1 .0) in
     let n = next-in words at (start .pre .1 .0 .1) (start .pre .1 .1 .0) in
-    let k = count-next words at (start .pre .1 .0 .1) (start .pre .1 .1 .0) in
     omega (arith, h, n, start .pre .1 .0 .0)
 
-put-heads-mul-t18 : (t : ℕ) → put-heads-lts.Need-mul-t18 (
-  word-at-reads.Asked,
-  word-at-reads.Learnt,
-  put-heads-below t,
-  put-heads.Post,
-) (put-heads-at t) put-heads.Post
-put-heads-mul-t18 t c =
+put-heads-mul-t19 :
+    (t : ℕ) →
+    put-heads-lts.Need-mul-t19 (put-heads-below t, put-heads.Post) (put-heads-at t) put-heads.Post
+put-heads-mul-t19 t c =
     let start = c .before .before .before .before in
     let words = now (start .args .words) in
     let at = start .args .at in
-    let heads = now (start .args .heads) in
     let h = header-in words at (start .pre .1 .0 .1) (start .pre .1 .1 .0) in
     let n = next-in words at (start .pre .1 .0 .1) (start .pre .1 .1 .0) in
-    let k = count-next words at (start .pre .1 .0 .1) (start .pre .1 .1 .0) in
     omega (arith, h, n, start .pre .1 .0 .0)
 
-put-heads-shared-slice-read-t20 : (t : ℕ) → put-heads-lts.Need-shared-slice-read-t20 (
-  word-at-reads.Asked,
-  word-at-reads.Learnt,
+put-heads-shared-slice-read-t21 : (t : ℕ) → put-heads-lts.Need-shared-slice-read-t21 (
   put-heads-below t,
   put-heads.Post,
 ) (put-heads-at t) put-heads.Post
-put-heads-shared-slice-read-t20 t c =
+put-heads-shared-slice-read-t21 t c =
     let start = c .before .before .before .before .before in
     let words = now (start .args .words) in
     let at = start .args .at in
-    let heads = now (start .args .heads) in
     let h = header-in words at (start .pre .1 .0 .1) (start .pre .1 .1 .0) in
     let n = next-in words at (start .pre .1 .0 .1) (start .pre .1 .1 .0) in
-    let k = count-next words at (start .pre .1 .0 .1) (start .pre .1 .1 .0) in
     omega (arith, h, n, start .pre .1 .0 .0)
 
-put-heads-cast-t22 : (t : ℕ) → put-heads-lts.Need-cast-t22 (
-  word-at-reads.Asked,
-  word-at-reads.Learnt,
-  put-heads-below t,
-  put-heads.Post,
-) (put-heads-at t) put-heads.Post
-put-heads-cast-t22 t c =
+put-heads-cast-t23 :
+    (t : ℕ) →
+    put-heads-lts.Need-cast-t23
+    (put-heads-below t, put-heads.Post)
+    (put-heads-at t)
+    put-heads.Post
+put-heads-cast-t23 t c =
     let start = c .before .before .before .before .before in
     let words = now (start .args .words) in
     let at = start .args .at in
-    let heads = now (start .args .heads) in
     let h = header-in words at (start .pre .1 .0 .1) (start .pre .1 .1 .0) in
     let n = next-in words at (start .pre .1 .0 .1) (start .pre .1 .1 .0) in
-    let k = count-next words at (start .pre .1 .0 .1) (start .pre .1 .1 .0) in
     omega (arith, h, n, start .pre .1 .0 .0)
 
-put-heads-add-t23 : (t : ℕ) → put-heads-lts.Need-add-t23 (
-  word-at-reads.Asked,
-  word-at-reads.Learnt,
-  put-heads-below t,
-  put-heads.Post,
-) (put-heads-at t) put-heads.Post
-put-heads-add-t23 t c =
+put-heads-add-t24 :
+    (t : ℕ) →
+    put-heads-lts.Need-add-t24 (put-heads-below t, put-heads.Post) (put-heads-at t) put-heads.Post
+put-heads-add-t24 t c =
     let start = c .before .before .before .before .before in
     let words = now (start .args .words) in
     let at = start .args .at in
-    let heads = now (start .args .heads) in
     let h = header-in words at (start .pre .1 .0 .1) (start .pre .1 .1 .0) in
     let n = next-in words at (start .pre .1 .0 .1) (start .pre .1 .1 .0) in
-    let k = count-next words at (start .pre .1 .0 .1) (start .pre .1 .1 .0) in
     omega (arith, h, n, start .pre .1 .0 .0)
 
-put-heads-mul-t25 : (t : ℕ) → put-heads-lts.Need-mul-t25 (
-  word-at-reads.Asked,
-  word-at-reads.Learnt,
-  put-heads-below t,
-  put-heads.Post,
-) (put-heads-at t) put-heads.Post
-put-heads-mul-t25 t c =
+put-heads-mul-t26 :
+    (t : ℕ) →
+    put-heads-lts.Need-mul-t26 (put-heads-below t, put-heads.Post) (put-heads-at t) put-heads.Post
+put-heads-mul-t26 t c =
     let start = c .before .before .before .before .before in
     let words = now (start .args .words) in
     let at = start .args .at in
-    let heads = now (start .args .heads) in
-    let h = header-in words at (start .pre .1 .0 .1) (start .pre .1 .1 .0) in
-    let n = next-in words at (start .pre .1 .0 .1) (start .pre .1 .1 .0) in
     let k = count-next words at (start .pre .1 .0 .1) (start .pre .1 .1 .0) in
     omega (arith, k, start .pre .1 .1 .1 .1)
 
 put-heads-element-set-from-heads : (t : ℕ) → put-heads-lts.Need-element-set-from-heads (
-  word-at-reads.Asked,
-  word-at-reads.Learnt,
   put-heads-below t,
   put-heads.Post,
 ) (put-heads-at t) put-heads.Post
@@ -288,31 +246,21 @@ put-heads-element-set-from-heads t c =
     let start = c .before .before .before .before .before in
     let words = now (start .args .words) in
     let at = start .args .at in
-    let heads = now (start .args .heads) in
-    let h = header-in words at (start .pre .1 .0 .1) (start .pre .1 .1 .0) in
-    let n = next-in words at (start .pre .1 .0 .1) (start .pre .1 .1 .0) in
     let k = count-next words at (start .pre .1 .0 .1) (start .pre .1 .1 .0) in
     omega (arith, k, start .pre .1 .1 .1 .1)
 
-put-heads-add-if1 : (t : ℕ) → put-heads-lts.Need-add-if1 (
-  word-at-reads.Asked,
-  word-at-reads.Learnt,
-  put-heads-below t,
-  put-heads.Post,
-) (put-heads-at t) put-heads.Post
+put-heads-add-if1 :
+    (t : ℕ) →
+    put-heads-lts.Need-add-if1 (put-heads-below t, put-heads.Post) (put-heads-at t) put-heads.Post
 put-heads-add-if1 t c =
     let start = c .before .before .before .before .before in
     let words = now (start .args .words) in
     let at = start .args .at in
-    let heads = now (start .args .heads) in
     let h = header-in words at (start .pre .1 .0 .1) (start .pre .1 .1 .0) in
     let n = next-in words at (start .pre .1 .0 .1) (start .pre .1 .1 .0) in
-    let k = count-next words at (start .pre .1 .0 .1) (start .pre .1 .1 .0) in
     omega (arith, h, n, start .pre .1 .0 .0)
 
 put-heads-add-put-heads : (t : ℕ) → put-heads-lts.Need-add-put-heads (
-  word-at-reads.Asked,
-  word-at-reads.Learnt,
   put-heads-below t,
   put-heads.Post,
 ) (put-heads-at t) put-heads.Post
@@ -320,15 +268,10 @@ put-heads-add-put-heads t c =
     let start = c .before .before .before .before .before .before in
     let words = now (start .args .words) in
     let at = start .args .at in
-    let heads = now (start .args .heads) in
-    let h = header-in words at (start .pre .1 .0 .1) (start .pre .1 .1 .0) in
-    let n = next-in words at (start .pre .1 .0 .1) (start .pre .1 .1 .0) in
     let k = count-next words at (start .pre .1 .0 .1) (start .pre .1 .1 .0) in
     omega (arith, k, start .pre .1 .1 .1 .1)
 
 put-heads-put-heads-requires : (t : ℕ) → put-heads-lts.Need-put-heads-requires (
-  word-at-reads.Asked,
-  word-at-reads.Learnt,
   put-heads-below t,
   put-heads.Post,
 ) (put-heads-at t) put-heads.Post
@@ -338,7 +281,6 @@ put-heads-put-heads-requires t c κs =
     let at = start .args .at in
     let heads = now (start .args .heads) in
     let h = header-in words at (start .pre .1 .0 .1) (start .pre .1 .1 .0) in
-    let n = next-in words at (start .pre .1 .0 .1) (start .pre .1 .1 .0) in
     let k = count-next words at (start .pre .1 .0 .1) (start .pre .1 .1 .0) in
     let more = next-accepted words at (start .pre .1 .0 .1) (start .pre .1 .1 .0) in
     let past = c .before in (
@@ -349,84 +291,66 @@ put-heads-put-heads-requires t c κs =
       ),
     )
 
-put-heads-returns : (t : ℕ) → put-heads-lts.Need-returns (
-  word-at-reads.Asked,
-  word-at-reads.Learnt,
-  put-heads-below t,
-  put-heads.Post,
-) (put-heads-at t) put-heads.Post
+put-heads-returns :
+    (t : ℕ) →
+    put-heads-lts.Need-returns (put-heads-below t, put-heads.Post) (put-heads-at t) put-heads.Post
 put-heads-returns t c =
     let start = c .before .before .before .before .before .before .before .before in
     let words = now (start .args .words) in
     let at = start .args .at in
     let heads = now (start .args .heads) in
-    let h = header-in words at (start .pre .1 .0 .1) (start .pre .1 .1 .0) in
-    let n = next-in words at (start .pre .1 .0 .1) (start .pre .1 .1 .0) in
     let k = count-next words at (start .pre .1 .0 .1) (start .pre .1 .1 .0) in
     let i = start .args .i in
-    let read = c .before .before .before .before .before .word-at in
     let fits : i < length heads = omega (arith, k, start .pre .1 .1 .1) in
     let all = heads-next words at (start .pre .1 .0 .1) (start .pre .1 .1 .0) in
-    let line = ap (λ (w : ℕ). headFrom at w (getD words (at + 1) 0) (getD words (at + 2) 0) (getD words (at + 3) 0)) (read .ensures) in
-    let head = headFrom at (read .result) (getD words (at + 1) 0) (getD words (at + 2) 0) (getD words (at + 3) 0) in
+    let head = headFrom at (getD words at 0) (getD words (at + 1) 0) (getD words (at + 2) 0) (getD words (at + 3) 0) in
     let next = at + 5 + getD words (at + 3) 0 % 256 in
     let more = headsOf next (innersFrom next words) in (
       omega (arith, k, c .put-heads .ensures .0),
-      c .put-heads .ensures .1
-          ∙ stored-more heads i head more fits
-          ∙ sym (ap (λ (hs : List (List ℕ)). overAt i hs heads) (all ∙ ap (λ (p : List ℕ). p ∷ more) (sym line))),
+      c .put-heads .ensures .1 ∙ stored-more heads i head more fits ∙ sym (ap (λ (hs : List (List ℕ)). overAt i hs heads) all),
     )
 
-put-heads-add-result : (t : ℕ) → put-heads-lts.Need-add-result (
-  word-at-reads.Asked,
-  word-at-reads.Learnt,
-  put-heads-below t,
-  put-heads.Post,
-) (put-heads-at t) put-heads.Post
+put-heads-add-result :
+    (t : ℕ) →
+    put-heads-lts.Need-add-result
+    (put-heads-below t, put-heads.Post)
+    (put-heads-at t)
+    put-heads.Post
 put-heads-add-result t c =
     let start = c .before .before .before .before .before .before in
     let words = now (start .args .words) in
     let at = start .args .at in
-    let heads = now (start .args .heads) in
-    let h = header-in words at (start .pre .1 .0 .1) (start .pre .1 .1 .0) in
-    let n = next-in words at (start .pre .1 .0 .1) (start .pre .1 .1 .0) in
     let k = count-next words at (start .pre .1 .0 .1) (start .pre .1 .1 .0) in
     omega (arith, k, start .pre .1 .1 .1 .1)
 
-put-heads-returns-2 : (t : ℕ) → put-heads-lts.Need-returns-2 (
-  word-at-reads.Asked,
-  word-at-reads.Learnt,
-  put-heads-below t,
-  put-heads.Post,
-) (put-heads-at t) put-heads.Post
+put-heads-returns-2 :
+    (t : ℕ) →
+    put-heads-lts.Need-returns-2
+    (put-heads-below t, put-heads.Post)
+    (put-heads-at t)
+    put-heads.Post
 put-heads-returns-2 t c =
     let start = c .before .before .before .before .before .before in
     let words = now (start .args .words) in
     let at = start .args .at in
     let heads = now (start .args .heads) in
-    let h = header-in words at (start .pre .1 .0 .1) (start .pre .1 .1 .0) in
-    let n = next-in words at (start .pre .1 .0 .1) (start .pre .1 .1 .0) in
     let k = count-next words at (start .pre .1 .0 .1) (start .pre .1 .1 .0) in
     let i = start .args .i in
-    let read = c .before .before .before .word-at in
     let fits : i < length heads = omega (arith, k, start .pre .1 .1 .1) in
     let all = heads-next words at (start .pre .1 .0 .1) (start .pre .1 .1 .0) in
-    let none = last-next words at (start .pre .1 .0 .1) (start .pre .1 .1 .0) (omega (arith, c .if1 .left)) in
-    let line = ap (λ (w : ℕ). headFrom at w (getD words (at + 1) 0) (getD words (at + 2) 0) (getD words (at + 3) 0)) (read .ensures) in
-    let head = headFrom at (read .result) (getD words (at + 1) 0) (getD words (at + 2) 0) (getD words (at + 3) 0) in
-    let next = at + 5 + getD words (at + 3) 0 % 256 in (
+    let head = headFrom at (getD words at 0) (getD words (at + 1) 0) (getD words (at + 2) 0) (getD words (at + 3) 0) in
+    let next = at + 5 + getD words (at + 3) 0 % 256 in
+    let none = last-next words at (start .pre .1 .0 .1) (start .pre .1 .1 .0) (omega (arith, c .if1 .left)) in (
       omega (arith, k, ap length none),
-      stored-one heads i head fits
-          ∙ sym (ap (λ (hs : List (List ℕ)). overAt i hs heads) (all ∙ ap₂ (λ (p : List ℕ) (xs : List Inner). p ∷ headsOf next xs) (sym line) none)),
+      stored-one heads i head fits ∙ sym (ap (λ (hs : List (List ℕ)). overAt i hs heads) (all ∙ ap (λ (xs : List Inner). head ∷ headsOf next xs) none)),
     )
 
 pub +put-heads-spec : {M : Type 1} → statement M
-+put-heads-spec = close μ-put-heads λ t. put-heads-lts.spec (
-  word-at-reads.Asked,
-  word-at-reads.Learnt,
-  put-heads-below t,
-  put-heads.Post,
-)
++put-heads-spec =
+    close
+    μ-put-heads
+    λ t. put-heads-lts.spec
+    (put-heads-below t, put-heads.Post)
     (put-heads-at t)
     put-heads.Post
     (put-heads-add-count t)
@@ -435,16 +359,17 @@ pub +put-heads-spec : {M : Type 1} → statement M
     (put-heads-add-next t)
     (put-heads-cast-next t)
     (put-heads-add-next-2 t)
-    (put-heads-word-at-requires t)
+    (put-heads-mul-line-field t)
+    (put-heads-shared-slice-read-line-field t)
     (put-heads-add-t9 t)
     (put-heads-mul-t8 t)
-    (put-heads-shared-slice-read-t15 t)
-    (put-heads-add-t17 t)
-    (put-heads-mul-t18 t)
-    (put-heads-shared-slice-read-t20 t)
-    (put-heads-cast-t22 t)
-    (put-heads-add-t23 t)
-    (put-heads-mul-t25 t)
+    (put-heads-shared-slice-read-t16 t)
+    (put-heads-add-t18 t)
+    (put-heads-mul-t19 t)
+    (put-heads-shared-slice-read-t21 t)
+    (put-heads-cast-t23 t)
+    (put-heads-add-t24 t)
+    (put-heads-mul-t26 t)
     (put-heads-element-set-from-heads t)
     (put-heads-add-if1 t)
     (put-heads-add-put-heads t)
