@@ -3,7 +3,9 @@ pub mod Inner
 pub mod Inners
 pub mod Frame
 pub mod Whole
+pub mod Clean
 pub mod Lending
+pub mod Walk
 pub mod Answers
 pub mod Accepting
 pub mod Writable

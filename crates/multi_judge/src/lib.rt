@@ -22,6 +22,16 @@ use refusal::Verdict;
 pub fn judge(words: &[u16]) -> Verdict
     ensures { λ r. ⌜ r ≡ multiVerdict (now (words .entry)) ⌝ }
 {
+    if multi_clean::is_clean(words) {
+        return Verdict::Accepted;
+    }
+    in_order(words)
+}
+
+// RULES, "Order of checks": which of them refuses, if one does.
+fn in_order(words: &[u16]) -> Verdict
+    ensures { λ r. ⌜ r ≡ multiVerdict (now (words .entry)) ⌝ }
+{
     let form = judge_form(words);
     if let Verdict::Refused(_, _) = form {
         return form;

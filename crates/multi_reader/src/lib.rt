@@ -2,13 +2,15 @@
 //
 // Normative references: docs/RULES.md, "Multipacket"; document 002 (RDD 8), clause 6.
 ghost use mathlib.Core.Path.{_≡_};
-ghost use Prim.Native.Nat.{ℕ, _+_, _≤_, _<_};
+ghost use Prim.Native.Nat.{ℕ, _+_, _-_, _≤_, _<_};
 ghost use mathlib.Core.List.{[]};
 ghost use lib.ListN.{length, getD};
-ghost use Rattle.lists.specs.Room.{over};
+ghost use Rattle.lists.specs.Part.{part};
+ghost use Rattle.lists.specs.Room.{overAt};
 ghost use Rattle.refusal.specs.declared.Verdict.the-variants.{Accepted};
-ghost use Rattle.multi.specs.Reading.{innersVerdict, readInners, cut};
+ghost use Rattle.multi.specs.Reading.{innersVerdict, cut};
 ghost use Rattle.multi.specs.Lent.{headsOf, ReadsInto, Hands};
+ghost use Rattle.multi.specs.Inside.{innersFrom};
 use multi::Answer;
 use multi::HEAD;
 use multi::INNER_WORDS;
@@ -30,7 +32,7 @@ pub fn read_into(words: &[u16], heads: &mut [[u16; HEAD]; MAX_INNERS]) -> Answer
         };
     }
     *heads = [[0; HEAD]; MAX_INNERS];
-    let n = put_heads(&words[INNERS..words.len() - 1], INNERS as u16, heads);
+    let n = put_heads(words, INNERS, 0, heads);
     Answer {
         refusal,
         priority: (words[6] % 256) as u8,
@@ -38,43 +40,30 @@ pub fn read_into(words: &[u16], heads: &mut [[u16; HEAD]; MAX_INNERS]) -> Answer
     }
 }
 
-// Stores the heads of the inner packets, of which the first stands in word `at`, one behind the other, and answers how many there are.
-fn put_heads(rest: &[u16], at: u16, heads: &mut [[u16; HEAD]]) -> usize
-    requires { ⌜ at + length (now rest) < 65536 ⌝ }
-    requires { ⌜ innersVerdict at (now rest) ≡ Accepted ⌝ }
-    requires { ⌜ length (readInners (length (now rest)) (now rest)) ≤ length (now heads) ⌝ }
-    ensures { λ r. ⌜ r ≡ length (readInners (length (now (rest .entry))) (now (rest .entry))) ⌝ }
-    ensures { λ _. ⌜ now (heads .exit) ≡ over (headsOf at (readInners (length (now (rest .entry))) (now (rest .entry)))) (now (heads .entry)) ⌝ }
+// Stores the heads of the inner packets, of which the first stands in word `at`, one behind the other from place i on, and answers how many there
+// are then. Those behind the first are stored by this function itself, from the word behind it on: fewer words are left, so that this ends.
+fn put_heads(words: &[u16], at: usize, i: usize, heads: &mut [[u16; HEAD]; MAX_INNERS]) -> usize
+    requires { ⌜ (length (now words) ≤ 262) × (at < length (now words) - 1) ⌝ }
+    requires { ⌜ innersVerdict at (part at (length (now words) - 1) (now words)) ≡ Accepted ⌝ }
+    requires { ⌜ (length (now heads) ≡ 50) × (i + length (innersFrom at (now words)) ≤ 50) ⌝ }
+    ensures { λ r. ⌜ r ≡ i + length (innersFrom at (now (words .entry))) ⌝ }
+    ensures { λ _. ⌜ now (heads .exit) ≡ overAt i (headsOf at (innersFrom at (now (words .entry)))) (now (heads .entry)) ⌝ }
 {
-    let n = rest.len();
-    if n == 0 {
-        return 0;
-    }
-    let count = word_at(rest, 3) % 256;
-    let size = INNER_WORDS as u16 + count;
-    let next = size as usize;
-    let line_field = word_at(rest, 0);
-    let did = word_at(rest, 1) % 256;
-    let sdid = word_at(rest, 2) % 256;
-    heads[0] = [
+    let count = words[at + 3] % 256;
+    let next = at + INNER_WORDS + count as usize;
+    let line_field = words[at];
+    heads[i] = [
         line_field % 32,
         line_field / 32 % 2,
-        did,
-        sdid,
-        at + 4,
+        words[at + 1] % 256,
+        words[at + 2] % 256,
+        at as u16 + 4,
         count,
     ];
-    1 + put_heads(&rest[next..n], at + size, &mut heads[1..])
-}
-
-// The word at index i, or 0 where there is none.
-fn word_at(rest: &[u16], i: usize) -> u16
-    ensures { λ r. ⌜ r ≡ getD (now (rest .entry)) i 0 ⌝ }
-{
-    if rest.len() <= i {
-        return 0;
+    if next + 1 < words.len() {
+        return put_heads(words, next, i + 1, heads);
     }
-    rest[i]
+    i + 1
 }
 
 // Hands out inner packet i, from LINE/FIELD to NCS: no words where there is no such, and where the multipacket is refused.

@@ -2,9 +2,10 @@
 //
 // Normative references: docs/RULES.md, "Multipacket" and "Order of checks"; document 002 (RDD 8), clause 6; SMPTE 291M.
 ghost use mathlib.Core.Path.{_≡_};
-ghost use Prim.Native.Nat.{_+_, _*_, _≤_, _<_};
+ghost use Prim.Native.Nat.{_+_, _*_, _%_, _≤_, _<_};
 ghost use mathlib.Core.List.{[], _∷_, map};
-ghost use lib.ListN.{length, getD};
+ghost use lib.ListN.{length, getD, drop};
+ghost use Rattle.lists.specs.Sum.{sum};
 ghost use Rattle.lists.specs.Room.{over};
 ghost use Rattle.refusal.specs.declared.Verdict.the-variants.{Accepted};
 ghost use Rattle.anc.specs.Words.{wordOf};
@@ -34,9 +35,9 @@ pub fn write_from(priority: u32, heads: &[[u16; HEAD]], words: &[u16], out: &mut
         return Written { refusal, len: 0 };
     }
     let user = user_words(heads);
-    put_header(priority as u8, user as u8, out);
-    put_inners(heads, words, &mut out[INNERS..]);
-    out[6 + user] = anc::checksum(&out[3..6 + user]);
+    let front = put_header(priority as u8, user as u8, out);
+    let inners = put_inners(heads, words, &mut out[INNERS..]);
+    out[6 + user] = anc::cs(std::num::wrapping_add_u16(front, inners));
     Written {
         refusal,
         len: 7 + user,
@@ -126,72 +127,94 @@ fn inner_words(head: [u16; HEAD]) -> usize
     INNER_WORDS + head[5] as usize
 }
 
-// The flag, DID, SDID, DC and the priority.
-fn put_header(priority: u8, dc: u8, out: &mut [u16])
+// The flag, DID, SDID, DC and the priority. Answers the sum of those that CS covers.
+fn put_header(priority: u8, dc: u8, out: &mut [u16]) -> u16
     requires { ⌜ 7 ≤ length (now out) ⌝ }
     ensures { λ _. ⌜ now (out .exit) ≡ over (0x000 ∷ 0x3FF ∷ 0x3FF ∷ map wordOf (0x43 ∷ 0x03 ∷ dc ∷ priority ∷ [])) (now (out .entry)) ⌝ }
+    ensures { λ r. ⌜ r ≡ sum (map wordOf (0x43 ∷ 0x03 ∷ dc ∷ priority ∷ [])) ⌝ }
 {
+    let count = anc::word(dc);
+    let rank = anc::word(priority);
     out[0] = 0x000;
     out[1] = 0x3FF;
     out[2] = 0x3FF;
     out[3] = 0x143;
     out[4] = 0x203;
-    out[5] = anc::word(dc);
-    out[6] = anc::word(priority);
+    out[5] = count;
+    out[6] = rank;
+    0x143 + 0x203 + count + rank
 }
 
-// The inner packets, one behind the other.
-fn put_inners(heads: &[[u16; HEAD]], words: &[u16], out: &mut [u16])
+// The inner packets, one behind the other. Answers their sum, modulo 65,536.
+fn put_inners(heads: &[[u16; HEAD]], words: &[u16], out: &mut [u16]) -> u16
     requires { ⌜ headsVerdict (now words) (now heads) ≡ Accepted ⌝ }
     requires { ⌜ headsWords (now heads) < 255 ⌝ }
     requires { ⌜ headsWords (now heads) ≤ length (now out) ⌝ }
     ensures { λ _. ⌜ now (out .exit) ≡ over (layoutInners (map (innerOf (now (words .entry))) (now (heads .entry)))) (now (out .entry)) ⌝ }
+    ensures { λ r. ⌜ r ≡ sum (layoutInners (map (innerOf (now (words .entry))) (now (heads .entry)))) % 65536 ⌝ }
 {
+    let mut total: u16 = 0;
     let mut at = 0;
     let mut i = 0;
     while i < heads.len() {
-        put_inner(heads[i], words, &mut out[at..]);
+        let inner = put_inner(heads[i], words, &mut out[at..]);
+        total = std::num::wrapping_add_u16(total, inner);
         at += inner_words(heads[i]);
         i += 1;
     }
+    total
 }
 
-// One inner packet. Its user words are words of bytes already, and are stored as they are.
-fn put_inner(head: [u16; HEAD], words: &[u16], out: &mut [u16])
+// One inner packet. Its user words are words of bytes already, and are stored as they are. Answers its sum, modulo 65,536.
+fn put_inner(head: [u16; HEAD], words: &[u16], out: &mut [u16]) -> u16
     requires { ⌜ headVerdict (now words) head ≡ Accepted ⌝ }
     requires { ⌜ getD head 5 0 < 256 ⌝ }
     requires { ⌜ 5 + getD head 5 0 ≤ length (now out) ⌝ }
     ensures { λ _. ⌜ now (out .exit) ≡ over (layoutInner (innerOf (now (words .entry)) head)) (now (out .entry)) ⌝ }
+    ensures { λ r. ⌜ r ≡ sum (layoutInner (innerOf (now (words .entry)) head)) % 65536 ⌝ }
 {
     let at = head[4] as usize;
     let end = at + head[5] as usize;
     let ncs = HEADER_WORDS + head[5] as usize;
-    put_head(head, out);
-    carry(&words[at..end], &mut out[HEADER_WORDS..ncs]);
-    out[ncs] = anc::checksum(&out[1..ncs]);
+    let ids = put_head(head, out);
+    let user = carry(&words[at..end], &mut out[HEADER_WORDS..ncs]);
+    let covered = std::num::wrapping_add_u16(ids, user);
+    let word = anc::cs(covered);
+    out[ncs] = word;
+    std::num::wrapping_add_u16(std::num::wrapping_add_u16(covered, word), out[0])
 }
 
-// LINE/FIELD, NDID, NSDID and NDC.
-fn put_head(head: [u16; HEAD], out: &mut [u16])
+// LINE/FIELD, NDID, NSDID and NDC. Answers the sum of those that NCS covers.
+fn put_head(head: [u16; HEAD], out: &mut [u16]) -> u16
     requires { ⌜ getD head 0 0 + 32 * getD head 1 0 < 64 ⌝ }
     requires { ⌜ (getD head 2 0 < 256) × (getD head 3 0 < 256) × (getD head 5 0 < 256) ⌝ }
     requires { ⌜ 4 ≤ length (now out) ⌝ }
     ensures { λ _. ⌜ now (out .exit) ≡ over (headerWords head) (now (out .entry)) ⌝ }
+    ensures { λ r. ⌜ r ≡ sum (drop 1 (headerWords head)) ⌝ }
 {
+    let ndid = anc::word(head[2] as u8);
+    let nsdid = anc::word(head[3] as u8);
+    let ndc = anc::word(head[5] as u8);
     out[0] = anc::word((head[0] + 32 * head[1]) as u8);
-    out[1] = anc::word(head[2] as u8);
-    out[2] = anc::word(head[3] as u8);
-    out[3] = anc::word(head[5] as u8);
+    out[1] = ndid;
+    out[2] = nsdid;
+    out[3] = ndc;
+    ndid + nsdid + ndc
 }
 
-// Stores words as they are.
-fn carry(user: &[u16], out: &mut [u16])
+// Stores words as they are. Answers their sum, modulo 65,536.
+fn carry(user: &[u16], out: &mut [u16]) -> u16
     requires { ⌜ length (now user) ≡ length (now out) ⌝ }
     ensures { λ _. ⌜ now (out .exit) ≡ now (user .entry) ⌝ }
+    ensures { λ r. ⌜ r ≡ sum (now (user .entry)) % 65536 ⌝ }
 {
+    let mut total: u16 = 0;
     let mut i = 0;
     while i < out.len() {
-        out[i] = user[i];
+        let w = user[i];
+        out[i] = w;
+        total = std::num::wrapping_add_u16(total, w);
         i += 1;
     }
+    total
 }

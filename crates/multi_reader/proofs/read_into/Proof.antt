@@ -2,7 +2,7 @@
 -- Assumes nothing.
 use Prim.Native.Nat.{ℕ, _-_, _≤_}
 use native.Mathlib.Omega.{arith}
-use mathlib.Core.Path.{_≡_, _∙_, sym}
+use mathlib.Core.Path.{_≡_, _∙_, sym, refl}
 use mathlib.Core.List.{List}
 use borrow.Author.Needs.{needs}
 use denote.Ref.{now}
@@ -50,19 +50,21 @@ module _ (c : tie.After-enum-told2) where
 
 put-heads-requires : tie.Need-put-heads-requires
 put-heads-requires c κs =
-    let past = c .before .before .before in
-    (omega (arith, count past, parts past .outer .long), (parts past .own, omega (arith, few past)))
+    let past = c .before .before in
+    let outer = parts past .outer in
+    ((outer .long, omega (arith, outer .short, outer .some)), (parts past .own, (refl, omega (arith, few past))))
 
 read : tie.Need-returns-2
 read c =
     let call = c .before in
-    let past = call .before .before .before .before in
+    let past = call .before .before .before in
     let told = past .before .before in
     let args = judged past .before .before .args in
     let heads = headsOf 7 (valueOf (s past) .inners) in
     let fits : length heads ≤ 50 = omega (arith, few past, length-heads 7 (valueOf (s past) .inners)) in
+    let n : call .put-heads .result ≡ length (valueOf (s past) .inners) = omega (arith, call .put-heads .ensures .0) in
     accepted-into (s past) (now (args .heads)) (judged past .judge .result) (judged past .judge .ensures) (told .told .result) (told .told .ensures) (call .put-heads .result) _ (past .enum-told2 .given .1)
-    (call .put-heads .ensures .0) (call .put-heads .ensures .1 ∙ over-blank heads 50 noHead fits)
+    n (call .put-heads .ensures .1 ∙ over-blank heads 50 noHead fits)
 
 pub read-into-spec : {M : Type 1} → statement M
 read-into-spec =
@@ -73,12 +75,7 @@ read-into-spec =
     (λ c. search needs)
     refused
     (λ c. search needs)
-    (λ c. omega (arith, parts (c .before) .outer .short))
-    (λ c. omega (arith, parts (c .before) .outer .short))
-    (λ c. omega (arith, parts (c .before) .outer .short))
-    (λ c. omega (arith, parts (c .before) .outer .short))
-    (λ c. search needs)
     put-heads-requires
-    (λ c. omega (arith, parts (c .before .before .before .before .before) .outer .short))
+    (λ c. omega (arith, parts (c .before .before .before .before) .outer .short))
     (λ c. omega arith)
     read)

@@ -1,7 +1,7 @@
 -- `multi_writer::write_from` meets its contract: it stores where the refusal's number is 0, which is where the verdict accepts. Header, inner
 -- packets and CS are laid one behind the other.
 -- Assumes nothing.
-use Prim.Native.Nat.{ℕ, _+_, _-_, _≤_}
+use Prim.Native.Nat.{ℕ, _+_, _-_, _≤_, _<_}
 use native.Mathlib.Omega.{arith}
 use mathlib.Core.Path.{_≡_, _∙_, ap, ap₂, sym, subst, subst₃, refl}
 use mathlib.Core.Logic.{⊎-elim}
@@ -9,7 +9,7 @@ use mathlib.Core.List.{List, [], _∷_, map}
 use borrow.Author.Needs.{needs}
 use borrow.Rule.Slice.PartMut.{putMid}
 use denote.Ref.{now}
-use lib.ListN.{length, take, drop, set, length-set}
+use lib.ListN.{length, drop, set, length-set}
 use Rattle.lists.specs.Room.{over}
 use Rattle.lists.proofs.Lay.{length-over, length-rest, store-next, laid-more}
 use Rattle.refusal.specs.declared.Refusal.{Refusal}
@@ -19,13 +19,15 @@ use Rattle.refusal.specs.Answers.{Wrote}
 use Rattle.refusal.proofs.Acceptance.{told-accepted}
 use Rattle.refusal.proofs.Outputs.{wrote-nothing, wrote-laid}
 use Rattle.anc.specs.Words.{wordOf, checksumOf}
+use Rattle.anc.proofs.Words.{word-low}
 use Rattle.multi.specs.Layout.{layoutInners, userWords, layout}
 use Rattle.multi.specs.Lent.{Told, held}
 use Rattle.multi.specs.Writing.{valueVerdict}
 use Rattle.multi.specs.Inside.{headsWords}
 use Rattle.multi.proofs.Whole.{length-user, length-multi}
 use Rattle.multi.proofs.Writable.{Holds, accepted-value}
-use Rattle.multi.proofs.Laid.{heads-words, covered-front, front, value-laid}
+use Rattle.multi.proofs.Laid.{heads-words, front, value-laid}
+use Rattle.multi_writer.proofs.Summed.{cs-sum, all-total}
 use Rattle.multi_writer.proofs.write_from.Statement.{statement}
 use Rattle.multi_writer.proofs.write_from.Tie as tie
 
@@ -104,7 +106,7 @@ module _ (c : tie.After-put-header) where
   headed = c .put-header .last .1 .1 .0
 
   kept : length headed ≡ length (out (s count))
-  kept = ap length (c .put-header .ensures) ∙ length-over (header count) (out (s count)) (omega (arith, room count))
+  kept = ap length (c .put-header .ensures .0) ∙ length-over (header count) (out (s count)) (omega (arith, room count))
 
 put-inners-requires : tie.Need-put-inners-requires
 put-inners-requires c κs =
@@ -129,7 +131,7 @@ module _ (c : tie.After-put-inners) where
   stored = putMid 7 (length (headed first) - 7) (headed first) (c .put-inners .last .1 .1 .0)
 
   laid : stored ≡ over all (out (s n))
-  laid = laid-more (header n) (inner n) (out (s n)) (headed first) (c .put-inners .last .1 .1 .0) 7 (first .put-header .ensures) refl (c .put-inners .ensures)
+  laid = laid-more (header n) (inner n) (out (s n)) (headed first) (c .put-inners .last .1 .1 .0) 7 (first .put-header .ensures .0) refl (c .put-inners .ensures .0)
 
   sized : length all ≡ 6 + user n
   sized = omega (arith, size n)
@@ -137,17 +139,43 @@ module _ (c : tie.After-put-inners) where
   long : length stored ≡ length (out (s n))
   long = ap length laid ∙ length-over all (out (s n)) (omega (arith, sized, room n))
 
+-- CS is made from their sums
+module _ (c : tie.After-cs) where
+  abbrev call : tie.After-put-inners
+  call = c .before .before .before .before
+
+  abbrev m : tie.After-user-words
+  m = n call
+
+  abbrev total : ℕ
+  total = c .before .wrapping-add-u16 .result
+
+  small : first call .put-header .result < 65536
+  small =
+      omega (
+        arith,
+        first call .put-header .ensures .1,
+        word-low 0x43 (omega arith),
+        word-low 0x03 (omega arith),
+        word-low (user m) (omega (arith, few m)),
+        word-low (s m .args .priority) (omega (arith, both m .0 .priority)),
+      )
+
+  cs : c .cs .result ≡ checksumOf (drop 3 (all call))
+  cs =
+      cs-sum (drop 3 (all call)) total (c .cs .result)
+      (all-total (map wordOf (0x43 ∷ 0x03 ∷ user m ∷ s m .args .priority ∷ [])) (inner m) (first call .put-header .result) (call .put-inners .result) total
+      (first call .put-header .ensures .1) small (call .put-inners .ensures .1) (c .before .wrapping-add-u16 .ensures))
+      (c .cs .ensures)
+
 accepted : tie.Need-returns-2
 accepted c =
-    let call = c .before .before .before .before .before in
-    let m = n call in
+    let call = call c in
+    let m = m c in
     let t = told (s m) in
     let o = out (s m) in
-    let cs : c .checksum .result ≡ checksumOf (drop 3 (all call)) =
-    c .checksum .ensures
-    ∙ ap checksumOf (ap (λ (xs : List ℕ). take (6 + user m - 3) (drop 3 xs)) (laid call) ∙ covered-front (all call) o 3 (6 + user m) (sized call)) in
-    let exit : set (stored call) (6 + user m) (c .checksum .result) ≡ over (layout (held t)) o =
-    ap₂ (λ (xs : List ℕ) (w : ℕ). set xs (6 + user m) w) (laid call) cs
+    let exit : set (stored call) (6 + user m) (c .cs .result) ≡ over (layout (held t)) o =
+    ap₂ (λ (xs : List ℕ) (w : ℕ). set xs (6 + user m) w) (laid call) (cs c)
     ∙ store-next (all call) o (checksumOf (drop 3 (all call))) (6 + user m) (sized call) (omega (arith, room m))
     ∙ ap (λ (xs : List ℕ). over xs o) (sym (value-laid t (user m) (exact m))) in
     subst₃ (λ (r : Refusal) (k : ℕ) (end : List ℕ). Wrote (verdict (s m)) (layout (held t)) o (record { refusal = r; len = k }) end)
@@ -171,14 +199,11 @@ write-from-spec =
     (λ c. let first = c .before .before in omega (arith, kept first, room (count first)))
     (λ c. let first = c .before .before in omega (arith, kept first, room (count first)))
     put-inners-requires
-    (λ c. omega (arith, few (n (c .before .before))))
-    (λ c. let call = c .before .before in omega (arith, few (n call), room (n call), long call))
-    (λ c. let call = c .before .before .before in omega (arith, few (n call), room (n call), long call))
-    (λ c. let call = c .before .before .before in omega (arith, few (n call), room (n call), long call))
     (λ c κs. search needs)
-    (λ c. let call = c .before .before .before .before .before in omega (arith, few (n call), room (n call), long call))
-    (λ c. let call = c .before .before .before .before .before in omega (arith, few (n call), room (n call), long call))
-    (λ c. let call = c .before .before .before .before .before in omega (arith, few (n call), room (n call), long call))
-    (λ c. let call = c .before .before .before .before .before in omega (arith, few (n call)))
-    (λ c. let call = c .before .before .before .before .before in length-set (stored call) (6 + user (n call)) (c .checksum .result) ∙ long call)
+    (λ c κs. search needs)
+    (λ c. omega (arith, few (m c), room (m c), long (call c)))
+    (λ c. omega (arith, few (m c), room (m c), long (call c)))
+    (λ c. omega (arith, few (m c), room (m c), long (call c)))
+    (λ c. omega (arith, few (m c)))
+    (λ c. length-set (stored (call c)) (6 + user (m c)) (c .cs .result) ∙ long (call c))
     accepted)
