@@ -1,4 +1,4 @@
--- `film_value::gather` meets its contract: where every record was that of a display field, the picture is carried and the halves are those of its slots.
+-- `film_value::gather` meets its contract: where each record was that of a display field, the picture is carried, with the halves of its slots.
 -- Assumes nothing.
 use native.Mathlib.Omega.{arith}
 use mathlib.Core.Path.{_≡_, _∙_, ap, sym, refl}
@@ -66,7 +66,10 @@ gather-spec =
     (λ c κs. search needs)
     (λ c κs. omega (arith, c .before .next .ensures, count-few (c .before .before .is-at .result)))
     (λ c κs. search needs)
-    (λ c κs. let i = c .before .before .before in omega (arith, c .before .next2 .ensures, i .next .ensures, count-few (c .before .before .is-at2 .result), count-few (i .before .is-at .result)))
+    (λ c κs.
+    let second = c .before .before in
+    let on = second .before in
+    omega (arith, c .before .next2 .ensures, on .next .ensures, count-few (second .is-at2 .result), count-few (on .before .is-at .result)))
     (λ c κs. search needs)
     (λ c is. absurd (false≢true (sym (c .nothing3 .ensures) ∙ is)))
     (λ c κs. search needs)
