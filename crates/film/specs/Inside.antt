@@ -10,6 +10,7 @@ use Rattle.film.specs.declared.Slot.the-variants.{Invalid}
 use Rattle.film.specs.declared.State.{State}
 use Rattle.film.specs.declared.State.the-variants.{Nothing, Waiting}
 use Rattle.film.specs.declared.Shown.{Shown}
+use Rattle.film.specs.declared.Half.{Half}
 use Rattle.film.specs.declared.Sent.{Sent}
 use Rattle.film.specs.declared.Sent.the-variants as sent
 use Rattle.film.specs.declared.Gone.{Gone}
@@ -17,6 +18,19 @@ use Rattle.film.specs.declared.Gone.the-variants as gone
 use Rattle.film.specs.declared.Passing.{Passing}
 use Rattle.film.specs.Display.{slotOf}
 use Rattle.film.specs.Frames.{accessUnit}
+
+-- an access unit of two halves
+abbrev pub joined : Half → Half → AccessUnit
+joined one two =
+    record {
+      «cc_valid_1» = one .«cc_valid»;
+      «cc_valid_2» = two .«cc_valid»;
+      padding = 0;
+      «field1_data1» = one .«data_1»;
+      «field1_data2» = one .«data_2»;
+      «field2_data1» = two .«data_1»;
+      «field2_data2» = two .«data_2»;
+    }
 
 -- an even slot goes out
 abbrev pub evenPassed : State → Slot → Passing

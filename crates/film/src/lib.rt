@@ -5,7 +5,7 @@
 ghost use mathlib.Core.Path.{_≡_};
 ghost use Rattle.film.specs.Calls.{Closes};
 ghost use Rattle.film.specs.Frames.{halfOf, accessUnit};
-ghost use Rattle.film.specs.Inside.{passed};
+ghost use Rattle.film.specs.Inside.{joined, passed};
 use fields::OddEven;
 use line21::AccessUnit;
 use refusal::Refusal;
@@ -152,8 +152,13 @@ pub fn half_of(slot: Slot) -> Half
 pub fn frame(odd: Slot, even: Slot) -> AccessUnit
     ensures { λ r. ⌜ r ≡ accessUnit odd even ⌝ }
 {
-    let one = half_of(odd);
-    let two = half_of(even);
+    join(half_of(odd), half_of(even))
+}
+
+// An access unit of two halves.
+pub fn join(one: Half, two: Half) -> AccessUnit
+    ensures { λ r. ⌜ r ≡ joined one two ⌝ }
+{
     AccessUnit {
         cc_valid_1: one.cc_valid,
         cc_valid_2: two.cc_valid,

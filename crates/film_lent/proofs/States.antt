@@ -5,7 +5,7 @@ use native.Mathlib.Omega.{arith}
 use mathlib.Core.Path.{_≡_, _∙_, ap, subst, sym, refl}
 use mathlib.Core.Bool.{Bool, true, false, _&&_}
 use mathlib.Core.List.{List, [], _∷_}
-use borrow.Author.Tests.{eqb-true}
+use borrow.Author.Tests.{eqb-true, eq-eqb}
 use lib.Dec.{eqb}
 use lib.ListN.{length, getD}
 use Rattle.refusal.proofs.Checks.{both-hold}
@@ -15,12 +15,19 @@ use Rattle.film.specs.declared.State.the-variants.{Nothing, Waiting}
 use Rattle.film_lent.specs.declared.Kept.{Kept}
 use Rattle.film_lent.specs.declared.Kept.the-variants as kept
 use Rattle.film_lent.specs.Lent.{stateBytes, chosen, stateFrom, stateIn}
+use Rattle.film_lent.specs.Inside.{fourIn}
 
 pub state-back : (s : State) → stateIn (stateBytes s) ≡ kept.State s
 unfolding stateFrom
 state-back Nothing = refl
 state-back (Waiting Invalid) = refl
 state-back (Waiting (Pair a b)) = refl
+
+-- a pair that waits
+pub pair-state : (bytes : List ℕ) → getD bytes 0 0 ≡ 1 → eqb (getD bytes 1 0) 1 ≡ true
+    → stateIn bytes ≡ kept.State (Waiting (Pair (getD bytes 2 0) (getD bytes 3 0)))
+unfolding stateFrom
+pair-state bytes e f = simp (eq-eqb _ _ e, f)
 
 -- one that is told has these bytes
 four : ℕ → ℕ → ℕ → ℕ → List ℕ
@@ -67,12 +74,14 @@ four-places (a ∷ b ∷ c ∷ []) e = let no : ⊥ = omega (arith, e) in absurd
 four-places (a ∷ b ∷ c ∷ d ∷ []) e = refl
 four-places (a ∷ b ∷ c ∷ d ∷ x ∷ s) e = let no : ⊥ = omega (arith, e) in absurd no
 
+pub state-four : (s : State) (bytes : List ℕ) → stateIn bytes ≡ kept.State s → stateBytes s ≡ fourIn bytes
+unfolding is four
+state-four s bytes told =
+    subst (λ (k : Kept). is k (fourIn bytes)) told (from-is (getD bytes 0 0) (getD bytes 1 0) (getD bytes 2 0) (getD bytes 3 0))
+
 pub state-only : (s : State) (bytes : List ℕ) → length bytes ≡ 4 → stateIn bytes ≡ kept.State s → stateBytes s ≡ bytes
-unfolding is
-state-only s bytes places told =
-    subst (λ (k : Kept). is k (four (getD bytes 0 0) (getD bytes 1 0) (getD bytes 2 0) (getD bytes 3 0))) told
-    (from-is (getD bytes 0 0) (getD bytes 1 0) (getD bytes 2 0) (getD bytes 3 0))
-    ∙ four-places bytes places
+unfolding four
+state-only s bytes places told = state-four s bytes told ∙ four-places bytes places
 
 isState : Kept → ℕ
 isState (kept.State s) = 1

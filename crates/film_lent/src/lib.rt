@@ -3,6 +3,7 @@
 //
 // Normative references: docs/RULES.md, "Film".
 ghost use mathlib.Core.Path.{_≡_};
+ghost use mathlib.Core.Bool.{true};
 ghost use mathlib.Core.List.{_∷_, [], _++_};
 ghost use lib.ListN.{length};
 ghost use Rattle.refusal.specs.declared.Verdict.the-variants.{Refused};
@@ -13,13 +14,14 @@ ghost use Rattle.line21.specs.Value.{blank as Value·blank};
 ghost use Rattle.line21.specs.Lent.{accessUnitBytes};
 ghost use Rattle.film.specs.Calls.{unitsSent};
 ghost use Rattle.film_lent.specs.Lent.{halfBytes, stateBytes, sentBytes, stateIn, PictureInto, CloseInto};
-ghost use Rattle.film_lent.specs.Inside.{refusedHead, Stores};
+ghost use Rattle.film_lent.specs.Inside.{refusedHead, Stores, IsState, GathersIn, PutsOddFirst, PutsFrames};
 use film::Answer;
 use film::Half;
 use film::Sent;
 use film::Shown;
 use film::Slot;
 use film::State;
+use film_value::Gathered;
 use line21::AccessUnit;
 use refusal::Excess;
 use refusal::Item;
@@ -65,6 +67,56 @@ pub fn picture_into(
     ensures { λ r. ⌜ PictureInto (now (film .entry)) «top_field_first» «repeat_first_field» «line_offset» (unitIn v (now (records .entry))) (now (units .entry)) r (now (film .exit)) (now (units .exit)) ⌝ }
 {
     lists::known(records);
+    let gathered = gather_in(
+        film,
+        top_field_first,
+        repeat_first_field,
+        line_offset,
+        v,
+        records,
+    );
+    if gathered.carried {
+        let one = gathered.one;
+        let two = gathered.two;
+        let three = gathered.three;
+        let m = put_frames(
+            top_field_first == 1,
+            repeat_first_field == 1,
+            one,
+            two,
+            three,
+            film,
+            units,
+        );
+        return Head {
+            refusal: refusal::told(Verdict::Accepted),
+            m,
+        };
+    }
+    by_slots(
+        film,
+        top_field_first,
+        repeat_first_field,
+        line_offset,
+        v,
+        records,
+        units,
+    )
+}
+
+// The same, slot after slot. It finds the reason of a refusal.
+fn by_slots(
+    film: &mut [u8; LENT_FILM],
+    top_field_first: u32,
+    repeat_first_field: u32,
+    line_offset: u32,
+    v: Numbers,
+    records: &[u8; LENT_RECORDS],
+    units: &mut [u8; LENT_SENT],
+) -> Head
+    ensures { λ r. ⌜ PictureInto (now (film .entry)) «top_field_first» «repeat_first_field» «line_offset» (unitIn v (now (records .entry))) (now (units .entry)) r (now (film .exit)) (now (units .exit)) ⌝ }
+{
+    lists::known(records);
     let kept = state_in(film);
     let Kept::State(state) = kept else {
         return refused(Excess::FilmState);
@@ -87,11 +139,118 @@ pub fn picture_into(
 pub fn close_into(film: &mut [u8; LENT_FILM], units: &mut [u8; LENT_SENT]) -> Head
     ensures { λ r. ⌜ CloseInto (now (film .entry)) (now (units .entry)) r (now (film .exit)) (now (units .exit)) ⌝ }
 {
+    if film[0] == 1 && film[1] == 1 {
+        let odd = film::half_of(Slot::Pair(film[2], film[3]));
+        put_four(0, film::half_of(Slot::Invalid), film);
+        put_two(
+            film::join(odd, film::half_of(Slot::Invalid)),
+            blank(),
+            units,
+        );
+        return Head {
+            refusal: refusal::told(Verdict::Accepted),
+            m: 1,
+        };
+    }
     let kept = state_in(film);
     let Kept::State(state) = kept else {
         return refused(Excess::FilmState);
     };
     store(film::close(state), film, units)
+}
+
+// What the display fields bring, where the arguments are right and the picture is carried.
+fn gather_in(
+    film: &[u8; LENT_FILM],
+    top_field_first: u32,
+    repeat_first_field: u32,
+    line_offset: u32,
+    v: Numbers,
+    records: &[u8; LENT_RECORDS],
+) -> Gathered
+    ensures { λ r. ⌜ GathersIn (now (film .entry)) «top_field_first» «repeat_first_field» «line_offset» (unitIn v (now (records .entry))) r ⌝ }
+{
+    if !is_state(film) {
+        return film_value::nothing();
+    }
+    if 1 < top_field_first {
+        return film_value::nothing();
+    }
+    if 1 < repeat_first_field {
+        return film_value::nothing();
+    }
+    let how = Shown {
+        top_field_first: top_field_first == 1,
+        repeat_first_field: repeat_first_field == 1,
+        line_offset: scte20::narrow(line_offset as usize),
+    };
+    film_value::gather(how, v, records)
+}
+
+// Whether the bytes are a state's.
+fn is_state(film: &[u8; LENT_FILM]) -> bool
+    ensures { λ r. ⌜ (r ≡ true → IsState (now (film .entry))) ⌝ }
+{
+    let kept = state_in(film);
+    if let Kept::State(_) = kept {
+        true
+    } else {
+        false
+    }
+}
+
+// The frames of a picture whose display fields bring these halves, and what then waits.
+fn put_frames(
+    top_field_first: bool,
+    repeat_first_field: bool,
+    one: Half,
+    two: Half,
+    three: Half,
+    film: &mut [u8; LENT_FILM],
+    units: &mut [u8; LENT_SENT],
+) -> usize
+    ensures { λ r. ⌜ PutsFrames «top_field_first» «repeat_first_field» one two three (now (film .entry)) r (now (film .exit)) (now (units .exit)) ⌝ }
+{
+    let waiting = film[0];
+    let odd = Half {
+        cc_valid: film[1],
+        data_1: film[2],
+        data_2: film[3],
+    };
+    let none = film::half_of(Slot::Invalid);
+    if top_field_first {
+        if repeat_first_field {
+            put_four(1, three, film);
+            return put_odd_first(waiting, odd, one, two, units);
+        }
+        put_four(0, none, film);
+        return put_odd_first(waiting, odd, one, two, units);
+    }
+    if repeat_first_field {
+        put_four(0, none, film);
+        put_two(film::join(odd, one), film::join(two, three), units);
+        return 2;
+    }
+    put_four(1, two, film);
+    put_two(film::join(odd, one), blank(), units);
+    1
+}
+
+// The frames where the first display field is odd: a slot that waits goes out alone.
+fn put_odd_first(waiting: u8, odd: Half, one: Half, two: Half, units: &mut [u8]) -> usize
+    requires { ⌜ length (now units) ≡ 14 ⌝ }
+    ensures { λ r. ⌜ PutsOddFirst waiting odd one two r (now (units .exit)) ⌝ }
+{
+    if waiting == 1 {
+        put_two(
+            film::join(odd, film::half_of(Slot::Invalid)),
+            film::join(one, two),
+            units,
+        );
+        return 2;
+    }
+    put_two(film::join(one, two), blank(), units);
+    1
 }
 
 // A refusal stores nothing.
