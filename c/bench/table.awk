@@ -3,22 +3,18 @@
 
 BEGIN { FS = "\t" }
 
-FNR == 1 { placements++ }
+$1 == "placement" { placement = $2; if (placement >= placements) placements = placement + 1 }
 $1 == "processor" { processor = $2 }
 $1 == "rounds" { rounds = $2 }
-$1 == "compiler" && placements == 1 { compiler[++plains] = $2; version[plains] = $3 }
+$1 == "compiler" && NR == FNR { compiler[++plains] = $2; version[plains] = $3 }
 
-# name, nanoseconds of each plain program, and of the library
+# name, nanoseconds of each plain program, and of the library: the least of all runs of this placement
 $1 == "row" {
-    if (!($2 in count)) order[++names] = $2
-    count[$2]++
-    library = $(3 + plains)
+    if (!($2 in seen)) order[++names] = $2
+    seen[$2] = 1
     for (p = 1; p <= plains + 1; p++) {
-        ratio = library / $(2 + p)
-        ns[$2, p] += $(2 + p)
-        sum[$2, p] += ratio
-        if (count[$2] == 1 || ratio < least[$2, p]) least[$2, p] = ratio
-        if (count[$2] == 1 || ratio > most[$2, p]) most[$2, p] = ratio
+        key = $2 SUBSEP p SUBSEP placement
+        if (!(key in best) || $(2 + p) < best[key]) best[key] = $(2 + p)
     }
 }
 
@@ -32,9 +28,8 @@ function print_head(    end, p) {
     printf "Processor: %s\n", processor
     for (p = 1; p <= plains; p++) printf "%sPlain C compiled by: %s %s\n", end, compiler[p], version[p]
     printf "%sFlags: %s\n", end, flags
-    printf "%sNanoseconds for one call, the least of %d rounds, as means of %d placements. The ratios are library / plain C,\n", end, \
-        rounds, placements
-    printf "means too, with the least and the greatest. Below 1 the library is faster.\n\n"
+    printf "%sNanoseconds for one call, the least of %d rounds in %d runs, as means of %d placements.\n", end, rounds * runs, runs, placements
+    printf "%sRatios are library / plain C, as means of the placements, with the least and the greatest. Below 1 the library is faster.\n\n", end
     printf markdown ? "| call |" : "%-54s", "call"
     for (p = 1; p <= plains; p++) printf markdown ? " %s, ns |" : " %8s ns", compiler[p]
     printf markdown ? " library, ns |" : "  library ns"
@@ -47,12 +42,26 @@ function print_head(    end, p) {
     }
 }
 
-function print_row(name,    n, p) {
-    n = count[name]
+# The mean over placements of one program's nanoseconds.
+function mean(name, p,    k, sum) {
+    for (k = 0; k < placements; k++) sum += best[name, p, k]
+    return sum / placements
+}
+
+# The library's time by that of a plain program: mean, least and greatest.
+function ratios(name, p,    k, ratio, sum, least, most) {
+    for (k = 0; k < placements; k++) {
+        ratio = best[name, plains + 1, k] / best[name, p, k]
+        sum += ratio
+        if (k == 0 || ratio < least) least = ratio
+        if (k == 0 || ratio > most) most = ratio
+    }
+    return sprintf("%.2f (%.2f-%.2f)", sum / placements, least, most)
+}
+
+function print_row(name,    p) {
     printf markdown ? "| %s |" : "%-54s", name
-    for (p = 1; p <= plains; p++) printf markdown ? " %.1f |" : " %11.1f", ns[name, p] / n
-    printf markdown ? " %.1f |" : " %11.1f", ns[name, plains + 1] / n
-    for (p = 1; p <= plains; p++)
-        printf markdown ? " %.2f (%.2f-%.2f) |" : "  %.2f (%.2f-%.2f)", sum[name, p] / n, least[name, p], most[name, p]
+    for (p = 1; p <= plains + 1; p++) printf markdown ? " %.1f |" : " %11.1f", mean(name, p)
+    for (p = 1; p <= plains; p++) printf markdown ? " %s |" : "  %17s", ratios(name, p)
     printf "\n"
 }
