@@ -2,6 +2,7 @@
  * bench.c: the library's calls beside plain C of the same work, in one process.
  *
  *   bench [--row SUBSTRING] [--rounds N]
+ *   bench --areas FILE [--rounds N]
  *
  * All are compared before they are timed: times of programs that differ would tell nothing. Each row alternates short
  * rounds of each program and keeps the shortest of each, which is what a busy machine disturbs least. What it prints is
@@ -9,7 +10,7 @@
  */
 #define _POSIX_C_SOURCE 200809L
 
-#include "rows.h"
+#include "areas.h"
 
 #include <stdio.h>
 #include <stdlib.h>
@@ -77,23 +78,41 @@ static double now_ns(void)
     return 1e9 * (double)t.tv_sec + (double)t.tv_nsec;
 }
 
+/* What is timed: a call over samples in turn, or over the areas of a file, if samples is null. */
+typedef struct work {
+    const char *name;
+    enum search_by search;
+    enum call call;
+    const sample *samples;
+    size_t turn; /* how many inputs there are: a round has each of them equally often */
+} work;
+
 /* Nanoseconds for one call, over `times` calls. */
-static double time_round(const row *r, const calls *c, const sample *samples, size_t times)
+static double time_round(const work *w, const calls *c, size_t times)
 {
     double begin = now_ns();
-    run_call(r->call, c, samples, times);
+    if (w->samples != NULL) {
+        run_call(w->call, c, w->samples, times);
+    } else {
+        run_on_areas(w->call, c, times);
+    }
     return (now_ns() - begin) / (double)times;
 }
 
-/* How many calls take about ten milliseconds. */
-static size_t calls_in_round(const row *r, const calls *c, const sample *samples)
+static size_t whole_turns(const work *w, double calls)
 {
-    double one = time_round(r, c, samples, SAMPLES);
-    double again = time_round(r, c, samples, (size_t)(1e6 / one) + SAMPLES);
-    return (size_t)(1e7 / (again < one ? again : one)) + SAMPLES;
+    return ((size_t)calls / w->turn + 1) * w->turn;
 }
 
-/* A program of a row, and its shortest round. */
+/* How many calls take about ten milliseconds. */
+static size_t calls_in_round(const work *w, const calls *c)
+{
+    double one = time_round(w, c, w->turn);
+    double again = time_round(w, c, whole_turns(w, 1e6 / one));
+    return whole_turns(w, 1e7 / (again < one ? again : one));
+}
+
+/* A program, and its shortest round. */
 typedef struct timing {
     const calls *program;
     size_t times;
@@ -101,21 +120,21 @@ typedef struct timing {
 } timing;
 
 /* Prints the row: the plain programs, then the library. */
-static void time_row(const row *r, const sample *samples, size_t rounds)
+static void time_work(const work *w, size_t rounds)
 {
     timing of[MOST_PLAIN + 1];
     size_t programs = plain_count + 1;
     for (size_t p = 0; p < programs; p++) {
-        const calls *program = p < plain_count ? plain_calls(p, r->search) : &library_calls;
-        of[p] = (timing){program, calls_in_round(r, program, samples), 1e300};
+        const calls *program = p < plain_count ? plain_calls(p, w->search) : &library_calls;
+        of[p] = (timing){program, calls_in_round(w, program), 1e300};
     }
     for (size_t i = 0; i < rounds; i++) {
         for (size_t p = 0; p < programs; p++) {
-            double ns = time_round(r, of[p].program, samples, of[p].times);
+            double ns = time_round(w, of[p].program, of[p].times);
             of[p].best = ns < of[p].best ? ns : of[p].best;
         }
     }
-    printf("row\t%s", r->name);
+    printf("row\t%s", w->name);
     for (size_t p = 0; p < programs; p++) {
         printf("\t%.3f", of[p].best);
     }
@@ -154,18 +173,70 @@ static void print_head(size_t rounds)
     printf("rounds\t%zu\n", rounds);
 }
 
-int main(int argc, char **argv)
+/* ---- Both tables ---- */
+
+static int time_rows(const char *wanted, size_t rounds)
 {
     static sample samples[SAMPLES];
+    size_t timed = 0;
+    for (size_t i = 0; i < row_count; i++) {
+        const row *r = &rows[i];
+        if (!prepare(i, samples)) {
+            return 1;
+        }
+        if (strstr(r->name, wanted) != NULL) {
+            time_work(&(work){r->name, r->search, r->call, samples, SAMPLES}, rounds);
+            timed++;
+        }
+    }
+    if (timed == 0) {
+        fprintf(stderr, "bench: no row has this in its name: %s\n", wanted);
+    }
+    return timed == 0;
+}
+
+static int time_areas(const char *path, size_t rounds)
+{
+    static const struct {
+        const char *name;
+        enum call call;
+    } of[] = {
+        {"read SCTE 20", AREA_READ},
+        {"read GA94", GA94_READ},
+        {"replace SCTE 20", AREA_REPLACE},
+        {"replace GA94", GA94_REPLACE},
+    };
+    areas_told told = load_areas(path);
+    if (told.count == 0) {
+        return 1;
+    }
+    printf("areas\t%zu\t%zu\t%zu\n", told.count, told.least, told.most);
+    for (size_t i = 0; i < sizeof of / sizeof of[0]; i++) {
+        for (size_t p = 0; p < plain_count; p++) {
+            if (!agree_on_areas(of[i].call, &plain_programs[p]->own)) {
+                fprintf(stderr, "bench: the programs differ on an area of %s: %s\n", path, of[i].name);
+                return 1;
+            }
+        }
+        time_work(&(work){of[i].name, OWN, of[i].call, NULL, told.count}, rounds);
+    }
+    return 0;
+}
+
+int main(int argc, char **argv)
+{
     const char *wanted = "";
+    const char *areas = NULL;
     size_t rounds = 15;
-    for (int i = 1; i < argc; i++) {
+    for (int i = 1; i < argc; i += 2) {
         if (strcmp(argv[i], "--row") == 0 && i + 1 < argc) {
-            wanted = argv[++i];
+            wanted = argv[i + 1];
+        } else if (strcmp(argv[i], "--areas") == 0 && i + 1 < argc) {
+            areas = argv[i + 1];
         } else if (strcmp(argv[i], "--rounds") == 0 && i + 1 < argc && atoi(argv[i + 1]) > 0) {
-            rounds = (size_t)atoi(argv[++i]);
+            rounds = (size_t)atoi(argv[i + 1]);
         } else {
-            fprintf(stderr, "usage: bench [--row SUBSTRING] [--rounds N]\n");
+            fprintf(stderr, "usage: bench [--row SUBSTRING] [--rounds N], or bench --areas FILE [--rounds N]\n");
             return 2;
         }
     }
@@ -173,13 +244,5 @@ int main(int argc, char **argv)
         return 1;
     }
     print_head(rounds);
-    for (size_t i = 0; i < row_count; i++) {
-        if (!prepare(i, samples)) {
-            return 1;
-        }
-        if (strstr(rows[i].name, wanted) != NULL) {
-            time_row(&rows[i], samples, rounds);
-        }
-    }
-    return 0;
+    return areas == NULL ? time_rows(wanted, rounds) : time_areas(areas, rounds);
 }
