@@ -1,8 +1,8 @@
 /*
  * bench.c: the library's calls beside plain C of the same work, in one process.
  *
- *   bench [--row SUBSTRING] [--rounds N]
- *   bench --areas FILE [--rounds N]
+ *   bench [--row SUBSTRING] [--rounds N] [--run N]
+ *   bench --areas FILE [--rounds N] [--run N]
  *
  * All are compared before they are timed: times of programs that differ would tell nothing. Each row alternates short
  * rounds of each program and keeps the shortest of each, which is what a busy machine disturbs least. What it prints is
@@ -175,9 +175,24 @@ static void print_head(size_t rounds)
 
 /* ---- Both tables ---- */
 
-static int time_rows(const char *wanted, size_t rounds)
+/*
+ * Room for the samples. A load soon behind a store may wait for it if their addresses are equal but for pages of 4,096
+ * bytes, so in each of three runs the samples are another third of a page away from what the calls store to.
+ */
+static sample *place_samples(size_t run)
 {
-    static sample samples[SAMPLES];
+    enum { THIRD = 21 * 64 /* whole lines */ };
+    char *memory = malloc(SAMPLES * sizeof(sample) + 3 * THIRD);
+    if (memory == NULL) {
+        fprintf(stderr, "bench: no memory\n");
+        exit(1);
+    }
+    return (sample *)(void *)(memory + run % 3 * THIRD);
+}
+
+static int time_rows(const char *wanted, size_t rounds, size_t run)
+{
+    sample *samples = place_samples(run);
     size_t timed = 0;
     for (size_t i = 0; i < row_count; i++) {
         const row *r = &rows[i];
@@ -228,6 +243,7 @@ int main(int argc, char **argv)
     const char *wanted = "";
     const char *areas = NULL;
     size_t rounds = 15;
+    size_t run = 0;
     for (int i = 1; i < argc; i += 2) {
         if (strcmp(argv[i], "--row") == 0 && i + 1 < argc) {
             wanted = argv[i + 1];
@@ -235,8 +251,10 @@ int main(int argc, char **argv)
             areas = argv[i + 1];
         } else if (strcmp(argv[i], "--rounds") == 0 && i + 1 < argc && atoi(argv[i + 1]) > 0) {
             rounds = (size_t)atoi(argv[i + 1]);
+        } else if (strcmp(argv[i], "--run") == 0 && i + 1 < argc && atoi(argv[i + 1]) >= 0) {
+            run = (size_t)atoi(argv[i + 1]);
         } else {
-            fprintf(stderr, "usage: bench [--row SUBSTRING] [--rounds N], or bench --areas FILE [--rounds N]\n");
+            fprintf(stderr, "usage: bench [--row SUBSTRING | --areas FILE] [--rounds N] [--run N]\n");
             return 2;
         }
     }
@@ -244,5 +262,5 @@ int main(int argc, char **argv)
         return 1;
     }
     print_head(rounds);
-    return areas == NULL ? time_rows(wanted, rounds) : time_areas(areas, rounds);
+    return areas == NULL ? time_rows(wanted, rounds, run) : time_areas(areas, rounds);
 }
