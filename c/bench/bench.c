@@ -181,7 +181,7 @@ static void print_head(size_t rounds)
  */
 static sample *place_samples(size_t run)
 {
-    enum { THIRD = 21 * 64 /* whole lines */ };
+    enum { THIRD = 21 * 64 };
     char *memory = malloc(SAMPLES * sizeof(sample) + 3 * THIRD);
     if (memory == NULL) {
         fprintf(stderr, "bench: no memory\n");
@@ -242,7 +242,7 @@ int main(int argc, char **argv)
 {
     const char *wanted = "";
     const char *areas = NULL;
-    size_t rounds = 15;
+    size_t rounds = 30;
     size_t run = 0;
     for (int i = 1; i < argc; i += 2) {
         if (strcmp(argv[i], "--row") == 0 && i + 1 < argc) {

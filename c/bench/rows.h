@@ -21,7 +21,11 @@ typedef struct sample {
     payload_value access;
     reel_value reel;
     film_value film;
+    uint64_t apart; /* see below */
 } sample;
+
+/* Samples one behind the other begin in each quarter of a line of 64 bytes once. */
+_Static_assert(sizeof(sample) % 64 == 16, "a row's samples are in the same places of a line");
 
 /* The twenty calls. */
 enum call {
