@@ -6,7 +6,7 @@
 #include <stddef.h>
 #include <stdint.h>
 
-enum { MAX_PICTURES = 512 };
+enum { MAX_PICTURES = 2048 };
 
 /* One coded picture, with the sequence and group headers before it. */
 struct picture {

@@ -5,7 +5,7 @@
 
 size_t agree_numbers[256];
 
-/* Lent memory, one piece for each program, with the same bytes in it before a call. The third is for a variant. */
+/* Lent memory, one piece for each program, with the same bytes in it before a call. */
 static union lent {
     uint8_t bytes[REEL_BYTES + 64];
     uint16_t words[CAPTIONS_MULTI_WORDS + 32];
@@ -15,7 +15,7 @@ static union lent {
     captions_inner inners[CAPTIONS_INNERS + 2];
     captions_data_unit data_units[CAPTIONS_PES_UNITS + 1];
     captions_access_unit units[CAPTIONS_ACCESS_UNITS + 2];
-} lent[3];
+} lent[2];
 
 /* How much of it one kind of call can reach, and some bytes more that none may change. */
 static void fill(size_t bytes)
@@ -23,7 +23,6 @@ static void fill(size_t bytes)
     uint8_t with = (uint8_t)(1 + below(255));
     memset(lent[0].bytes, with, bytes);
     memset(lent[1].bytes, with, bytes);
-    memset(lent[2].bytes, with, bytes);
 }
 
 static bool same_lent(size_t bytes)
@@ -42,24 +41,13 @@ static bool same_written(captions_written a, captions_written b)
     return same_refusal(a.refusal, b.refusal) && a.len == b.len;
 }
 
-/* All but the refusals. */
-static bool same_unit(const captions_unit *a, const captions_unit *b)
+bool agree_area_read(const calls *plain, const area_input *area)
 {
-    return a->present == b->present && a->reserved == b->reserved && a->vbi_data_flag == b->vbi_data_flag &&
-           a->n == b->n && a->z == b->z;
-}
-
-bool agree_area_read(const area_input *area)
-{
-    size_t size = sizeof lent[0].records;
-    fill(size);
-    captions_unit a = plain_calls.area_read(area->bytes, area->len, lent[0].records);
+    fill(sizeof lent[0].records);
+    captions_unit a = plain->area_read(area->bytes, area->len, lent[0].records);
     captions_unit b = library_calls.area_read(area->bytes, area->len, lent[1].records);
-    captions_unit c = memchr_calls.area_read(area->bytes, area->len, lent[2].records);
-    /* The variant's refusal is compared here, since an input is counted once. */
-    bool variant = c.refusal.number == b.refusal.number && c.refusal.place == b.refusal.place && same_unit(&c, &b) &&
-                   memcmp(lent[2].bytes, lent[1].bytes, size) == 0;
-    return variant && same_refusal(a.refusal, b.refusal) && same_unit(&a, &b) && same_lent(size);
+    return same_refusal(a.refusal, b.refusal) && a.present == b.present && a.reserved == b.reserved &&
+           a.vbi_data_flag == b.vbi_data_flag && a.n == b.n && a.z == b.z && same_lent(sizeof lent[0].records);
 }
 
 /* How much of a byte output is compared: what an answer may have stored, and 64 bytes more. */
@@ -68,28 +56,28 @@ static size_t reach(size_t room)
     return room + 64;
 }
 
-bool agree_unit_write(const unit_value *v, size_t room)
+bool agree_unit_write(const calls *plain, const unit_value *v, size_t room)
 {
     fill(reach(room));
-    captions_written a = plain_calls.unit_write(v->reserved, v->flag, v->n, v->z, v->records, lent[0].bytes, room);
+    captions_written a = plain->unit_write(v->reserved, v->flag, v->n, v->z, v->records, lent[0].bytes, room);
     captions_written b = library_calls.unit_write(v->reserved, v->flag, v->n, v->z, v->records, lent[1].bytes, room);
     return same_written(a, b) && same_lent(reach(room));
 }
 
-bool agree_area_replace(const area_input *area, const unit_value *v, size_t room)
+bool agree_area_replace(const calls *plain, const area_input *area, const unit_value *v, size_t room)
 {
     fill(reach(room));
-    captions_written a = plain_calls.area_replace(area->bytes, area->len, v->reserved, v->flag, v->n, v->z, v->records,
+    captions_written a = plain->area_replace(area->bytes, area->len, v->reserved, v->flag, v->n, v->z, v->records,
                                                   lent[0].bytes, room);
     captions_written b = library_calls.area_replace(area->bytes, area->len, v->reserved, v->flag, v->n, v->z,
                                                     v->records, lent[1].bytes, room);
     return same_written(a, b) && same_lent(reach(room));
 }
 
-bool agree_ga94_read(const area_input *area)
+bool agree_ga94_read(const calls *plain, const area_input *area)
 {
     fill(sizeof lent[0].ga94);
-    captions_ga94_unit a = plain_calls.ga94_read(area->bytes, area->len, lent[0].ga94);
+    captions_ga94_unit a = plain->ga94_read(area->bytes, area->len, lent[0].ga94);
     captions_ga94_unit b = library_calls.ga94_read(area->bytes, area->len, lent[1].ga94);
     return same_refusal(a.refusal, b.refusal) && a.present == b.present &&
            a.process_em_data_flag == b.process_em_data_flag && a.process_cc_data_flag == b.process_cc_data_flag &&
@@ -97,122 +85,123 @@ bool agree_ga94_read(const area_input *area)
            same_lent(sizeof lent[0].ga94);
 }
 
-bool agree_ga94_write(const ga94_value *v, size_t room)
+bool agree_ga94_write(const calls *plain, const ga94_value *v, size_t room)
 {
     fill(reach(room));
-    captions_written a = plain_calls.ga94_write(v->em_flag, v->cc_flag, v->additional, v->em_data, v->n, v->z, v->records,
+    captions_written a = plain->ga94_write(v->em_flag, v->cc_flag, v->additional, v->em_data, v->n, v->z, v->records,
                                                 lent[0].bytes, room);
     captions_written b = library_calls.ga94_write(v->em_flag, v->cc_flag, v->additional, v->em_data, v->n, v->z,
                                                   v->records, lent[1].bytes, room);
     return same_written(a, b) && same_lent(reach(room));
 }
 
-bool agree_ga94_replace(const area_input *area, const ga94_value *v, size_t room)
+bool agree_ga94_replace(const calls *plain, const area_input *area, const ga94_value *v, size_t room)
 {
     fill(reach(room));
-    captions_written a = plain_calls.ga94_replace(area->bytes, area->len, v->em_flag, v->cc_flag, v->additional,
+    captions_written a = plain->ga94_replace(area->bytes, area->len, v->em_flag, v->cc_flag, v->additional,
                                                   v->em_data, v->n, v->z, v->records, lent[0].bytes, room);
     captions_written b = library_calls.ga94_replace(area->bytes, area->len, v->em_flag, v->cc_flag, v->additional,
                                                     v->em_data, v->n, v->z, v->records, lent[1].bytes, room);
     return same_written(a, b) && same_lent(reach(room));
 }
 
-bool agree_packet_read(const packet_input *packet)
+bool agree_packet_read(const calls *plain, const packet_input *packet)
 {
     fill(sizeof lent[0].rows);
-    captions_packet a = plain_calls.packet_read(packet->words, packet->len, lent[0].rows);
+    captions_packet a = plain->packet_read(packet->words, packet->len, lent[0].rows);
     captions_packet b = library_calls.packet_read(packet->words, packet->len, lent[1].rows);
     return same_refusal(a.refusal, b.refusal) && a.counter == b.counter &&
            memcmp(a.slots, b.slots, sizeof a.slots) == 0 && same_lent(sizeof lent[0].rows);
 }
 
-bool agree_packet_write(const packet_value *v, size_t room)
+bool agree_packet_write(const calls *plain, const packet_value *v, size_t room)
 {
     fill(sizeof lent[0].words);
-    captions_written a = plain_calls.packet_write(v->counter, v->slots, v->rows, lent[0].words, room);
+    captions_written a = plain->packet_write(v->counter, v->slots, v->rows, lent[0].words, room);
     captions_written b = library_calls.packet_write(v->counter, v->slots, v->rows, lent[1].words, room);
     return same_written(a, b) && same_lent(sizeof lent[0].words);
 }
 
-bool agree_multi_read(const multi_input *multi)
+bool agree_multi_read(const calls *plain, const multi_input *multi)
 {
     fill(sizeof lent[0].inners);
-    captions_multi a = plain_calls.multi_read(multi->words, multi->len, lent[0].inners);
+    captions_multi a = plain->multi_read(multi->words, multi->len, lent[0].inners);
     captions_multi b = library_calls.multi_read(multi->words, multi->len, lent[1].inners);
-    return same_refusal(a.refusal, b.refusal) && a.priority == b.priority && a.n == b.n && same_lent(sizeof lent[0].inners);
+    return same_refusal(a.refusal, b.refusal) && a.priority == b.priority && a.n == b.n &&
+           same_lent(sizeof lent[0].inners);
 }
 
-bool agree_multi_write(const multi_value *v, size_t room)
+bool agree_multi_write(const calls *plain, const multi_value *v, size_t room)
 {
     fill(sizeof lent[0].words);
-    captions_written a = plain_calls.multi_write(v->priority, v->inners, v->n, v->words, v->len, lent[0].words, room);
+    captions_written a = plain->multi_write(v->priority, v->inners, v->n, v->words, v->len, lent[0].words, room);
     captions_written b = library_calls.multi_write(v->priority, v->inners, v->n, v->words, v->len, lent[1].words, room);
     return same_written(a, b) && same_lent(sizeof lent[0].words);
 }
 
-bool agree_pes_read(const pes_input *pes)
+bool agree_pes_read(const calls *plain, const pes_input *pes)
 {
     fill(sizeof lent[0].data_units);
-    captions_pes a = plain_calls.pes_read(pes->bytes, pes->len, lent[0].data_units);
+    captions_pes a = plain->pes_read(pes->bytes, pes->len, lent[0].data_units);
     captions_pes b = library_calls.pes_read(pes->bytes, pes->len, lent[1].data_units);
     return same_refusal(a.refusal, b.refusal) && a.data_identifier == b.data_identifier && a.n == b.n &&
            same_lent(sizeof lent[0].data_units);
 }
 
-bool agree_pes_write(const pes_value *v, size_t room)
+bool agree_pes_write(const calls *plain, const pes_value *v, size_t room)
 {
     fill(reach(room));
-    captions_written a = plain_calls.pes_write(v->data_identifier, v->n, v->units, lent[0].bytes, room);
+    captions_written a = plain->pes_write(v->data_identifier, v->n, v->units, lent[0].bytes, room);
     captions_written b = library_calls.pes_write(v->data_identifier, v->n, v->units, lent[1].bytes, room);
     return same_written(a, b) && same_lent(reach(room));
 }
 
-bool agree_pes_convert(const packet_input *packet, size_t room)
+bool agree_pes_convert(const calls *plain, const packet_input *packet, size_t room)
 {
     fill(reach(room));
-    captions_written a = plain_calls.pes_convert(packet->words, packet->len, lent[0].bytes, room);
+    captions_written a = plain->pes_convert(packet->words, packet->len, lent[0].bytes, room);
     captions_written b = library_calls.pes_convert(packet->words, packet->len, lent[1].bytes, room);
     return same_written(a, b) && same_lent(reach(room));
 }
 
-bool agree_pes_convert_value(const packet_value *v, size_t room)
+bool agree_pes_convert_value(const calls *plain, const packet_value *v, size_t room)
 {
     fill(reach(room));
-    captions_written a = plain_calls.pes_convert_value(v->counter, v->slots, v->rows, lent[0].bytes, room);
+    captions_written a = plain->pes_convert_value(v->counter, v->slots, v->rows, lent[0].bytes, room);
     captions_written b = library_calls.pes_convert_value(v->counter, v->slots, v->rows, lent[1].bytes, room);
     return same_written(a, b) && same_lent(reach(room));
 }
 
-bool agree_payload_read(const payload_input *payload)
+bool agree_payload_read(const calls *plain, const payload_input *payload)
 {
     fill(sizeof lent[0].units);
-    captions_payload a = plain_calls.payload_read(payload->bytes, payload->len, lent[0].units);
+    captions_payload a = plain->payload_read(payload->bytes, payload->len, lent[0].units);
     captions_payload b = library_calls.payload_read(payload->bytes, payload->len, lent[1].units);
     return same_refusal(a.refusal, b.refusal) && a.flags == b.flags && a.m == b.m && same_lent(sizeof lent[0].units);
 }
 
-bool agree_payload_write(const payload_value *v, size_t room)
+bool agree_payload_write(const calls *plain, const payload_value *v, size_t room)
 {
     fill(reach(room));
-    captions_written a = plain_calls.payload_write(v->flags, v->m, v->units, lent[0].bytes, room);
+    captions_written a = plain->payload_write(v->flags, v->m, v->units, lent[0].bytes, room);
     captions_written b = library_calls.payload_write(v->flags, v->m, v->units, lent[1].bytes, room);
     return same_written(a, b) && same_lent(reach(room));
 }
 
-bool agree_reel_write(const reel_value *v, size_t room)
+bool agree_reel_write(const calls *plain, const reel_value *v, size_t room)
 {
     fill(reach(room));
-    captions_written a = plain_calls.reel_write(v->flags, v->size, v->units, v->n, lent[0].bytes, room);
+    captions_written a = plain->reel_write(v->flags, v->size, v->units, v->n, lent[0].bytes, room);
     captions_written b = library_calls.reel_write(v->flags, v->size, v->units, v->n, lent[1].bytes, room);
     return same_written(a, b) && same_lent(reach(room));
 }
 
-bool agree_reel_write_bytes(const reel_value *v, size_t room)
+bool agree_reel_write_bytes(const calls *plain, const reel_value *v, size_t room)
 {
     const uint8_t *units = (const uint8_t *)v->units;
     size_t len = v->n * sizeof v->units[0] + v->stray;
     fill(reach(room));
-    captions_written a = plain_calls.reel_write_bytes(v->flags, v->size, units, len, lent[0].bytes, room);
+    captions_written a = plain->reel_write_bytes(v->flags, v->size, units, len, lent[0].bytes, room);
     captions_written b = library_calls.reel_write_bytes(v->flags, v->size, units, len, lent[1].bytes, room);
     return same_written(a, b) && same_lent(reach(room));
 }
@@ -236,26 +225,27 @@ static bool same_sent(captions_film_sent a, captions_film_sent b, const states *
            same_lent(FILM_REACH);
 }
 
-static captions_film_sent carry_picture(const calls *c, captions_film *film, const film_value *v, captions_access_unit *units)
+static captions_film_sent carry_picture(const calls *c, captions_film *film, const film_value *v,
+                                        captions_access_unit *units)
 {
-    return c->film_picture(film, v->top_field_first, v->repeat_first_field, v->line, v->unit.reserved, v->unit.flag, v->unit.n,
-                           v->unit.z, v->unit.records, units);
+    return c->film_picture(film, v->top_field_first, v->repeat_first_field, v->line, v->unit.reserved, v->unit.flag,
+                           v->unit.n, v->unit.z, v->unit.records, units);
 }
 
-bool agree_film_picture(const film_value *v)
+bool agree_film_picture(const calls *plain, const film_value *v)
 {
     states s = lend_state(v->state);
     fill(FILM_REACH);
-    captions_film_sent a = carry_picture(&plain_calls, &s.of[0][1], v, lent[0].units);
+    captions_film_sent a = carry_picture(plain, &s.of[0][1], v, lent[0].units);
     captions_film_sent b = carry_picture(&library_calls, &s.of[1][1], v, lent[1].units);
     return same_sent(a, b, &s);
 }
 
-bool agree_film_close(const film_value *v)
+bool agree_film_close(const calls *plain, const film_value *v)
 {
     states s = lend_state(v->state);
     fill(FILM_REACH);
-    captions_film_sent a = plain_calls.film_close(&s.of[0][1], lent[0].units);
+    captions_film_sent a = plain->film_close(&s.of[0][1], lent[0].units);
     captions_film_sent b = library_calls.film_close(&s.of[1][1], lent[1].units);
     return same_sent(a, b, &s);
 }
@@ -419,7 +409,7 @@ static void random_packet(packet_input *packet)
 }
 
 /* What is read, and then what is written: the value with some numbers and words changed. */
-static bool random_multi(void)
+static bool random_multi(const calls *plain)
 {
     static multi_value v;
     static multi_input multi;
@@ -441,7 +431,7 @@ static bool random_multi(void)
         mend_cs(multi.words + 3, n - 4);
     }
     multi.len = below(8) != 0 ? n : nearly(n, CAPTIONS_MULTI_WORDS + 16);
-    bool same = agree_multi_read(&multi);
+    bool same = agree_multi_read(plain, &multi);
     if (below(4) == 0) {
         mutate_words(v.words, v.len);
     }
@@ -455,11 +445,11 @@ static bool random_multi(void)
     if (below(8) == 0) {
         v.n = below(sizeof v.inners / sizeof v.inners[0] + 1);
     }
-    return same && agree_multi_write(&v, below(2) == 0 ? CAPTIONS_MULTI_WORDS : below(CAPTIONS_MULTI_WORDS));
+    return same && agree_multi_write(plain, &v, below(2) == 0 ? CAPTIONS_MULTI_WORDS : below(CAPTIONS_MULTI_WORDS));
 }
 
 /* The value to write as a packet, and to convert. Lines are 6 to 22, and a data field has no line 6. */
-static bool random_packet_value(void)
+static bool random_packet_value(const calls *plain)
 {
     packet_value v;
     make_packet(&v, below(6));
@@ -475,8 +465,8 @@ static bool random_packet_value(void)
     if (below(16) == 0) {
         v.counter += below(3) * 40000;
     }
-    return agree_packet_write(&v, below(2) == 0 ? CAPTIONS_PACKET_WORDS : below(250)) &&
-           agree_pes_convert_value(&v, below(3) != 0 ? CAPTIONS_PES_BYTES : below(240));
+    return agree_packet_write(plain, &v, below(2) == 0 ? CAPTIONS_PACKET_WORDS : below(250)) &&
+           agree_pes_convert_value(plain, &v, below(3) != 0 ? CAPTIONS_PES_BYTES : below(240));
 }
 
 enum { UNIT_BYTES = 46, UNIT_HEAD = 4 /* the bytes of a unit that are judged */ };
@@ -513,7 +503,7 @@ static void mutate_field(const pes_value *v, pes_input *pes)
     }
 }
 
-static bool random_pes(void)
+static bool random_pes(const calls *plain)
 {
     static pes_value v;
     static pes_input pes;
@@ -521,7 +511,7 @@ static bool random_pes(void)
     stuff_some(&v);
     carry_pes(&v, &pes);
     mutate_field(&v, &pes);
-    bool same = agree_pes_read(&pes);
+    bool same = agree_pes_read(plain, &pes);
     size_t room = below(2) == 0 ? 1 + UNIT_BYTES * v.n : below(CAPTIONS_PES_BYTES + 2);
     if (below(3) == 0 && v.n > 0) {
         mutate(&v.units[below((uint32_t)v.n)], UNIT_HEAD);
@@ -530,10 +520,10 @@ static bool random_pes(void)
         v.data_identifier = below(300);
         v.n = below(34);
     }
-    return same && agree_pes_write(&v, room);
+    return same && agree_pes_write(plain, &v, room);
 }
 
-static bool random_payload(void)
+static bool random_payload(const calls *plain)
 {
     static payload_value v;
     static payload_input payload;
@@ -543,7 +533,7 @@ static bool random_payload(void)
     if (below(50) == 0) {
         payload.len = CAPTIONS_PAYLOAD_BYTES - 8 + below(16);
     }
-    bool same = agree_payload_read(&payload);
+    bool same = agree_payload_read(plain, &payload);
     if (below(4) == 0) {
         mutate(v.units, v.m * sizeof v.units[0]);
     }
@@ -551,11 +541,11 @@ static bool random_payload(void)
         v.flags = below(300);
         v.m = below(4) == 0 ? 290 + below(4) : v.m;
     }
-    return same && agree_payload_write(&v, below(2) == 0 ? CAPTIONS_PAYLOAD_BYTES : below(80));
+    return same && agree_payload_write(plain, &v, below(2) == 0 ? CAPTIONS_PAYLOAD_BYTES : below(80));
 }
 
 /* Short runs of several payloads. Half of them get the room that they need, the others any less or a byte more. */
-static bool random_reel(void)
+static bool random_reel(const calls *plain)
 {
     static captions_access_unit units[700];
     reel_value v = {.flags = below(20) == 0 ? below(600) : below(256), .units = units};
@@ -568,7 +558,7 @@ static bool random_reel(void)
     }
     size_t whole = 5 * v.n + (v.size == 0 ? 0 : (v.n + v.size - 1) / v.size);
     size_t room = below(2) == 0 ? whole : below((uint32_t)whole + 2);
-    return agree_reel_write(&v, room) && agree_reel_write_bytes(&v, room);
+    return agree_reel_write(plain, &v, room) && agree_reel_write_bytes(plain, &v, room);
 }
 
 /* Mostly a state that a call can leave. */
@@ -585,7 +575,7 @@ static captions_film random_state(void)
 }
 
 /* Records of any fields on one line, or those of a caption unit, which are on many. */
-static bool random_film(void)
+static bool random_film(const calls *plain)
 {
     film_value v;
     uint32_t repeat = below(2);
@@ -602,13 +592,14 @@ static bool random_film(void)
         v.repeat_first_field = below(3);
         v.line = below(40);
     }
-    return agree_film_picture(&v) && agree_film_close(&v);
+    return agree_film_picture(plain, &v) && agree_film_close(plain, &v);
 }
 
-bool agree_on_random(size_t inputs)
+bool agree_on_random(const calls *plain, size_t inputs)
 {
     static area_input area;
     static packet_input packet;
+    restart(0);
     for (size_t i = 0; i < inputs; i += 20) {
         unit_value v;
         ga94_value g;
@@ -621,10 +612,13 @@ bool agree_on_random(size_t inputs)
             g.z = CAPTIONS_AREA_BYTES - 2 + below(5) - area.len - size_of_ga94(&g);
         }
         size_t room = below(8) == 0 || v.z > 1000 || g.z > 1000 ? CAPTIONS_AREA_BYTES : below(600);
-        if (!agree_area_read(&area) || !agree_unit_write(&v, room) || !agree_area_replace(&area, &v, room) ||
-            !agree_ga94_read(&area) || !agree_ga94_write(&g, room) || !agree_ga94_replace(&area, &g, room) ||
-            !agree_packet_read(&packet) || !agree_pes_convert(&packet, below(3) != 0 ? CAPTIONS_PES_BYTES : below(240)) ||
-            !random_packet_value() || !random_multi() || !random_pes() || !random_payload() || !random_reel() || !random_film()) {
+        size_t field_room = below(3) != 0 ? CAPTIONS_PES_BYTES : below(240);
+        if (!agree_area_read(plain, &area) || !agree_unit_write(plain, &v, room) ||
+            !agree_area_replace(plain, &area, &v, room) || !agree_ga94_read(plain, &area) ||
+            !agree_ga94_write(plain, &g, room) || !agree_ga94_replace(plain, &area, &g, room) ||
+            !agree_packet_read(plain, &packet) || !agree_pes_convert(plain, &packet, field_room) ||
+            !random_packet_value(plain) || !random_multi(plain) || !random_pes(plain) || !random_payload(plain) ||
+            !random_reel(plain) || !random_film(plain)) {
             return false;
         }
     }

@@ -1,40 +1,19 @@
 /* inputs.c: see inputs.h. */
 #include "inputs.h"
 
-#include "plain.h"
+#include "programs.h"
 
 #include <string.h>
 
-const calls plain_calls = {
-    plain_area_read,    plain_unit_write,    plain_area_replace, plain_ga94_read,
-    plain_ga94_write,   plain_ga94_replace,  plain_packet_read,  plain_packet_write,
-    plain_multi_read,   plain_multi_write,   plain_pes_read,     plain_pes_write,
-    plain_pes_convert,  plain_pes_convert_value,
-    plain_payload_read, plain_payload_write, plain_reel_write,   plain_reel_write_bytes,
-    plain_film_picture, plain_film_close,
-};
+static uint64_t state = 1;
 
-const calls memchr_calls = {
-    plain_area_read_memchr, plain_unit_write,    plain_area_replace, plain_ga94_read,
-    plain_ga94_write,       plain_ga94_replace,  plain_packet_read,  plain_packet_write,
-    plain_multi_read,       plain_multi_write,   plain_pes_read,     plain_pes_write,
-    plain_pes_convert,      plain_pes_convert_value,
-    plain_payload_read,     plain_payload_write, plain_reel_write,   plain_reel_write_bytes,
-    plain_film_picture,     plain_film_close,
-};
-
-const calls library_calls = {
-    captions_area_read,    captions_unit_write,    captions_area_replace, captions_ga94_read,
-    captions_ga94_write,   captions_ga94_replace,  captions_packet_read,  captions_packet_write,
-    captions_multi_read,   captions_multi_write,   captions_pes_read,     captions_pes_write,
-    captions_pes_convert,  captions_pes_convert_value,
-    captions_payload_read, captions_payload_write, captions_reel_write,   captions_reel_write_bytes,
-    captions_film_picture, captions_film_close,
-};
+void restart(uint32_t number)
+{
+    state = 0x9E3779B97F4A7C15 * (number + UINT64_C(1));
+}
 
 uint32_t below(uint32_t n)
 {
-    static uint64_t state = 0x9E3779B97F4A7C15;
     state ^= state << 13;
     state ^= state >> 7;
     state ^= state << 17;
@@ -47,8 +26,8 @@ static uint8_t byte(void)
 }
 
 /*
- * Lines rise by one within each field, which leaves room for 31 records in one field. Reserved is not 4, which with flag 1
- * would begin a data group.
+ * Lines rise by one within each field, which leaves room for 31 records in one field. Reserved is not 4, which with
+ * flag 1 would begin a data group.
  */
 void make_unit(unit_value *v, size_t n, size_t z)
 {
@@ -191,36 +170,42 @@ void make_picture(film_value *v, uint32_t top_field_first, uint32_t repeat_first
     }
 }
 
+static const calls *writers(void)
+{
+    return &plain_programs[0]->own;
+}
+
 void carry_unit(const unit_value *v, area_input *area)
 {
-    area->len += plain_unit_write(v->reserved, v->flag, v->n, v->z, v->records, area->bytes + area->len,
+    area->len += writers()->unit_write(v->reserved, v->flag, v->n, v->z, v->records, area->bytes + area->len,
                                   CAPTIONS_AREA_BYTES - area->len).len;
 }
 
 void carry_ga94(const ga94_value *v, area_input *area)
 {
-    area->len += plain_ga94_write(v->em_flag, v->cc_flag, v->additional, v->em_data, v->n, v->z, v->records,
+    area->len += writers()->ga94_write(v->em_flag, v->cc_flag, v->additional, v->em_data, v->n, v->z, v->records,
                                   area->bytes + area->len, CAPTIONS_AREA_BYTES - area->len).len;
 }
 
 void carry_packet(const packet_value *v, packet_input *packet)
 {
-    packet->len = plain_packet_write(v->counter, v->slots, v->rows, packet->words, CAPTIONS_PACKET_WORDS).len;
+    packet->len = writers()->packet_write(v->counter, v->slots, v->rows, packet->words, CAPTIONS_PACKET_WORDS).len;
 }
 
 void carry_multi(const multi_value *v, multi_input *multi)
 {
-    multi->len = plain_multi_write(v->priority, v->inners, v->n, v->words, v->len, multi->words, CAPTIONS_MULTI_WORDS).len;
+    multi->len = writers()->multi_write(v->priority, v->inners, v->n, v->words, v->len, multi->words,
+                                        CAPTIONS_MULTI_WORDS).len;
 }
 
 void carry_pes(const pes_value *v, pes_input *pes)
 {
-    pes->len = plain_pes_write(v->data_identifier, v->n, v->units, pes->bytes, CAPTIONS_PES_BYTES).len;
+    pes->len = writers()->pes_write(v->data_identifier, v->n, v->units, pes->bytes, CAPTIONS_PES_BYTES).len;
 }
 
 void carry_payload(const payload_value *v, payload_input *payload)
 {
-    payload->len = plain_payload_write(v->flags, v->m, v->units, payload->bytes, CAPTIONS_PAYLOAD_BYTES).len;
+    payload->len = writers()->payload_write(v->flags, v->m, v->units, payload->bytes, CAPTIONS_PAYLOAD_BYTES).len;
 }
 
 /* Letters, spaces, and now and then a 0 or a 1, as in the counts of a caption block. */
@@ -257,7 +242,8 @@ void add_foreign(area_input *area, size_t body, enum body kind)
     for (size_t i = 4; i < 4 + body; i++) {
         s[i] = body_byte(kind, i - 4);
         /* No start code within, and no caption unit: of one byte, 03 would be one in each kind. */
-        if ((s[i] == 1 && s[i - 1] == 0 && s[i - 2] == 0) || (i == 4 && s[i] == 3 && (kind != GROUP_BODY || body < 2))) {
+        if ((s[i] == 1 && s[i - 1] == 0 && s[i - 2] == 0) ||
+            (i == 4 && s[i] == 3 && (kind != GROUP_BODY || body < 2))) {
             s[i] = 0xFF;
         }
     }

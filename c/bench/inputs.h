@@ -1,4 +1,4 @@
-/* inputs.h: values and their carriages, made from a counted random sequence, so that every run has the same ones. */
+/* inputs.h: values and their carriages, made from counted random sequences, so that every run has the same ones. */
 #ifndef INPUTS_H
 #define INPUTS_H
 
@@ -95,37 +95,8 @@ typedef struct film_value {
     unit_value unit;
 } film_value;
 
-/* The twenty calls of one program. */
-typedef struct calls {
-    captions_unit (*area_read)(const uint8_t *, size_t, captions_record *);
-    captions_written (*unit_write)(uint32_t, uint32_t, size_t, size_t, const captions_record *, uint8_t *, size_t);
-    captions_written (*area_replace)(const uint8_t *, size_t, uint32_t, uint32_t, size_t, size_t,
-                                     const captions_record *, uint8_t *, size_t);
-    captions_ga94_unit (*ga94_read)(const uint8_t *, size_t, captions_ga94_record *);
-    captions_written (*ga94_write)(uint32_t, uint32_t, uint32_t, uint32_t, size_t, size_t, const captions_ga94_record *,
-                                   uint8_t *, size_t);
-    captions_written (*ga94_replace)(const uint8_t *, size_t, uint32_t, uint32_t, uint32_t, uint32_t, size_t, size_t,
-                                     const captions_ga94_record *, uint8_t *, size_t);
-    captions_packet (*packet_read)(const uint16_t *, size_t, captions_row *);
-    captions_written (*packet_write)(uint32_t, const captions_slot *, const captions_row *, uint16_t *, size_t);
-    captions_multi (*multi_read)(const uint16_t *, size_t, captions_inner *);
-    captions_written (*multi_write)(uint32_t, const captions_inner *, size_t, const uint16_t *, size_t, uint16_t *, size_t);
-    captions_pes (*pes_read)(const uint8_t *, size_t, captions_data_unit *);
-    captions_written (*pes_write)(uint32_t, size_t, const captions_data_unit *, uint8_t *, size_t);
-    captions_written (*pes_convert)(const uint16_t *, size_t, uint8_t *, size_t);
-    captions_written (*pes_convert_value)(uint32_t, const captions_slot *, const captions_row *, uint8_t *, size_t);
-    captions_payload (*payload_read)(const uint8_t *, size_t, captions_access_unit *);
-    captions_written (*payload_write)(uint32_t, size_t, const captions_access_unit *, uint8_t *, size_t);
-    captions_written (*reel_write)(uint32_t, size_t, const captions_access_unit *, size_t, uint8_t *, size_t);
-    captions_written (*reel_write_bytes)(uint32_t, size_t, const uint8_t *, size_t, uint8_t *, size_t);
-    captions_film_sent (*film_picture)(captions_film *, uint32_t, uint32_t, uint32_t, uint32_t, uint32_t, size_t, size_t,
-                                       const captions_record *, captions_access_unit *);
-    captions_film_sent (*film_close)(captions_film *, captions_access_unit *);
-} calls;
-
-extern const calls plain_calls;
-extern const calls memchr_calls; /* the plain ones, but for the search of area_read */
-extern const calls library_calls;
+/* Begins the random sequence of that number. */
+void restart(uint32_t number);
 
 /* A number below n, which is not 0. */
 uint32_t below(uint32_t n);
@@ -145,7 +116,7 @@ void make_run(captions_access_unit *units, size_t n);
 /* A picture with these flags and records of its first n display fields, before which nothing waits. */
 void make_picture(film_value *v, uint32_t top_field_first, uint32_t repeat_first_field, size_t n);
 
-/* What carries them, from the plain writers. */
+/* What carries them, from the writers of plain C by the first compiler. */
 void carry_unit(const unit_value *v, area_input *area);
 void carry_ga94(const ga94_value *v, area_input *area);
 void carry_packet(const packet_value *v, packet_input *packet);
@@ -156,7 +127,7 @@ void carry_payload(const payload_value *v, payload_input *payload);
 /* Lines that a data field may have: line 6 becomes another. */
 void lift_line_6(packet_value *v);
 
-/* Puts a foreign unit with a body of that many bytes behind what stands in the area. Data groups are four bytes each. */
+/* Puts a foreign unit with a body of that many bytes behind what stands in the area. Data groups have four each. */
 enum body { RANDOM_BODY, ZERO_BODY, TEXT_BODY, GROUP_BODY, BODIES };
 void add_foreign(area_input *area, size_t body, enum body kind);
 
