@@ -3,8 +3,11 @@
 //
 // Normative references: docs/RULES.md, "Order of checks" and "Line 21 payload".
 ghost use mathlib.Core.Path.{_≡_};
+ghost use mathlib.Core.Bool.{true};
+ghost use mathlib.Core.Logic.{_↔_};
 ghost use Rattle.line21.specs.Writing.{unitVerdict};
 ghost use Rattle.line21_judge.specs.Judging.{lentVerdict};
+ghost use Rattle.line21_judge.specs.Seen.{Clear, Gathers, Vouches};
 use line21::AccessUnit;
 use line21::LENT_UNIT;
 use line21::MAX_UNITS;
@@ -52,4 +55,40 @@ pub fn judge_unit(u: AccessUnit) -> Verdict
         return Verdict::Refused(Reason::Unholdable(Excess::Padding), Item::Whole);
     }
     Verdict::Accepted
+}
+
+// Whether no unit of a run is refused. After a no, the checks in their order tell what is wrong. It looks at all units: a
+// loop that does not leave early is done by wide registers.
+pub fn all_hold(units: &[u8]) -> bool
+    ensures { λ r. ⌜ Vouches (now (units .entry)) r ⌝ }
+{
+    let mut seen = 0;
+    let mut i = 0;
+    while i < units.len() / LENT_UNIT {
+        seen = gather(seen, line21::unit_in(units, i));
+        i += 1;
+    }
+    is_clear(seen)
+}
+
+// One unit more. Its first four bytes are one number, so that they are one load; the fourth, a data byte, does not count.
+pub fn gather(seen: u32, u: AccessUnit) -> u32
+    ensures { λ r. ⌜ Gathers seen u r ⌝ }
+{
+    let flags = u.cc_valid_1 as u32 + 256 * u.cc_valid_2 as u32;
+    let word = flags + 65536 * u.padding as u32 + 16777216 * u.field1_data1 as u32;
+    seen | word
+}
+
+// Whether none of the units that were gathered is refused.
+pub fn is_clear(seen: u32) -> bool
+    ensures { λ r. ⌜ r ≡ true ↔ Clear seen ⌝ }
+{
+    if 1 < seen % 256 {
+        return false;
+    }
+    if 1 < seen / 256 % 256 {
+        return false;
+    }
+    seen / 65536 % 256 < 64
 }

@@ -5,15 +5,16 @@ mod plain;
 mod reels;
 
 ghost use mathlib.Core.Path.{_≡_};
-ghost use Prim.Native.Nat.{_*_, _≤_};
-ghost use lib.ListN.{length};
+ghost use Prim.Native.Nat.{_+_, _*_, _≤_};
+ghost use lib.ListN.{length, drop};
 ghost use Rattle.lists.specs.Room.{over};
 ghost use Rattle.refusal.specs.declared.Verdict.the-variants.{Accepted};
 ghost use Rattle.line21.specs.Value.{held};
 ghost use Rattle.line21.specs.Layout.{layout, layoutAccessUnit};
 ghost use Rattle.line21.specs.Writing.{unitVerdict, valueVerdict, Writes};
-ghost use Rattle.line21.specs.Lent.{payloadIn};
+ghost use Rattle.line21.specs.Lent.{accessUnitIn, payloadIn};
 use line21::AccessUnit;
+use line21::LENT_UNIT;
 use line21::LENT_UNITS;
 use line21::Payload;
 use line21::UNIT_BYTES;
@@ -53,10 +54,26 @@ pub(crate) fn write_judged(flags: u8, m: usize, units: &[u8], out: &mut [u8]) ->
     out[0] = flags;
     let mut k = 0;
     while k < m {
-        put_unit(line21::unit_in(units, k), &mut out[1 + UNIT_BYTES * k..]);
+        put_unit(unit_at(units, LENT_UNIT * k), &mut out[1 + UNIT_BYTES * k..]);
         k += 1;
     }
     1 + UNIT_BYTES * m
+}
+
+// The unit whose seven bytes stand from index at on.
+fn unit_at(units: &[u8], at: usize) -> AccessUnit
+    requires { ⌜ at + 7 ≤ length (now units) ⌝ }
+    ensures { λ r. ⌜ r ≡ accessUnitIn (drop at (now (units .entry))) ⌝ }
+{
+    AccessUnit {
+        cc_valid_1: units[at],
+        cc_valid_2: units[at + 1],
+        padding: units[at + 2],
+        field1_data1: units[at + 3],
+        field1_data2: units[at + 4],
+        field2_data1: units[at + 5],
+        field2_data2: units[at + 6],
+    }
 }
 
 // Stores one unit's five bytes at the front of out.

@@ -2,6 +2,7 @@ pub mod Cutting
 pub mod Judging
 pub mod UnitByUnit
 pub mod Writing
+pub mod Fitting
 pub mod Single
 pub mod Back
 pub mod Sequence

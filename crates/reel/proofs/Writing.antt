@@ -48,7 +48,7 @@ accepted-reel (v ∷ vs) room e =
     let all = length-append (layout v) (reelLayout vs) in
     ((sym (ap unitsVerdict (stored-units v)) ∙ here .each, rest .0), omega (arith, here .fits, rest .1))
 
-reel-accepted : (vs : List Line21) (room : ℕ) → Each Few vs → Each Passes vs → length (reelLayout vs) ≤ room → reelVerdict vs room ≡ Accepted
+pub reel-accepted : (vs : List Line21) (room : ℕ) → Each Few vs → Each Passes vs → length (reelLayout vs) ≤ room → reelVerdict vs room ≡ Accepted
 reel-accepted [] room few pass fits = refl
 reel-accepted (v ∷ vs) room few pass fits =
     let long = ap (λ (w : Line21). length (layout w)) (stored-held v) in
@@ -108,7 +108,7 @@ module _ (flags size : ℕ) (us : List AccessUnit) (some : 1 ≤ size) where
       (subst (λ (xs : List AccessUnit). Each (λ (u : AccessUnit). unitVerdict u ≡ Accepted) xs) (cut-joined size some us)
       (each-joined (λ (u : AccessUnit). unitVerdict u ≡ Accepted) (cut size us) each))
 
-  pass-units : unitsVerdict us ≡ Accepted → Each Passes (reel flags size us)
+  pub pass-units : unitsVerdict us ≡ Accepted → Each Passes (reel flags size us)
   pass-units e =
       let each = subst (λ (xs : List AccessUnit). Each (λ (u : AccessUnit). unitVerdict u ≡ Accepted) xs) (sym (cut-joined size some us)) (accepted-each unitVerdict us e) in
       each-payload flags Passes (cut size us)

@@ -3,3 +3,4 @@ pub mod Writing
 pub mod OneByOne
 pub mod Lent
 pub mod Order
+pub mod Fitting

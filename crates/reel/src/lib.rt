@@ -5,6 +5,7 @@ ghost use mathlib.Core.Path.{_≡_};
 ghost use Prim.Native.Nat.{_-_};
 ghost use Rattle.reel.specs.Writing.{sizeVerdict};
 ghost use Rattle.reel.specs.Lent.{runVerdict};
+ghost use Rattle.reel.specs.Fitting.{Fits, Vouches};
 use line21::LENT_UNIT;
 use line21::MAX_UNITS;
 use line21::UNIT_BYTES;
@@ -38,6 +39,9 @@ pub fn judge_reel(size: usize, units: &[u8], room: usize) -> Verdict
     if units.len() % LENT_UNIT != 0 {
         return Verdict::Refused(Reason::Unholdable(Excess::RunLength), Item::Whole);
     }
+    if passes(size, units, room) {
+        return Verdict::Accepted;
+    }
     let n = units.len() / LENT_UNIT;
     let mut left = room;
     let mut i = 0;
@@ -51,6 +55,32 @@ pub fn judge_reel(size: usize, units: &[u8], room: usize) -> Verdict
         i += m;
     }
     Verdict::Accepted
+}
+
+// Whether no check is failed. After a no, the checks in their order tell which is.
+fn passes(size: usize, units: &[u8], room: usize) -> bool
+    ensures { λ r. ⌜ Vouches size (now (units .entry)) room r ⌝ }
+{
+    if fits(size, units.len() / LENT_UNIT, room) {
+        return line21_judge::all_hold(units);
+    }
+    false
+}
+
+// Whether n units fit the room: five bytes each, and a flags byte for each payload.
+pub fn fits(size: usize, n: usize, room: usize) -> bool
+    ensures { λ r. ⌜ Fits size n room r ⌝ }
+{
+    if size == 0 {
+        return false;
+    }
+    if n == 0 {
+        return true;
+    }
+    if room / UNIT_BYTES < n {
+        return false;
+    }
+    (n - 1) / size < room - UNIT_BYTES * n
 }
 
 // The smaller of two numbers.

@@ -10,7 +10,7 @@ use borrow.Rule.Slice.PartMut.{putMid}
 use lib.ListN.{length, take, drop, getD, set, length-set, length-drop}
 use lib.Seq.{length-take-le, getD-take, sets-eq, drop-set-lt}
 use Rattle.lists.specs.Room.{over}
-use Rattle.lists.proofs.Flat.{length-taken}
+use Rattle.lists.proofs.Flat.{length-taken, getD-taken}
 use Rattle.lists.proofs.Lay.{length-over, over-more, rest-whole}
 use Rattle.refusal.specs.declared.Verdict.the-variants.{Accepted}
 use Rattle.line21.specs.declared.AccessUnit.{AccessUnit}
@@ -18,10 +18,9 @@ use Rattle.line21.specs.declared.Payload.{Payload}
 use Rattle.line21.specs.Value.{blank, held}
 use Rattle.line21.specs.Layout.{layout, layoutAccessUnit, layoutAccessUnits}
 use Rattle.line21.specs.Writing.{unitVerdict}
-use Rattle.line21.specs.Lent.{accessUnitIn, accessUnitsIn, runIn, payloadIn}
+use Rattle.line21.specs.Lent.{accessUnitIn, accessUnitsIn, payloadIn}
 use Rattle.line21.proofs.Layouts.{length-layoutUnits, layoutUnits-more}
 use Rattle.line21.proofs.Numbers.{Writable, accepted-value, length-held, length-layout-held, accepted-unit-at}
-use Rattle.line21.proofs.LentUnits.{unit-either}
 use Rattle.line21_writer.proofs.write_judged.Statement.{statement}
 use Rattle.line21_writer.proofs.write_judged.Tie as tie
 
@@ -61,12 +60,11 @@ module _ (c : tie.Start Inv-loop μ-loop) where
       ap unitVerdict (sym (getD-take (c .args .m) (accessUnitsIn (now (c .args .units))) i blank below))
       ∙ accepted-unit-at (held p .units) (writable .each) i inside
 
-  -- and the slice tells it as an array does
-  same-unit : (i : ℕ) → i < c .args .m → getD (runIn (now (c .args .units))) i blank ≡ getD (accessUnitsIn (now (c .args .units))) i blank
+  -- and its bytes tell it as an array does
+  same-unit : (i : ℕ) → i < c .args .m → accessUnitIn (drop (7 * i) (now (c .args .units))) ≡ getD (accessUnitsIn (now (c .args .units))) i blank
   same-unit i below =
       let few = writable .few in
-      let all = c .pre .1 in
-      unit-either (now (c .args .units)) i (omega arith) (omega arith)
+      sym (getD-taken accessUnitIn 7 blank 291 i (now (c .args .units)) (omega arith))
 
 -- what the loop knows of its output at its head
 module _ (c : tie.At-loop Inv-loop μ-loop) where
@@ -97,6 +95,12 @@ loop-holds c =
           ∙ ap (λ (rest : List ℕ). flags ∷ rest) (sym (drop-set-lt 1 out 0 flags (omega arith))),
     )
 
+mul-unit-at : tie.Need-mul-unit-at Inv-loop μ-loop
+mul-unit-at c = omega (arith, writable (start (c .before)) .few)
+
+unit-at-requires : tie.Need-unit-at-requires Inv-loop μ-loop
+unit-at-requires c κs = omega (arith, start (c .before) .pre .1)
+
 mul-put-unit : tie.Need-mul-put-unit Inv-loop μ-loop
 mul-put-unit c = omega (arith, writable (start (c .before .before)) .few)
 
@@ -117,7 +121,7 @@ put-unit-requires c κs =
     let at = c .before .before .before in
     let i = at .loop .k in
     let out = at .loop .out in (
-      ap unitVerdict (c .before .unit-in .ensures ∙ same-unit (start at) i (c .before .before .loop-test .taken)) ∙ passed (start at) i (omega (arith, c .before .before .loop-test .taken)),
+      ap unitVerdict (c .before .unit-at .ensures ∙ same-unit (start at) i (c .before .before .loop-test .taken)) ∙ passed (start at) i (omega (arith, c .before .before .loop-test .taken)),
       omega (arith, ap length (rest-whole out (1 + 5 * i)), length-drop (1 + 5 * i) out, kept at, long (start at)),
     )
 
@@ -140,7 +144,7 @@ loop-again c =
     let laid =
     c .before .before .put-unit .ensures
     ∙ ap₂ (λ (u : AccessUnit) (xs : List ℕ). over (layoutAccessUnit u) (take (length xs - (1 + 5 * i)) (drop (1 + 5 * i) xs)))
-    (c .before .before .before .before .unit-in .ensures ∙ same-unit (start at) i (c .before .before .before .before .before .loop-test .taken))
+    (c .before .before .before .before .unit-at .ensures ∙ same-unit (start at) i (c .before .before .before .before .before .loop-test .taken))
     (at .loop .inv .1)
     in (
       omega arith,
@@ -179,7 +183,8 @@ write-judged-spec =
     μ-loop
     slice-write-out
     loop-holds
-    (λ c κs. search needs)
+    mul-unit-at
+    unit-at-requires
     mul-put-unit
     add-put-unit
     sub-put-unit

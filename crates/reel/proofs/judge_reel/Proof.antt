@@ -35,19 +35,19 @@ abbrev μ-loop : tie.MeasureT-loop
 -- the loop is reached with a size and a run that are let through
 module _ (c : tie.At-loop Inv-loop μ-loop) where
   abbrev start : tie.Start Inv-loop μ-loop
-  start = c .before .before .before .before .before .before
+  start = c .before .before .before .before .before .before .before .before
 
   abbrev run : List ℕ
   run = now (start .args .units)
 
   sized : sizeVerdict (start .args .size) ≡ Accepted
-  sized = sym (c .before .before .before .before .judge-size .ensures) ∙ c .before .before .enum-told2 .given .1
+  sized = sym (c .before .before .before .before .before .before .judge-size .ensures) ∙ c .before .before .before .before .enum-told2 .given .1
 
   within : (1 ≤ start .args .size) × (start .args .size ≤ 291)
   within = accepted-size (start .args .size) sized
 
   told : runVerdict 0 (start .args .size) run (start .args .room) ≡ reelVerdict (reel 0 (start .args .size) (drop (c .loop .i) (runIn run))) (c .loop .left)
-  told = run-sized 0 (start .args .size) run (start .args .room) sized (c .before .if1 .left) ∙ c .loop .inv .1
+  told = run-sized 0 (start .args .size) run (start .args .room) sized (c .before .before .before .if1 .left) ∙ c .loop .inv .1
 
 -- in a turn the payload at unit i decides first
 module _ (c : tie.After-least Inv-loop μ-loop) where
@@ -107,6 +107,17 @@ returns-2 c =
     let sized = sym (c .before .before .before .judge-size .ensures) ∙ c .before .enum-told2 .given .1 in
     sym (run-part 0 (start .args .size) (now (start .args .units)) (start .args .room) sized (c .if1 .taken))
 
+-- nothing is refused
+returns-3 : tie.Need-returns-3 Inv-loop μ-loop
+returns-3 c =
+    let start = c .before .before .before .before .before .before .before in
+    let size = start .args .size in
+    let sized = sym (c .before .before .before .before .before .judge-size .ensures) ∙ c .before .before .before .enum-told2 .given .1 in
+    let within = accepted-size size sized in
+    sym
+    (run-sized 0 size (now (start .args .units)) (start .args .room) sized (c .before .before .if1 .left)
+    ∙ c .before .passes .ensures (c .if2 .taken) (within .0) (within .1))
+
 loop-holds : tie.Need-loop-holds Inv-loop μ-loop
 loop-holds c = (omega arith, refl)
 
@@ -125,8 +136,8 @@ part-judge-value-start c = omega (arith, below c)
 part-judge-value-end : tie.Need-part-judge-value-end Inv-loop μ-loop
 part-judge-value-end c = omega arith
 
-returns-3 : tie.Need-returns-3 Inv-loop μ-loop
-returns-3 c =
+returns-4 : tie.Need-returns-4 Inv-loop μ-loop
+returns-4 c =
     let call = c .before .before in
     refused-first _ (judged call) (c .enum-told3 .given .1) ∙ sym (split (counted call)) ∙ sym (told (at call))
 
@@ -155,8 +166,8 @@ loop-again c =
     )
 
 -- after the loop no payload is left
-returns-4 : tie.Need-returns-4 Inv-loop μ-loop
-returns-4 c =
+returns-5 : tie.Need-returns-5 Inv-loop μ-loop
+returns-5 c =
     let head = c .before in
     let none = none-left 0 (start head .args .size) (within head .0) (within head .1) (run head) (head .loop .i) (c .loop-test .left) in
     sym (told head ∙ ap (λ (vs : List Line21). reelVerdict vs (head .loop .left)) none)
@@ -172,6 +183,8 @@ judge-reel-spec =
     returns
     (λ c. search needs)
     returns-2
+    (λ c κs. search needs)
+    returns-3
     loop-holds
     sub-least
     (λ c κs. search needs)
@@ -181,7 +194,7 @@ judge-reel-spec =
     part-judge-value-end
     (λ c κs. search needs)
     (λ c. search needs)
-    returns-3
+    returns-4
     (λ c. search needs)
     mul-left
     add-left
@@ -189,4 +202,4 @@ judge-reel-spec =
     add-i
     loop-less
     loop-again
-    returns-4)
+    returns-5)
