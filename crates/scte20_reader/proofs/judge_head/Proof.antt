@@ -20,7 +20,7 @@ use Rattle.bits.proofs.Fields.{field-whole}
 use Rattle.kind.specs.Ours.{groupType}
 use Rattle.scte20.specs.Reading.{headVerdict}
 use Rattle.scte20.proofs.Bytewise.{missing-some, missing-none}
-use Rattle.scte20_reader.proofs.Heads.{head-decided}
+use Rattle.scte20_gather.proofs.Heads.{head-decided}
 use Rattle.scte20_reader.proofs.judge_head.Statement.{statement}
 use Rattle.scte20_reader.proofs.judge_head.Tie as tie
 

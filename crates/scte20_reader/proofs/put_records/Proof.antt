@@ -14,8 +14,8 @@ use Rattle.scte20.specs.Value.{blank}
 use Rattle.scte20.specs.Lent.{recordBytes, recordsBytes, storedAt}
 use Rattle.scte20.specs.Inside.{constructOf}
 use Rattle.scte20.proofs.Lending.{stored-laid, lent-next, lent-room}
-use Rattle.scte20_reader.specs.Inside.{recordsOf}
-use Rattle.scte20_reader.proofs.Numbering.{length-recordsOf, getD-recordsOf}
+use Rattle.scte20_gather.specs.Inside.{recordsOf}
+use Rattle.scte20_gather.proofs.Numbering.{length-recordsOf, getD-recordsOf}
 use Rattle.scte20_reader.proofs.put_records.Statement.{statement}
 use Rattle.scte20_reader.proofs.put_records.Tie as tie
 

@@ -20,8 +20,8 @@ use Rattle.scte20.proofs.Bytewise.{count-in}
 use Rattle.scte20.proofs.Constructs.{length-records}
 use Rattle.scte20.proofs.Answers.{accepted-into, flagged-value}
 use Rattle.scte20.proofs.Lending.{lent-over}
-use Rattle.scte20_reader.specs.Inside.{Numbered}
-use Rattle.scte20_reader.proofs.Numbering.{numbered-small, numbered-records}
+use Rattle.scte20_gather.specs.Inside.{Numbered}
+use Rattle.scte20_gather.proofs.Numbering.{numbered-small, numbered-records}
 use Rattle.scte20_reader.proofs.store.Statement.{statement}
 use Rattle.scte20_reader.proofs.store.Tie as tie
 

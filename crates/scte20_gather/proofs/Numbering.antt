@@ -16,7 +16,7 @@ use Rattle.scte20.specs.Value.{blank}
 use Rattle.scte20.specs.Reading.{constructAt, recordsAt}
 use Rattle.scte20.specs.Inside.{constructOf}
 use Rattle.scte20.proofs.Stepwise.{construct-at}
-use Rattle.scte20_reader.specs.Inside.{Numbered, Small, recordsOf}
+use Rattle.scte20_gather.specs.Inside.{Numbered, Small, recordsOf}
 
 -- none is gathered
 pub numbered-none : (body found : List ℕ) → Numbered body 0 found

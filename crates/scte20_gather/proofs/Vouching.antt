@@ -14,10 +14,10 @@ use Rattle.kind.specs.Ours.{groupType}
 use Rattle.scte20.specs.Reading.{flagIn, countIn, contentVerdict}
 use Rattle.scte20.proofs.Bytewise.{missing-none, flag-in, count-in}
 use Rattle.scte20.proofs.Answers.{flagged-verdict}
-use Rattle.scte20_reader.specs.Inside.{Numbered, Held, Blank, Gathers}
-use Rattle.scte20_reader.proofs.Heads.{head-decided}
-use Rattle.scte20_reader.proofs.Held.{held-accepted}
-use Rattle.scte20_reader.proofs.Blanks.{blank-sampled, blank-rest}
+use Rattle.scte20_gather.specs.Inside.{Numbered, Held, Blank, Gathers}
+use Rattle.scte20_gather.proofs.Heads.{head-decided}
+use Rattle.scte20_gather.proofs.Held.{held-accepted}
+use Rattle.scte20_gather.proofs.Blanks.{blank-sampled, blank-rest}
 
 module _ (body found : List ℕ) (h : Bytes body) (three : 2 < length body) where
   abbrev nOf : ℕ

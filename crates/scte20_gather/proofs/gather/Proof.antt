@@ -1,4 +1,4 @@
--- `scte20_reader::gather` meets its contract. The invariant of both loops: i constructs are in their places.
+-- `scte20_gather::gather` meets its contract. The invariant of both loops: i constructs are in their places.
 -- Assumes nothing.
 use Prim.Native.Nat.{ℕ, _+_, _-_, _*_, _≤_, _<_}
 use native.Mathlib.Omega.{arith}
@@ -8,10 +8,10 @@ use borrow.Author.Needs.{needs}
 use denote.Ref.{now}
 use lib.ListN.{length, set, length-set}
 use Rattle.bits.specs.Peek.{peekOf}
-use Rattle.scte20_reader.specs.Inside.{Numbered}
-use Rattle.scte20_reader.proofs.Numbering.{numbered-none, numbered-next}
-use Rattle.scte20_reader.proofs.gather.Statement.{statement}
-use Rattle.scte20_reader.proofs.gather.Tie as tie
+use Rattle.scte20_gather.specs.Inside.{Numbered}
+use Rattle.scte20_gather.proofs.Numbering.{numbered-none, numbered-next}
+use Rattle.scte20_gather.proofs.gather.Statement.{statement}
+use Rattle.scte20_gather.proofs.gather.Tie as tie
 
 -- what holds between two constructs
 record Placed (body : List ℕ) (n : ℕ) (found : List ℕ) (i : ℕ) : Type 0 where

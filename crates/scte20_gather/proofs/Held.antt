@@ -18,8 +18,8 @@ use Rattle.scte20.specs.Reading.{constructAt, constructsVerdict}
 use Rattle.scte20.specs.Inside.{constructOf, kept, lastOf, lastVerdict, lastAfter}
 use Rattle.scte20.proofs.Bytewise.{missing-none}
 use Rattle.scte20.proofs.Stepwise.{construct-at, marker-one, Going, going-first, going-next, going-accepted}
-use Rattle.scte20_reader.specs.Inside.{Numbered, placeIn, urgentIn, Held}
-use Rattle.scte20_reader.proofs.Numbering.{numbered-field}
+use Rattle.scte20_gather.specs.Inside.{Numbered, placeIn, urgentIn, Held}
+use Rattle.scte20_gather.proofs.Numbering.{numbered-field}
 
 -- what is kept of the constructs before: field and line of the latest as one number, and how many of its field have priority 0
 record Keeps (before urgent : ℕ) (last : Last) : Type 0 where

@@ -24,7 +24,7 @@ use Rattle.stuffing.proofs.Zeros.{accepted-zero, zero-accepted, stuffing-none}
 use Rattle.scte20.specs.Layout.{padding}
 use Rattle.scte20.specs.Reading.{missing, sampledVerdict, restVerdict}
 use Rattle.scte20.proofs.Bytewise.{missing-none}
-use Rattle.scte20_reader.specs.Inside.{Blank}
+use Rattle.scte20_gather.specs.Inside.{Blank}
 
 abbrev Zero : ℕ → Type 0
 Zero b = b ≡ 0

@@ -1,4 +1,4 @@
--- `scte20_reader::is_blank` meets its contract. The loop's invariant: where `any` is still 0, the bytes up to i can be passed.
+-- `scte20_gather::is_blank` meets its contract. The loop's invariant: where `any` is still 0, the bytes up to i can be passed.
 -- Assumes nothing.
 use Prim.Native.Nat.{ℕ, _+_, _-_, _*_, _/_, _%_, _^_, _≤_, _<_}
 use native.Mathlib.Omega.{arith}
@@ -13,8 +13,8 @@ use lib.ListN.{length, getD}
 use lib.Pow.{pow-mono, pow-pos}
 use Rattle.bits.specs.Peek.{firstSet}
 use Rattle.bits.proofs.Runs.{firstSet-next, firstSet-end}
-use Rattle.scte20_reader.proofs.is_blank.Statement.{statement}
-use Rattle.scte20_reader.proofs.is_blank.Tie as tie
+use Rattle.scte20_gather.proofs.is_blank.Statement.{statement}
+use Rattle.scte20_gather.proofs.is_blank.Tie as tie
 
 abbrev Inv-loop : tie.InvT-loop
 Inv-loop body from k any₀ i₀ any i = any ≡ 0 → firstSet body (from / 8 + 1) ≡ firstSet body i

@@ -1,4 +1,4 @@
--- `scte20_reader::gathered` meets its contract: where it answers yes, each part of the body was found right.
+-- `scte20_gather::gathered` meets its contract: where it answers yes, each part of the body was found right.
 -- Assumes nothing.
 use Prim.Native.Nat.{ℕ, _+_, _*_, _/_, _≤_, _<_}
 use native.Mathlib.Omega.{arith}
@@ -11,9 +11,9 @@ use denote.Ref.{now}
 use lib.ListN.{length, getD}
 use Rattle.lists.specs.Bytes.{Bytes}
 use Rattle.lists.proofs.Each.{each-of}
-use Rattle.scte20_reader.proofs.Vouching.{gathers}
-use Rattle.scte20_reader.proofs.gathered.Statement.{statement}
-use Rattle.scte20_reader.proofs.gathered.Tie as tie
+use Rattle.scte20_gather.proofs.Vouching.{gathers}
+use Rattle.scte20_gather.proofs.gathered.Statement.{statement}
+use Rattle.scte20_gather.proofs.gathered.Tie as tie
 
 module _ (c : tie.After-shared-slice-known2) where
   abbrev bodyOf : List ℕ

@@ -1,11 +1,11 @@
--- `scte20_reader::place` meets its contract.
+-- `scte20_gather::place` meets its contract.
 -- Assumes nothing.
 use mathlib.Core.Path.{ap}
 use borrow.Author.Needs.{needs}
 use denote.Ref.{now}
 use lib.ListN.{set}
-use Rattle.scte20_reader.proofs.place.Statement.{statement}
-use Rattle.scte20_reader.proofs.place.Tie as tie
+use Rattle.scte20_gather.proofs.place.Statement.{statement}
+use Rattle.scte20_gather.proofs.place.Tie as tie
 
 returns : tie.Need-returns
 returns c = let start = c .before .before .before in ap (set (now (start .args .found)) (start .args .i)) (c .peek .ensures)

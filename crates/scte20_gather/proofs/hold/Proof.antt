@@ -1,4 +1,4 @@
--- `scte20_reader::hold` meets its contract. The loop's invariant: if the constructs from i on are right, all are.
+-- `scte20_gather::hold` meets its contract. The loop's invariant: if the constructs from i on are right, all are.
 -- Assumes nothing.
 use Prim.Native.Nat.{ℕ, suc, _+_, _-_, _/_, _%_, _≤_, _<_}
 use native.Mathlib.Omega.{arith}
@@ -12,9 +12,9 @@ use lib.Dec.{eqb}
 use lib.ListN.{getD}
 use Rattle.scte20.specs.Value.{countIf}
 use Rattle.scte20.specs.Inside.{kept}
-use Rattle.scte20_reader.specs.Inside.{placeIn, urgentIn, Held}
-use Rattle.scte20_reader.proofs.hold.Statement.{statement}
-use Rattle.scte20_reader.proofs.hold.Tie as tie
+use Rattle.scte20_gather.specs.Inside.{placeIn, urgentIn, Held}
+use Rattle.scte20_gather.proofs.hold.Statement.{statement}
+use Rattle.scte20_gather.proofs.hold.Tie as tie
 
 abbrev Inv-loop : tie.InvT-loop
 Inv-loop n found before₀ urgent₀ i₀ before urgent i = (i ≤ n) × (urgent ≤ 4) × (Held before urgent (n - i) i found → Held 31 0 n 0 found)
