@@ -54,7 +54,10 @@ pub(crate) fn write_judged(flags: u8, m: usize, units: &[u8], out: &mut [u8]) ->
     out[0] = flags;
     let mut k = 0;
     while k < m {
-        put_unit(unit_at(units, LENT_UNIT * k), &mut out[1 + UNIT_BYTES * k..]);
+        put_unit(
+            unit_at(units, LENT_UNIT * k),
+            &mut out[1 + UNIT_BYTES * k..],
+        );
         k += 1;
     }
     1 + UNIT_BYTES * m
