@@ -1,11 +1,13 @@
--- What holds between two turns of a call: the units that are left decide as all do, or all are accepted and the units
--- before are laid over the output, or the call has ended and its answer stands.
+-- What holds between two turns of a call. At first: what was gathered tells of the units before whether one is refused.
+-- Then: something is refused, and the units that are left decide as all do; or all are accepted and the units before are
+-- laid over the output; or the call has ended and its answer stands.
 -- Assumes nothing.
 use Prim.Native.Nat.{ℕ, zero, suc, _+_, _-_, _*_, _^_, _≤_, _<_}
 use native.Mathlib.Omega.{arith}
 use native.Mathlib.Numerals.{add-one}
 use mathlib.Core.Path.{_≡_, _∙_, ap, ap₂, sym, refl, subst}
-use mathlib.Core.Bool.{Bool, true, false, true≢false}
+use mathlib.Core.Bool.{Bool, true, false, true≢false, false≢true}
+use mathlib.Core.Logic.{_↔_}
 use mathlib.Core.List.{List, [], _∷_, _++_, append-assoc, append-nil}
 use borrow.Author.Tests.{le-ltb}
 use lib.Dec.{ltb}
@@ -26,24 +28,20 @@ use Rattle.refusal.specs.declared.Refusal.{Refusal}
 use Rattle.refusal.specs.Checks.{refuseIf, andThen}
 use Rattle.refusal.specs.Numbers.{refusalOf}
 use Rattle.refusal.specs.Answers.{Wrote, countedOf, leftOf}
-use Rattle.refusal.proofs.Checks.{accepted-andThen}
+use Rattle.refusal.proofs.Checks.{accepted-andThen, accepted-each, each-accepted}
 use Rattle.line21.specs.declared.AccessUnit.{AccessUnit}
 use Rattle.line21.specs.Value.{blank}
-use Rattle.line21.specs.Writing.{unitVerdict}
+use Rattle.line21.specs.Writing.{unitVerdict, unitsVerdict}
+use Rattle.line21.proofs.Numbers.{units-from, accepted-unit-at}
+use Rattle.line21_judge.specs.Seen.{Clear}
+use Rattle.line21_judge.proofs.Seen.{clear-none}
 use Rattle.reel.specs.Writing.{reel, reelLayout, reelVerdict, sizeVerdict}
 use Rattle.reel.proofs.Judging.{accepted-size}
+use Rattle.reel.proofs.Fitting.{fits-accepted}
 use Rattle.reel.proofs.UnitByUnit.{layFrom, judgeFrom, roomVerdict, layout-unit-by-unit, verdict-unit-by-unit, accepted-passed}
 use Rattle.reel_units.specs.declared.State.{State}
-use Rattle.reel_units.specs.Inside.{stoppedAt, begunAs, beginVerdict, begun, onward, endedAs, judgedTo, judgedAs, besideVerdict, judgedBy, piece, storedBy, turnedAs, turned, leftAs, leftBy, Steady, Storable, Ready, toldBy, answerOf, restAfter}
+use Rattle.reel_units.specs.Inside.{stoppedAt, begunAs, beginVerdict, begun, settledTo, Glances, Settles, onward, judgedTo, judgedAs, besideVerdict, judgedBy, piece, storedBy, turnedAs, turned, leftAs, leftBy, Steady, Storable, Ready, toldBy, answerOf, restAfter}
 use Rattle.reel_units.proofs.Steps.{lay-next, length-piece, few-bytes, judge-next}
-
--- how many turns are left: those of judging are followed by as many as there are units
-abbrev waiting : Bool → ℕ → ℕ
-waiting true n = 0
-waiting false n = n
-
-abbrev pub turnsLeft : State → ℕ
-turnsLeft s = waiting (s .storing) (s .i + s .left) + s .left
 
 -- what a verdict makes of the answer and of the output
 pub wrote-refused : (verdict : Verdict) (reason : Reason) (item : Item) (laid out : List ℕ) → verdict ≡ Refused reason item
@@ -82,6 +80,7 @@ module _ (flags size : ℕ) (us : List AccessUnit) (out : List ℕ) where
     pub through : Through s
     pub pass : s .storing ≡ false
     pub some : 0 < s .left
+    pub refused : wholeVerdict ≡ Accepted → ⊥
     pub decides : wholeVerdict ≡ judgeFrom (length out) size (s .rest) (drop (s .i) us) (s .at)
     pub same : zs ≡ out
 
@@ -108,61 +107,173 @@ module _ (flags size : ℕ) (us : List AccessUnit) (out : List ℕ) where
   refused-going : (reason : Reason) (item : Item) → wholeVerdict ≡ Refused reason item → Going (stoppedAt (Refused reason item)) out
   refused-going reason item e = ended (record { none = refl; wrote = wrote-refused wholeVerdict reason item laid out e })
 
-  -- AT THE START
+  -- WHILE THE UNITS ARE LOOKED AT
 
-  start-some : (n : ℕ) → length us ≡ n → beginVerdict flags size ≡ Accepted → Going (begunAs Accepted flags size n) out
-  start-some zero none e =
-      ended (record {
-        none = refl;
-        wrote = wrote-all wholeVerdict laid out (refusalOf Accepted) 0 out decided refl (sym (ap length nothing)) (ap (λ (front : List ℕ). over front out) (sym nothing));
+  -- a call whose flags byte and size are let through
+  pub record Looking (s : State) : Type 0 where
+    pub flags-is : s .flags ≡ flags
+    pub size-is : s .size ≡ size
+    pub some : 1 ≤ size
+    pub few : size ≤ 291
+    pub all : s .i + s .left ≡ length us
+    pub begins : s .rest ≡ 0
+    pub none-laid : s .at ≡ 0
+    pub told : toldBy s ≡ refusalOf Accepted
+    pub begun-well : beginVerdict flags size ≡ Accepted
+    pub forth : Clear (s .seen) → unitsVerdict us ≡ unitsVerdict (drop (s .i) us)
+    pub back : unitsVerdict us ≡ Accepted → Clear (s .seen)
+
+  -- one that is refused before its first unit
+  pub record Refusing (s : State) : Type 0 where
+    pub reason : Reason
+    pub item : Item
+    pub verdict : wholeVerdict ≡ Refused reason item
+    pub is : s ≡ stoppedAt (Refused reason item)
+
+  pub data Glancing (s : State) : Type 0 where
+    looking : Looking s → Glancing s
+    refusing : Refusing s → Glancing s
+
+  start-as : (verdict : Verdict) → beginVerdict flags size ≡ verdict → Glancing (begunAs verdict flags size (length us))
+  start-as Accepted e =
+      let fine = accepted-size size (accepted-andThen (refuseIf (ltb 255 flags) (Unholdable FlagsByte) Whole) (sizeVerdict size) e .1) in
+      looking (record {
+        flags-is = refl;
+        size-is = refl;
+        some = fine .0;
+        few = fine .1;
+        all = omega arith;
+        begins = refl;
+        none-laid = refl;
+        told = refl;
+        begun-well = e;
+        forth = λ clear. refl;
+        back = λ passes. clear-none;
       })
-    where
-      fine : (1 ≤ size) × (size ≤ 291)
-      fine = accepted-size size (accepted-andThen (refuseIf (ltb 255 flags) (Unholdable FlagsByte) Whole) (sizeVerdict size) e .1)
-
-      empty : us ≡ []
-      empty = drop-of-length-le us {i = 0} (omega arith)
-
-      nothing : laid ≡ []
-      nothing = layout-unit-by-unit flags size us (fine .0) ∙ ap (layFrom flags size 0) empty
-
-      decided : wholeVerdict ≡ Accepted
-      decided =
-          ap (λ (v : Verdict). andThen v (reelVerdict (reel flags size us) (length out))) e
-          ∙ verdict-unit-by-unit flags size us (length out) (fine .0) (fine .1)
-          ∙ ap (λ (vs : List AccessUnit). judgeFrom (length out) size 0 vs 0) empty
-          ∙ ap (λ (t : Bool). refuseIf t NoRoom Whole) (le-ltb (length out) 0 (omega arith))
-  start-some (suc n) some e =
-      judging (record {
-        through = record {
-          flags-is = refl;
-          size-is = refl;
-          size-some = fine .0;
-          all = omega arith;
-          short = omega arith;
-          told = refl;
-          whole = decided;
-        };
-        pass = refl;
-        some = omega arith;
-        decides = decided;
-        same = refl;
+  start-as (Refused reason item) e =
+      refusing (record {
+        reason = reason;
+        item = item;
+        verdict = ap (λ (v : Verdict). andThen v (reelVerdict (reel flags size us) (length out))) e;
+        is = refl;
       })
-    where
-      fine : (1 ≤ size) × (size ≤ 291)
-      fine = accepted-size size (accepted-andThen (refuseIf (ltb 255 flags) (Unholdable FlagsByte) Whole) (sizeVerdict size) e .1)
 
-      decided : wholeVerdict ≡ judgeFrom (length out) size 0 us 0
-      decided =
-          ap (λ (v : Verdict). andThen v (reelVerdict (reel flags size us) (length out))) e
-          ∙ verdict-unit-by-unit flags size us (length out) (fine .0) (fine .1)
+  pub glancing-start : Glancing (begun flags size (length us))
+  glancing-start = start-as (beginVerdict flags size) refl
 
-  start-as : (verdict : Verdict) → beginVerdict flags size ≡ verdict → Going (begunAs verdict flags size (length us)) out
-  start-as Accepted e = start-some (length us) refl e
-  start-as (Refused reason item) e = refused-going reason item (ap (λ (v : Verdict). andThen v (reelVerdict (reel flags size us) (length out))) e)
+  pub glancing-inside : (s : State) → Glancing s → 0 < s .left → s .i < length us
+  glancing-inside s (looking g) more = let all = g .all in omega arith
+  glancing-inside s (refusing g) more = let f : ⊥ = omega (arith, ap (λ (t : State). t .left) (g .is)) in absurd f
 
-  pub going-start : Going (begun flags size (length us)) out
-  going-start = start-as (beginVerdict flags size) refl
+  pub glancing-on : (s r : State) → Glancing s → 0 < s .left → Glances s (getD us (s .i) blank) r → Glancing r × (r .left < s .left)
+  glancing-on s r (looking g) more glanced =
+      let all = g .all in
+      let within : s .i < length us = omega arith in
+      let seen = r .seen in
+      let next = getD us (s .i) blank in (
+        subst Glancing (sym (glanced .is))
+            (looking (record {
+              flags-is = g .flags-is;
+              size-is = g .size-is;
+              some = g .some;
+              few = g .few;
+              all = omega arith;
+              begins = g .begins;
+              none-laid = g .none-laid;
+              told = g .told;
+              begun-well = g .begun-well;
+              forth = λ clear.
+                  let both = glanced .gathers .0 clear in
+                  g .forth (both .0) ∙ units-from us (s .i) within ∙ ap (λ (v : Verdict). andThen v (unitsVerdict (drop (s .i + 1) us))) (both .1);
+              back = λ passes. glanced .gathers .1 (g .back passes, accepted-unit-at us passes (s .i) within);
+            })),
+        omega (arith, ap (λ (t : State). t .left) (glanced .is)),
+      )
+  glancing-on s r (refusing g) more glanced = let f : ⊥ = omega (arith, ap (λ (t : State). t .left) (g .is)) in absurd f
+
+  -- AT THE START OF THE SECOND PASS
+
+  module _ (s : State) (g : Looking s) (none : s .left ≡ 0) where
+    count : length us ≡ s .i
+    count = let all = g .all in omega arith
+
+    whole : wholeVerdict ≡ reelVerdict (reel flags size us) (length out)
+    whole = ap (λ (v : Verdict). andThen v (reelVerdict (reel flags size us) (length out))) (g .begun-well)
+
+    unit-by-unit : wholeVerdict ≡ judgeFrom (length out) size 0 us 0
+    unit-by-unit = whole ∙ verdict-unit-by-unit flags size us (length out) (g .some) (g .few)
+
+    lays : laid ≡ layFrom flags size 0 us
+    lays = layout-unit-by-unit flags size us (g .some)
+
+    -- all units were looked at
+    passes : Clear (s .seen) → unitsVerdict us ≡ Accepted
+    passes clear = g .forth clear ∙ ap unitsVerdict (drop-of-length-le us {i = s .i} (omega (arith, count)))
+
+    through : (stores : Bool) → Through (settledTo s stores)
+    through stores =
+        record {
+          flags-is = g .flags-is;
+          size-is = g .size-is;
+          size-some = g .some;
+          all = omega (arith, count);
+          short = omega (arith, g .none-laid);
+          told = g .told;
+          whole = unit-by-unit;
+        }
+
+    settled-storing : Clear (s .seen) → length laid ≤ length out → Going (settledTo s true) out
+    settled-storing clear fits =
+        storing (record {
+          through = through true;
+          pass = refl;
+          accepted = whole ∙ fits-accepted flags size us (g .some) (length out) (g .few) (passes clear) fits;
+          units = accepted-each unitVerdict us (passes clear);
+          fits = fits;
+          front = [];
+          long = sym (g .none-laid);
+          lays = lays ∙ ap (λ (n : ℕ). layFrom flags size n us) (sym (g .begins));
+          stored = refl;
+        })
+
+    settled-judging : (wholeVerdict ≡ Accepted → ⊥) → (n : ℕ) → s .i ≡ n → Going (settledTo s false) out
+    settled-judging refused zero e =
+        let empty : us ≡ [] = drop-of-length-le us {i = 0} (omega (arith, count)) in
+        absurd
+        (refused
+        (unit-by-unit
+        ∙ ap (λ (vs : List AccessUnit). judgeFrom (length out) size 0 vs 0) empty
+        ∙ ap (λ (t : Bool). refuseIf t NoRoom Whole) (le-ltb (length out) 0 (omega arith))))
+    settled-judging refused (suc n) e =
+        judging (record {
+          through = through false;
+          pass = refl;
+          some = omega arith;
+          refused = refused;
+          decides = unit-by-unit ∙ ap₂ (λ (rest at : ℕ). judgeFrom (length out) size rest us at) (sym (g .begins)) (sym (g .none-laid));
+          same = refl;
+        })
+
+    settled-as : (stores : Bool) → (stores ≡ true ↔ (Clear (s .seen) × (length laid ≤ length out))) → Going (settledTo s stores) out
+    settled-as true exactly = let both = exactly .0 refl in settled-storing (both .0) (both .1)
+    settled-as false exactly =
+        settled-judging
+        (λ accepted.
+        let passed = accepted-passed flags size (length out) 0 us 0 (sym unit-by-unit ∙ accepted) in
+        let fits : length laid ≤ length out = omega (arith, passed .fits, ap length lays) in
+        let clear = g .back (each-accepted unitVerdict us (passed .units)) in
+        false≢true (exactly .1 (clear, fits)))
+        (s .i) refl
+
+  pub settled-going : (s r : State) → Glancing s → s .left ≡ 0 → Settles s (length out) r → Going r out
+  settled-going s r (looking g) none settled =
+      subst (λ (t : State). Going t out) (sym (settled .is))
+      (settled-as s g none (r .storing)
+      (subst (λ (n : ℕ). r .storing ≡ true ↔ (Clear (s .seen) × (length (reelLayout (reel flags n us)) ≤ length out))) (g .size-is)
+      (settled .exactly flags us (count s g none) (subst (λ (n : ℕ). 1 ≤ n) (sym (g .size-is)) (g .some)))))
+  settled-going s r (refusing g) none settled =
+      subst (λ (t : State). Going t out) (sym (settled .is ∙ ap (λ (t : State). settledTo t (r .storing)) (g .is)))
+      (ended (record { none = refl; wrote = wrote-refused wholeVerdict (g .reason) (g .item) laid out (g .verdict) }))
 
   -- IN A TURN
 
@@ -249,62 +360,30 @@ module _ (flags size : ℕ) (us : List AccessUnit) (out : List ℕ) where
 
     -- what a turn makes of it, and that fewer turns are left
     abbrev On : State → List ℕ → Type 0
-    On t zs = Going t zs × (turnsLeft t < turnsLeft s)
-
-    fewer : turnsLeft (onward s) < turnsLeft s
-    fewer =
-        let same : s .i + 1 + (s .left - 1) ≡ s .i + s .left = omega arith in
-        omega (arith, ap (waiting (s .storing)) same)
+    On t zs = Going t zs × (t .left < s .left)
 
     refused-on : (reason : Reason) (item : Item) → wholeVerdict ≡ Refused reason item → On (stoppedAt (Refused reason item)) out
     refused-on reason item e = (refused-going reason item e, omega arith)
 
     -- a unit that is judged
-    module _ (pass : s .storing ≡ false) where
-      -- it was the last: all are accepted, or the last payload has no room
-      judged-end : (none : Bool) → ltb (length out) (onward s .at) ≡ none → wholeVerdict ≡ roomVerdict (length out) (onward s .at)
-          → onward s .left ≡ 0 → On (endedAs none (onward s)) out
-      judged-end true e said last = refused-on NoRoom Whole (said ∙ ap (λ (b : Bool). refuseIf b NoRoom Whole) e)
-      judged-end false e said last =
-          let accepted : wholeVerdict ≡ Accepted = said ∙ ap (λ (b : Bool). refuseIf b NoRoom Whole) e in
-          let passed = accepted-passed flags size (length out) 0 us 0 (sym (through .whole) ∙ accepted) in
-          let lays = layout-unit-by-unit flags size us (through .size-some) in
-          let count = moved .all in (
-            storing (record {
-              through = record {
-                flags-is = through .flags-is;
-                size-is = through .size-is;
-                size-some = through .size-some;
-                all = omega arith;
-                short = omega arith;
-                told = through .told;
-                whole = through .whole;
-              };
-              pass = refl;
-              accepted = accepted;
-              units = passed .units;
-              fits = omega (arith, passed .fits, ap length lays);
-              front = [];
-              long = refl;
-              lays = lays;
-              stored = refl;
-            }),
-            omega (arith, ap (λ (b : Bool). waiting b (s .i + s .left)) pass),
-          )
+    module _ (pass : s .storing ≡ false) (refused : wholeVerdict ≡ Accepted → ⊥) where
+      -- it was the last: the last payload has no room
+      judged-end : (none : Bool) → wholeVerdict ≡ refuseIf none NoRoom Whole → On (stoppedAt (Refused NoRoom Whole)) out
+      judged-end true said = refused-on NoRoom Whole said
+      judged-end false said = absurd (refused said)
 
       judged-to : (n : ℕ) → onward s .left ≡ n
           → wholeVerdict ≡ judgeFrom (length out) size (onward s .rest) (drop (onward s .i) us) (onward s .at)
-          → On (judgedTo n (onward s) (length out)) out
+          → On (judgedTo n (onward s)) out
       judged-to zero e said =
           let all = through .all in
-          judged-end (ltb (length out) (onward s .at)) refl
+          judged-end (ltb (length out) (onward s .at))
           (said ∙ ap (λ (vs : List AccessUnit). judgeFrom (length out) size (onward s .rest) vs (onward s .at)) (drop-of-length-le us {i = s .i + 1} (omega arith)))
-          e
-      judged-to (suc n) e said = (judging (record { through = moved; pass = pass; some = omega arith; decides = said; same = refl }), fewer)
+      judged-to (suc n) e said = (judging (record { through = moved; pass = pass; some = omega arith; refused = refused; decides = said; same = refl }), omega arith)
 
       judged-as : (verdict : Verdict) → andThen (besideVerdict (s .rest) (s .at) (length out)) (unitVerdict (next s)) ≡ verdict
           → wholeVerdict ≡ andThen verdict (judgeFrom (length out) size (onward s .rest) (drop (onward s .i) us) (onward s .at))
-          → On (judgedAs verdict s (length out)) out
+          → On (judgedAs verdict s) out
       judged-as Accepted e said = judged-to (onward s .left) refl said
       judged-as (Refused reason item) e said = refused-on reason item said
 
@@ -318,14 +397,14 @@ module _ (flags size : ℕ) (us : List AccessUnit) (out : List ℕ) where
           ∙ ap (λ (n : ℕ). andThen checked (judgeFrom (length out) size (restAfter n (s .rest)) (drop (s .i + 1) us) (onward s .at))) (sym (through .size-is)))
 
   pub going-on : (s : State) (zs : List ℕ) → Going s zs → 0 < s .left
-      → Going (turned s (next s) (length zs)) (leftBy s (next s) zs) × (turnsLeft (turned s (next s) (length zs)) < turnsLeft s)
+      → Going (turned s (next s) (length zs)) (leftBy s (next s) zs) × (turned s (next s) (length zs) .left < s .left)
   going-on s zs (judging g) some =
       subst (λ (xs : List ℕ). On s some (g .through) (turned s (next s) (length xs)) (leftBy s (next s) xs)) (sym (g .same))
       (subst (λ (b : Bool). On s some (g .through) (turnedAs b s (next s) (length out)) (leftAs b s (next s) out)) (sym (g .pass))
-      (judged-on s some (g .through) (g .pass) (g .decides)))
+      (judged-on s some (g .through) (g .pass) (g .refused) (g .decides)))
   going-on s zs (storing g) some =
       subst (λ (b : Bool). On s some (g .through) (turnedAs b s (next s) (length zs)) (leftAs b s (next s) zs)) (sym (g .pass))
-      (storing (stored-on s some (g .through) zs g), fewer s some (g .through))
+      (storing (stored-on s some (g .through) zs g), omega arith)
   going-on s zs (ended g) some = let f : ⊥ = omega (arith, g .none) in absurd f
 
   pub going-ready : (s : State) (zs : List ℕ) → length us * 7 < 2 ^ 63 → Going s zs → 0 < s .left → Ready s (next s) zs

@@ -1,11 +1,12 @@
--- How a call goes through its run, unit by unit: first it judges all units, then it stores them. RULES, "Reel" and
--- "Order of checks".
+-- How a call goes through its run, unit by unit: first it gathers what no payload can hold, then it stores all units, or
+-- makes the checks one by one where one of them is failed. RULES, "Reel" and "Order of checks".
 use Prim.Native.Nat.{ℕ, zero, suc, _+_, _-_, _^_, _≤_, _<_}
 use mathlib.Core.Path.{_≡_}
 use mathlib.Core.Bool.{Bool, true, false}
+use mathlib.Core.Logic.{_↔_}
 use mathlib.Core.List.{List, _∷_}
 use lib.Dec.{ltb}
-use lib.ListN.{length}
+use lib.ListN.{length, set}
 use Rattle.lists.specs.Room.{overAt}
 use Rattle.refusal.specs.declared.Verdict.{Verdict}
 use Rattle.refusal.specs.declared.Verdict.the-variants.{Accepted, Refused}
@@ -19,7 +20,8 @@ use Rattle.refusal.specs.Numbers.{refusalOf}
 use Rattle.line21.specs.declared.AccessUnit.{AccessUnit}
 use Rattle.line21.specs.Layout.{layoutAccessUnit}
 use Rattle.line21.specs.Writing.{unitVerdict}
-use Rattle.reel.specs.Writing.{sizeVerdict}
+use Rattle.line21_judge.specs.Seen.{Clear, Gathers}
+use Rattle.reel.specs.Writing.{sizeVerdict, reel, reelLayout}
 use Rattle.reel_units.specs.declared.State.{State}
 
 -- before the first of n units is judged
@@ -29,6 +31,7 @@ standing flags size n refusal =
       flags = flags;
       size = size;
       storing = false;
+      seen = 0;
       i = 0;
       left = n;
       rest = 0;
@@ -53,6 +56,48 @@ beginVerdict flags size = andThen (refuseIf (ltb 255 flags) (Unholdable FlagsByt
 abbrev pub begun : ℕ → ℕ → ℕ → State
 begun flags size n = begunAs (beginVerdict flags size) flags size n
 
+-- one unit more that was looked at, and what is then gathered
+abbrev pub glancedTo : State → ℕ → State
+glancedTo s seen =
+    record {
+      flags = s .flags;
+      size = s .size;
+      storing = s .storing;
+      seen = seen;
+      i = s .i + 1;
+      left = s .left - 1;
+      rest = s .rest;
+      at = s .at;
+      number = s .number;
+      place = s .place;
+    }
+
+pub record Glances (s : State) (u : AccessUnit) (r : State) : Type 0 where
+  pub is : r ≡ glancedTo s (r .seen)
+  pub gathers : Gathers (s .seen) u (r .seen)
+
+-- all units were looked at: they are gone through once more, to be stored or to be judged
+abbrev pub settledTo : State → Bool → State
+settledTo s storing =
+    record {
+      flags = s .flags;
+      size = s .size;
+      storing = storing;
+      seen = s .seen;
+      i = 0;
+      left = s .i;
+      rest = s .rest;
+      at = s .at;
+      number = s .number;
+      place = s .place;
+    }
+
+-- stored exactly where no unit is refused and all of them fit
+pub record Settles (s : State) (room : ℕ) (r : State) : Type 0 where
+  pub is : r ≡ settledTo s (r .storing)
+  pub exactly : (flags : ℕ) (us : List AccessUnit) → length us ≡ s .i → 1 ≤ s .size
+      → r .storing ≡ true ↔ (Clear (s .seen) × (length (reelLayout (reel flags (s .size) us)) ≤ room))
+
 -- one unit on
 abbrev pub ahead : State → ℕ → ℕ → State
 ahead s rest at =
@@ -60,6 +105,7 @@ ahead s rest at =
       flags = s .flags;
       size = s .size;
       storing = s .storing;
+      seen = s .seen;
       i = s .i + 1;
       left = s .left - 1;
       rest = rest;
@@ -81,33 +127,48 @@ bytesAfter (suc rest) = 5
 abbrev pub onward : State → State
 onward s = ahead s (restAfter (s .size) (s .rest)) (s .at + bytesAfter (s .rest))
 
--- all units are judged: they are gone through once more, to be stored
-abbrev pub rewound : State → State
-rewound s =
+-- where a unit begins a payload, the flags byte before it
+abbrev pub restOpened : ℕ → ℕ → ℕ
+restOpened size zero = size
+restOpened size (suc rest) = suc rest
+
+abbrev pub atOpened : ℕ → ℕ → ℕ
+atOpened at zero = at + 1
+atOpened at (suc rest) = at
+
+abbrev pub openedOf : State → ℕ → ℕ → State
+openedOf s rest at =
     record {
       flags = s .flags;
       size = s .size;
-      storing = true;
-      i = 0;
-      left = s .i;
-      rest = 0;
-      at = 0;
+      storing = s .storing;
+      seen = s .seen;
+      i = s .i;
+      left = s .left;
+      rest = rest;
+      at = at;
       number = s .number;
       place = s .place;
     }
 
--- 14 for the room, where a payload ends
-abbrev pub endedAs : Bool → State → State
-endedAs true s = stoppedAt (Refused NoRoom Whole)
-endedAs false s = rewound s
+abbrev pub openedBy : State → State
+openedBy s = openedOf s (restOpened (s .size) (s .rest)) (atOpened (s .at) (s .rest))
 
-abbrev pub judgedTo : ℕ → State → ℕ → State
-judgedTo zero s room = endedAs (ltb room (s .at)) s
-judgedTo (suc left) s room = s
+abbrev pub openedAs : ℕ → ℕ → ℕ → List ℕ → List ℕ
+openedAs zero flags at out = set out at flags
+openedAs (suc rest) flags at out = out
 
-abbrev pub judgedAs : Verdict → State → ℕ → State
-judgedAs (Refused reason item) s room = stoppedAt (Refused reason item)
-judgedAs Accepted s room = judgedTo (onward s .left) (onward s) room
+abbrev pub openedAt : State → List ℕ → List ℕ
+openedAt s out = openedAs (s .rest) (s .flags) (s .at) out
+
+-- 14 behind the last unit: something is refused, and all other checks were passed
+abbrev pub judgedTo : ℕ → State → State
+judgedTo zero s = stoppedAt (Refused NoRoom Whole)
+judgedTo (suc left) s = s
+
+abbrev pub judgedAs : Verdict → State → State
+judgedAs (Refused reason item) s = stoppedAt (Refused reason item)
+judgedAs Accepted s = judgedTo (onward s .left) (onward s)
 
 -- what a unit is refused for: 14 of the payload that ended before it, then 15 of its own
 abbrev pub besideVerdict : ℕ → ℕ → ℕ → Verdict
@@ -115,7 +176,7 @@ besideVerdict zero at room = refuseIf (ltb room at) NoRoom Whole
 besideVerdict (suc rest) at room = Accepted
 
 abbrev pub judgedBy : State → AccessUnit → ℕ → State
-judgedBy s u room = judgedAs (andThen (besideVerdict (s .rest) (s .at) room) (unitVerdict u)) s room
+judgedBy s u room = judgedAs (andThen (besideVerdict (s .rest) (s .at) room) (unitVerdict u)) s
 
 -- the bytes of a unit in its place
 abbrev pub piece : ℕ → ℕ → AccessUnit → List ℕ

@@ -6,8 +6,7 @@ use mathlib.Core.Path.{_≡_, _∙_, ap, sym}
 use mathlib.Core.Logic.{⊎-elim}
 use mathlib.Core.Bool.{Bool}
 use borrow.Author.Needs.{needs}
-use borrow.Author.Tests.{lt-ltb, le-ltb}
-use lib.Dec.{ltb}
+use borrow.Author.Tests.{lt-ltb}
 use Rattle.refusal.specs.declared.Reason.{Reason}
 use Rattle.refusal.specs.declared.Reason.the-variants.{NoRoom}
 use Rattle.refusal.specs.declared.Item.{Item}
@@ -18,7 +17,7 @@ use Rattle.refusal.specs.Checks.{refuseIf, andThen}
 use Rattle.line21.specs.declared.AccessUnit.{AccessUnit}
 use Rattle.line21.specs.Writing.{unitVerdict}
 use Rattle.reel_units.specs.declared.State.{State}
-use Rattle.reel_units.specs.Inside.{stoppedAt, onward, endedAs, judgedTo, judgedAs, besideVerdict, judgedBy}
+use Rattle.reel_units.specs.Inside.{stoppedAt, onward, judgedTo, judgedAs, besideVerdict, judgedBy}
 use Rattle.reel_units.proofs.Steps.{beside-begins, beside-goes-on, beside-fits, judged-more, judged-out}
 use Rattle.reel_units.proofs.judge.Statement.{statement}
 use Rattle.reel_units.proofs.judge.Tie as tie
@@ -27,34 +26,34 @@ module _ (s : State) (u : AccessUnit) (room : ℕ) where
   -- the payload before has no room
   no-room : s .rest ≡ 0 → room < s .at → stoppedAt (Refused NoRoom Whole) ≡ judgedBy s u room
   no-room begins short =
-      ap (λ (v : Verdict). judgedAs (andThen v (unitVerdict u)) s room)
+      ap (λ (v : Verdict). judgedAs (andThen v (unitVerdict u)) s)
       (sym (beside-begins (s .rest) (s .at) room begins ∙ ap (λ (t : Bool). refuseIf t NoRoom Whole) (lt-ltb room (s .at) short)))
 
   -- else the unit decides
   module _ (fine : besideVerdict (s .rest) (s .at) room ≡ Accepted) (verdict : Verdict) (is : verdict ≡ unitVerdict u) where
-    decides : judgedAs verdict s room ≡ judgedBy s u room
+    decides : judgedAs verdict s ≡ judgedBy s u room
     decides =
-        ap (λ (v : Verdict). judgedAs v s room) is
-        ∙ ap (λ (v : Verdict). judgedAs (andThen v (unitVerdict u)) s room) (sym fine)
+        ap (λ (v : Verdict). judgedAs v s) is
+        ∙ ap (λ (v : Verdict). judgedAs (andThen v (unitVerdict u)) s) (sym fine)
 
     refused : (reason : Reason) (item : Item) → verdict ≡ Refused reason item → stoppedAt verdict ≡ judgedBy s u room
-    refused reason item e = ap stoppedAt e ∙ ap (λ (v : Verdict). judgedAs v s room) (sym e) ∙ decides
+    refused reason item e = ap stoppedAt e ∙ ap (λ (v : Verdict). judgedAs v s) (sym e) ∙ decides
 
     -- and where it is accepted, what is behind it
     module _ (accepted : verdict ≡ Accepted) (next : State) (moved : next ≡ onward s) where
-      goes : judgedTo (next .left) next room ≡ judgedBy s u room
+      goes : judgedTo (next .left) next ≡ judgedBy s u room
       goes =
-          ap (λ (t : State). judgedTo (t .left) t room) moved
-          ∙ ap (λ (v : Verdict). judgedAs v s room) (sym accepted)
+          ap (λ (t : State). judgedTo (t .left) t) moved
+          ∙ ap (λ (v : Verdict). judgedAs v s) (sym accepted)
           ∙ decides
 
       more : 0 < next .left → next ≡ judgedBy s u room
-      more some = sym (judged-more (next .left) next room some) ∙ goes
+      more some = sym (judged-more (next .left) next some) ∙ goes
 
-      ended : next .left ≤ 0 → (short : Bool) → ltb room (next .at) ≡ short → endedAs short next ≡ judgedBy s u room
-      ended none short e =
+      ended : next .left ≤ 0 → stoppedAt (Refused NoRoom Whole) ≡ judgedBy s u room
+      ended none =
           let out : next .left ≡ 0 = omega arith in
-          ap (λ (b : Bool). endedAs b next) (sym e) ∙ sym (judged-out (next .left) next room out) ∙ goes
+          sym (judged-out (next .left) next out) ∙ goes
 
 -- past the first tests the payload before has its room
 module _ (c : tie.Joined1) where
@@ -100,26 +99,16 @@ module _ (c : tie.After-onward) where
   more-left : 0 < c .onward .result .left → c .onward .result ≡ judgedBy (s joined) (u joined) (room joined)
   more-left = more (s joined) (u joined) (room joined) (fine joined) _ (judged .judge-unit .ensures) (c .before .enum-told2 .given .1) (c .onward .result) (c .onward .ensures)
 
-  none-left : c .onward .result .left ≤ 0 → (short : Bool) → ltb (room joined) (c .onward .result .at) ≡ short
-      → endedAs short (c .onward .result) ≡ judgedBy (s joined) (u joined) (room joined)
+  none-left : c .onward .result .left ≤ 0 → stoppedAt (Refused NoRoom Whole) ≡ judgedBy (s joined) (u joined) (room joined)
   none-left = ended (s joined) (u joined) (room joined) (fine joined) _ (judged .judge-unit .ensures) (c .before .enum-told2 .given .1) (c .onward .result) (c .onward .ensures)
 
 more-units : tie.Need-returns-3
 more-units c = more-left (c .before .before) (c .if3 .taken)
 
-last-payload : tie.Need-returns-4
-last-payload c =
-    let test = c .before in
-    let last = test .before .before in
-    let next = last .before .before in
-    c .stopped3 .ensures ∙ none-left next (last .if3 .left) _ (lt-ltb _ _ (test .if4 .taken))
-
-all-judged : tie.Need-returns-5
-all-judged c =
-    let test = c .before in
-    let last = test .before .before in
-    let next = last .before .before in
-    c .rewind .ensures ∙ none-left next (last .if3 .left) _ (le-ltb _ _ (test .if4 .left))
+last-unit : tie.Need-returns-4
+last-unit c =
+    let last = c .before in
+    c .stopped3 .ensures ∙ none-left (last .before .before) (last .if3 .left)
 
 pub judge-spec : {M : Type 1} → statement M
 judge-spec =
@@ -135,6 +124,4 @@ judge-spec =
     (λ c κs. search needs)
     more-units
     (λ c κs. search needs)
-    last-payload
-    (λ c κs. search needs)
-    all-judged)
+    last-unit)

@@ -1,84 +1,88 @@
--- `reel_units::store` meets its contract: the test of the rest picks the case of `piece`.
+-- `reel_units::store` meets its contract: the flags byte where a payload begins, and the unit behind it, are the piece of the unit.
 -- Assumes nothing.
-use Prim.Native.Nat.{ℕ, _+_, _≤_}
+use Prim.Native.Nat.{ℕ, _+_, _-_, _≤_}
 use native.Mathlib.Omega.{arith}
-use mathlib.Core.Path.{_≡_, _∙_, ap, sym}
+use mathlib.Core.Path.{_≡_, _∙_, ap, ap₂, sym, subst₂}
 use mathlib.Core.List.{List}
 use borrow.Author.Needs.{needs}
 use denote.Ref.{now}
-use lib.ListN.{length, length-set}
+use lib.ListN.{length}
 use Rattle.lists.specs.Room.{overAt}
-use Rattle.lists.proofs.Lay.{length-overAt}
 use Rattle.line21.specs.declared.AccessUnit.{AccessUnit}
+use Rattle.line21.specs.Layout.{layoutAccessUnit}
 use Rattle.reel_units.specs.declared.State.{State}
-use Rattle.reel_units.specs.Inside.{piece, Storable}
-use Rattle.reel_units.proofs.Steps.{length-piece, bytes-begin, bytes-go-on, piece-begins, piece-goes-on, begun-stored}
+use Rattle.reel_units.specs.Inside.{ahead, restAfter, bytesAfter, storedBy}
+use Rattle.reel_units.proofs.Steps.{length-piece, few-bytes, bytes-begin, opened-some, opened-rest, opened-bytes, opened-stored, opened-fits}
 use Rattle.reel_units.proofs.store.Statement.{statement}
 use Rattle.reel_units.proofs.store.Tie as tie
 
--- how far the bytes reach
-module _ (s : State) (u : AccessUnit) (out : List ℕ) (ready : Storable s u out) where
-  begun : s .rest ≡ 0 → s .at + 6 ≤ length out
-  begun e = omega (arith, ready .fits, length-piece (s .flags) (s .rest) u, bytes-begin (s .rest) e)
-
-  on : (s .rest ≡ 0 → ⊥) → s .at + 5 ≤ length out
-  on h = omega (arith, ready .fits, length-piece (s .flags) (s .rest) u, bytes-go-on (s .rest) h)
-
-slice-write-out : tie.Need-slice-write-out
-slice-write-out c =
-    let start = c .before .before .before in
-    omega (arith, begun (start .args .s) (start .args .u) (now (start .args .out)) (start .pre) (c .if1 .taken))
-
-begins-requires : tie.Need-put-unit-requires
-begins-requires c κs =
-    let test = c .before in
-    let start = test .before .before .before in
-    let fits = begun (start .args .s) (start .args .u) (now (start .args .out)) (start .pre) (test .if1 .taken) in
-    (start .pre .unit, simp length-set (omega arith))
-
-goes-on-requires : tie.Need-put-unit-requires-2
-goes-on-requires c κs =
-    let test = c .before in
-    let start = test .before .before .before in
-    (start .pre .unit, on (start .args .s) (start .args .u) (now (start .args .out)) (start .pre) (test .if1 .left))
-
-begins : tie.Need-returns
-begins c =
-    let put = c .before .before in
-    let test = put .before .before in
-    let start = test .before .before .before in
+opened-requires : tie.Need-opened-requires
+opened-requires c κs begins =
+    let start = c .before .before in
     let s = start .args .s in
-    let u = start .args .u in
-    let out = now (start .args .out) in
-    put .put-unit .ensures
-    ∙ begun-stored (s .flags) (s .at) u out (begun s u out (start .pre) (test .if1 .taken))
-    ∙ ap (λ (bytes : List ℕ). overAt (s .at) bytes out) (sym (piece-begins (s .flags) (s .rest) u (test .if1 .taken)))
+    omega (arith, start .pre .1 .fits, length-piece (s .flags) (s .rest) (start .args .u), bytes-begin (s .rest) begins)
+
+-- what is begun, and the output with it
+module _ (c : tie.After-opened) where
+  abbrev s : State
+  s = c .before .before .before .args .s
+
+  abbrev u : AccessUnit
+  u = c .before .before .before .args .u
+
+  abbrev out : List ℕ
+  out = now (c .before .before .before .args .out)
+
+  fits : c .opened .result .at + 5 ≤ length (c .opened .last .1 .0)
+  fits =
+      subst₂ (λ (t : State) (xs : List ℕ). t .at + 5 ≤ length xs) (sym (c .opened .ensures .0)) (sym (c .opened .ensures .1))
+      (opened-fits (s .flags) (s .rest) (s .at) u out (c .before .before .before .pre .1 .fits))
+
+  rests : c .opened .result .rest - 1 ≡ restAfter (s .size) (s .rest)
+  rests = ap (λ (t : State). t .rest - 1) (c .opened .ensures .0) ∙ opened-rest (s .size) (s .rest)
+
+  reach : c .opened .result .at + 5 ≡ s .at + bytesAfter (s .rest)
+  reach = ap (λ (t : State). t .at + 5) (c .opened .ensures .0) ∙ opened-bytes (s .at) (s .rest)
+
+  stored : overAt (c .opened .result .at) (layoutAccessUnit u) (c .opened .last .1 .0) ≡ storedBy s u out
+  stored =
+      ap₂ (λ (t : State) (xs : List ℕ). overAt (t .at) (layoutAccessUnit u) xs) (c .opened .ensures .0) (c .opened .ensures .1)
+      ∙ opened-stored (s .flags) (s .rest) (s .at) u out (c .before .before .before .pre .1 .fits)
+
+put-unit-requires : tie.Need-put-unit-requires
+put-unit-requires c κs = let begun = c .before .before .before in (begun .before .before .before .pre .1 .unit, fits begun)
+
+sub-ahead : tie.Need-sub-ahead
+sub-ahead c =
+    let begun = c .before .before .before .before .before .before .before in
+    let rest = ap (λ (t : State). t .rest) (begun .opened .ensures .0) in
+    omega (arith, rest, opened-some (s begun .size) (s begun .rest) (begun .before .before .before .pre .0 .size-some))
+
+add-ahead : tie.Need-add-ahead
+add-ahead c =
+    let begun = c .before .before .before .before .before .before .before .before in
+    omega (arith, reach begun, few-bytes (s begun .rest), begun .before .before .before .pre .0 .bytes)
 
 same-length : tie.Need-same-length
 same-length c =
-    let start = c .before .before .before .before .before .before .before in
-    let s = start .args .s in
-    let u = start .args .u in
-    ap length (begins c) ∙ length-overAt (s .at) (piece (s .flags) (s .rest) u) (now (start .args .out)) (start .pre .fits)
+    c .before .before .before .before .before .put-unit .kept .1 .1 .0
+    ∙ c .before .before .before .before .before .before .before .before .before .opened .kept .1 .0
 
-goes-on : tie.Need-returns-2
-goes-on c =
-    let put = c .before .before in
-    let test = put .before .before in
-    let start = test .before .before .before in
-    let s = start .args .s in
-    put .put-unit2 .ensures
-    ∙ ap (λ (bytes : List ℕ). overAt (s .at) bytes (now (start .args .out))) (sym (piece-goes-on (s .flags) (s .rest) (start .args .u) (test .if1 .left)))
+returns : tie.Need-returns
+returns c =
+    let begun = c .before .before .before .before .before .before .before .before .before in (
+      c .ahead .ensures ∙ ap₂ (ahead (s begun)) (rests begun) (reach begun),
+      c .before .before .before .before .before .put-unit .ensures ∙ stored begun,
+    )
 
 pub store-spec : {M : Type 1} → statement M
 store-spec =
     tie.close
     (tie.spec
-    slice-write-out
-    (λ c. search needs)
-    begins-requires
-    goes-on-requires
+    opened-requires
+    put-unit-requires
+    sub-ahead
+    add-ahead
+    (λ c κs. c .before .before .before .before .before .before .before .before .before .before .before .pre .0)
     same-length
-    begins
-    (λ c. search needs)
-    goes-on)
+    returns)

@@ -12,16 +12,17 @@ use Rattle.reel_units.proofs.turn.Tie as tie
 store-requires : tie.Need-store-requires
 store-requires c κs =
     let test = c .before in
-    test .before .before .pre .storable (test .if1 .taken)
+    let ready = test .before .before .pre in
+    (ready .steady, ready .storable (test .if1 .taken))
 
 stores : tie.Need-returns
 stores c =
-    let stored = c .before .before .before in
+    let stored = c .before .before in
     let test = stored .before .before in
     let args = test .before .before .args in
     let pass = sym (test .if1 .taken) in (
-      c .onward .ensures ∙ ap (λ (b : Bool). turnedAs b (args .s) (args .u) (length (now (args .out)))) pass,
-      stored .store .ensures ∙ ap (λ (b : Bool). leftAs b (args .s) (args .u) (now (args .out))) pass,
+      stored .store .ensures .0 ∙ ap (λ (b : Bool). turnedAs b (args .s) (args .u) (length (now (args .out)))) pass,
+      stored .store .ensures .1 ∙ ap (λ (b : Bool). leftAs b (args .s) (args .u) (now (args .out))) pass,
     )
 
 judges : tie.Need-returns-2
@@ -36,4 +37,4 @@ judges c =
 pub turn-spec : {M : Type 1} → statement M
 turn-spec =
     tie.close
-    (tie.spec store-requires (λ c κs. search needs) (λ c. search needs) stores (λ c κs. search needs) judges)
+    (tie.spec store-requires (λ c. search needs) stores (λ c κs. search needs) judges)
