@@ -484,7 +484,7 @@ captions_written captions_reel_write(uint32_t flags, size_t size, const captions
 
 /*
  * The same for a run that is told by bytes: seven for each unit, in the order of captions_access_unit, `len` of them in
- * all. It is the quicker of the two. An array of n structs is such a run of 7n bytes as it stands.
+ * all. An array of n structs is such a run of 7n bytes as it stands.
  *
  * Refuses as captions_reel_write does, and behind the size with 15 where the run ends within a unit (len is no multiple
  * of 7).
