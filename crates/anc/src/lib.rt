@@ -1,6 +1,8 @@
 // Ancillary data words of ten bits, each in a 16-bit number.
 //
 // Normative references: docs/RULES.md, "Subtitling packet"; SMPTE 291M.
+#![tactic(auto)]
+
 ghost use Rattle.std.specs.Prelude.{◌≡◌, ◌%◌, ◌<◌};
 ghost use Rattle.lists.specs.Part.{part};
 ghost use Rattle.lists.specs.Sum.{sum as Sum·sum};

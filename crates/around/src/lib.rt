@@ -1,6 +1,8 @@
 // An area laid around the body of a unit, for each kind of caption unit.
 //
 // Normative references: docs/RULES.md, "Picture area", "Replacing".
+#![tactic(auto)]
+
 ghost use Rattle.std.specs.Prelude.{◌≡◌, ◌+◌, ◌-◌, ◌≤◌, length};
 ghost use Rattle.lists.specs.Room.{over};
 ghost use Rattle.around.specs.Around.{surrounded, Surrounds};

@@ -1,4 +1,6 @@
 // Lists the access units of the Line 21 payload that comes on standard input.
+#![tactic(auto)]
+
 use libc::STDERR_FILENO;
 use line21::{AccessUnit, MAX_BYTES, One};
 

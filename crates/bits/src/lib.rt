@@ -1,4 +1,6 @@
 // Bits in lent bytes, most significant first (docs/RULES.md, "Picture area").
+#![tactic(auto)]
+
 ghost use Rattle.std.specs.Prelude.{◌≡◌, ◌*◌, ◌<◌, min, [], ◌∷◌, map, length, get_or, take};
 ghost use Rattle.lists.specs.Room.{over};
 ghost use Rattle.bits.specs.Bits.{num, bits_of, reversed};

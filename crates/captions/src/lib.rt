@@ -1,6 +1,8 @@
 // The C interface (c/captions.h): read, write, replace and convert, over plain numbers and lent memory. Each function hands on to its carriage's own.
 //
 // Normative references: docs/RULES.md.
+#![tactic(auto)]
+
 mod area;
 mod atsc;
 mod dvb;

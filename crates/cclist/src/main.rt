@@ -1,4 +1,6 @@
 // Lists the captions of the picture area that comes on standard input (docs/RULES.md, "Programs").
+#![tactic(auto)]
+
 use libc::STDERR_FILENO;
 use units::MAX_BYTES;
 

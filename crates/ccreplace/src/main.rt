@@ -1,5 +1,7 @@
 // Puts a caption unit into the picture area that comes on standard input, and writes the new area to standard output. The unit's value
 // comes as words: reserved, flag and z, then each record as a line of `cclist` has it.
+#![tactic(auto)]
+
 ghost use Rattle.io.specs.Counts.{IsPrefixLen};
 
 use libc::STDERR_FILENO;

@@ -1,5 +1,7 @@
 // Runs the vectors of packets and payloads that come on standard input, and prints what differs and how many ran.
 // The crate `vectors` has the form of a line; `conformance_area` runs those of areas.
+#![tactic(auto)]
+
 mod packet_reading;
 mod packet_writing;
 mod payload_reading;

@@ -1,5 +1,7 @@
 // Runs the vectors of picture areas and their units that come on standard input, and prints what differs and how many ran.
 // The crate `vectors` has the form of a line; `conformance` runs those of packets and payloads.
+#![tactic(auto)]
+
 mod area_listing;
 mod area_reading;
 mod area_units;

@@ -1,5 +1,7 @@
 // Runs the vectors of film that come on standard input, and prints what differs and how many ran.
 // The crate `vectors` has the form of a line; `conformance_area` runs those of areas, `conformance` those of packets and payloads.
+#![tactic(auto)]
+
 mod film_run;
 
 use vectors::{Kind, Outcome, Tally};

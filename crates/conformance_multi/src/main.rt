@@ -1,6 +1,8 @@
 // Runs the vectors of multipackets that come on standard input, and prints what differs and how many ran.
 // The crate `vectors` has the form of a line; `conformance_area` runs those of areas, `conformance` those of packets and payloads, `conformance_film` those of film,
 // `conformance_pes` those of data fields.
+#![tactic(auto)]
+
 mod comparing;
 mod heads;
 mod reading;

@@ -1,5 +1,7 @@
 // Runs the vectors of PES data fields that come on standard input, and prints what differs and how many ran.
 // The crate `vectors` has the form of a line; `conformance_area` runs those of areas, `conformance` those of packets and payloads, `conformance_film` those of film.
+#![tactic(auto)]
+
 mod bytes;
 mod comparing;
 mod field_value;

@@ -1,5 +1,7 @@
 // The two counts of fields (docs/RULES.md, "Picture area" and "Film"). A number of one is never a number of the other:
 // `odd_even` is the one way across, and it asks top_field_first.
+#![tactic(auto)]
+
 ghost use Rattle.std.specs.Prelude.{◌≡◌};
 ghost use Rattle.fields.specs.Sides.{side};
 

@@ -2,6 +2,8 @@
 // access units of an odd and an even field.
 //
 // Normative references: docs/RULES.md, "Film"; ISO/IEC 13818-2, 6.3.10; document 004, Table 2.
+#![tactic(auto)]
+
 ghost use Rattle.std.specs.Prelude.{◌≡◌};
 ghost use Rattle.film.specs.Calls.{Closes};
 ghost use Rattle.film.specs.Frames.{half_of, access_unit};

@@ -2,6 +2,8 @@
 // the access units that a call sends in a lent array.
 //
 // Normative references: docs/RULES.md, "Film".
+#![tactic(auto)]
+
 ghost use Rattle.std.specs.Prelude.{◌≡◌, true, ◌∷◌, [], ◌++◌, length};
 ghost use Rattle.refusal.specs.declared.Verdict.TheVariants.{Refused};
 ghost use Rattle.refusal.specs.declared.Reason.TheVariants.{Unholdable};

@@ -1,6 +1,8 @@
 // Carrying a film picture into the frames of the Line 21 RTP payload.
 //
 // Normative references: docs/RULES.md, "Film"; ISO/IEC 13818-2, 6.3.10.
+#![tactic(auto)]
+
 ghost use Rattle.std.specs.Prelude.{◌≡◌, ◌≤◌};
 ghost use Rattle.scte20.specs.Value.{held};
 ghost use Rattle.scte20.specs.Lent.{unit_in};

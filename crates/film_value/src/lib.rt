@@ -1,6 +1,8 @@
 // Whether a picture can be carried, and what its display fields then bring.
 //
 // Normative references: docs/RULES.md, "Film" and "Order of checks".
+#![tactic(auto)]
+
 ghost use Rattle.std.specs.Prelude.{◌≡◌, ◌+◌, ◌≤◌, true, false, [], get_or};
 ghost use Rattle.refusal.specs.declared.Verdict.TheVariants.{Accepted};
 ghost use Rattle.scte20.specs.Value.{blank as Value·blank, count_if, held};

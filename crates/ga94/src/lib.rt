@@ -1,6 +1,8 @@
 // GA94 caption content: what a unit of ATSC picture user data holds behind its start code.
 //
 // Normative references: docs/RULES.md, "GA94"; document 003, Table 3; ATSC A/53.
+#![tactic(auto)]
+
 mod lent;
 
 pub use lent::{put_record, record_in};

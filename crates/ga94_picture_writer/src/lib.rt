@@ -1,6 +1,8 @@
 // Writing a GA94 unit, and putting one into a picture's user data area.
 //
 // Normative references: docs/RULES.md, "GA94" and "Order of checks"; document 003, Table 3.
+#![tactic(auto)]
+
 ghost use Rattle.std.specs.Prelude.{◌≤◌, length};
 ghost use Rattle.kind.specs.declared.Kind.TheVariants.{Ga94};
 ghost use Rattle.ga94.specs.Lent.{unit_in};

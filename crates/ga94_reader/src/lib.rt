@@ -1,6 +1,8 @@
 // Reading GA94 caption content: the body of a GA94 unit, from left to right.
 //
 // Normative references: docs/RULES.md, "GA94" and "Order of checks"; document 003, Table 3.
+#![tactic(auto)]
+
 ghost use Rattle.std.specs.Prelude.{◌≡◌, true, [], ◌∷◌, ◌+◌, ◌*◌, ◌/◌, ◌%◌, ◌≤◌, ◌<◌, length, get_or};
 ghost use Rattle.std.proofs.lemmas.List.Edits.{sets};
 ghost use Rattle.lists.specs.Room.{filled};

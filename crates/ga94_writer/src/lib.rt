@@ -1,6 +1,8 @@
 // Writing GA94 caption content: the body of a GA94 unit.
 //
 // Normative references: docs/RULES.md, "GA94" and "Order of checks"; document 003, Table 3.
+#![tactic(auto)]
+
 ghost use Rattle.std.specs.Prelude.{◌≡◌, true, ◌+◌, ◌*◌, ◌/◌, ◌%◌, ◌≤◌, ◌<◌, [], ◌∷◌, length, get_or, take};
 ghost use Rattle.lists.specs.Flat.{flat};
 ghost use Rattle.lists.specs.Room.{over, over_at};

@@ -1,6 +1,8 @@
 // Standard input, for a program that lists or changes what it reads.
 //
 // A read that fails is not the end of the input: what came before it is no whole payload, packet or area.
+#![tactic(auto)]
+
 ghost use Rattle.std.specs.Prelude.{◌<◌};
 ghost use Rattle.io.specs.Counts.{IsPrefixLen};
 

@@ -1,4 +1,6 @@
 // Which units of an area are ours (docs/RULES.md, "Picture area"). Every other unit is foreign.
+#![tactic(auto)]
+
 ghost use Rattle.std.specs.Prelude.{◌≡◌};
 ghost use Rattle.kind.specs.Ours.{ours as Ours·ours, typed as Ours·typed, group_type, identified as Ours·identified};
 

@@ -1,6 +1,8 @@
 // The ISMA Line 21 RTP payload: what follows the RTP header.
 //
 // Normative references: docs/RULES.md, "Line 21 payload"; document 004, 3.2.1, Tables 1 and 2.
+#![tactic(auto)]
+
 mod lent;
 mod reading;
 

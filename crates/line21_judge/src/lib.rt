@@ -2,6 +2,8 @@
 // each payload of a reel.
 //
 // Normative references: docs/RULES.md, "Order of checks" and "Line 21 payload".
+#![tactic(auto)]
+
 ghost use Rattle.std.specs.Prelude.{◌≡◌, true, ◌↔◌};
 ghost use Rattle.line21.specs.Writing.{unit_verdict};
 ghost use Rattle.line21_judge.specs.Judging.{lent_verdict};

@@ -1,6 +1,8 @@
 // Writing an ISMA Line 21 RTP payload, and a reel of them.
 //
 // Normative references: docs/RULES.md, "Line 21 payload" and "Order of checks"; document 004, 3.2.1, Tables 1 and 2.
+#![tactic(auto)]
+
 mod plain;
 mod reels;
 

@@ -1,4 +1,6 @@
 // The text that `cclist` prints for an answer (docs/RULES.md, "Programs").
+#![tactic(auto)]
+
 ghost use Rattle.std.specs.Prelude.{◌≡◌, [], ◌∷◌, ◌++◌, ◌<◌};
 ghost use Rattle.listing.specs.Inside.{Appends};
 ghost use Rattle.listing.specs.Texts.{HoldsText, decimal, digit, head_text, hex, record_text, records_text, refused_text, text_of};

@@ -1,4 +1,6 @@
 // Definitions and laws on lists that every carriage cites, what a slice's type tells, and a slice filled with zeros or with another.
+#![tactic(auto)]
+
 ghost use Rattle.std.specs.Prelude.{◌≡◌, length, take, replicate};
 ghost use Rattle.lists.specs.Bytes.{Bytes};
 ghost use Rattle.lists.specs.Room.{over};

@@ -1,6 +1,8 @@
 // The multipacket of RDD 8 (OP-47): several ancillary data packets in one.
 //
 // Normative references: docs/RULES.md, "Multipacket"; document 002 (RDD 8), clause 6; SMPTE 291M.
+#![tactic(auto)]
+
 ghost use Rattle.std.specs.Prelude.{◌≡◌};
 ghost use Rattle.multi.specs.Order.{subtitling_id, unplaced as Order·unplaced};
 

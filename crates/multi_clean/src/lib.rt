@@ -2,6 +2,8 @@
 // reading. A no says nothing: `multi_judge` finds what is wrong, if anything is.
 //
 // Normative references: docs/RULES.md, "Multipacket"; document 002 (RDD 8), clause 6; SMPTE 291M.
+#![tactic(auto)]
+
 ghost use Rattle.std.specs.Prelude.{◌≡◌, ℕ, ◌%◌, ◌<◌, ◌≤◌, true, length};
 ghost use Rattle.lists.specs.Part.{part};
 ghost use Rattle.lists.specs.Sum.{sum as Sum·sum};

@@ -1,6 +1,8 @@
 // The checks of reading a multipacket: around the inner packets, then inner packet by inner packet.
 //
 // Normative references: docs/RULES.md, "Multipacket" and "Order of checks"; document 002 (RDD 8), clause 6; SMPTE 291M.
+#![tactic(auto)]
+
 ghost use Rattle.std.specs.Prelude.{◌≡◌, ◌+◌, ◌≤◌, ◌<◌, length};
 ghost use Rattle.multi.specs.Order.{size_in};
 ghost use Rattle.multi.specs.Reading.{inner_verdict, inners_verdict, outer_verdict, multi_verdict};

@@ -1,6 +1,8 @@
 // Reading a multipacket: a head for each inner packet in lent memory, and the words of an inner packet where they stand. No word is copied.
 //
 // Normative references: docs/RULES.md, "Multipacket"; document 002 (RDD 8), clause 6.
+#![tactic(auto)]
+
 ghost use Rattle.std.specs.Prelude.{◌≡◌, ℕ, ◌+◌, ◌-◌, ◌≤◌, ◌<◌, [], length, get_or};
 ghost use Rattle.lists.specs.Part.{part};
 ghost use Rattle.lists.specs.Room.{over_at};

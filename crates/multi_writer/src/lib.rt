@@ -1,6 +1,8 @@
 // Writing a multipacket, from heads and user words that are lent.
 //
 // Normative references: docs/RULES.md, "Multipacket" and "Order of checks"; document 002 (RDD 8), clause 6; SMPTE 291M.
+#![tactic(auto)]
+
 ghost use Rattle.std.specs.Prelude.{◌≡◌, ◌+◌, ◌*◌, ◌%◌, ◌<◌, ◌≤◌, [], ◌∷◌, map, length, drop, slice_index};
 ghost use Rattle.lists.specs.Sum.{sum};
 ghost use Rattle.lists.specs.Room.{over};

@@ -1,4 +1,6 @@
 // A caption unit's value in words, as it is typed to `ccreplace`: reserved, flag and z, then each record as a line of `cclist` has it.
+#![tactic(auto)]
+
 mod numbers;
 mod records;
 mod words;

@@ -1,6 +1,8 @@
 // The PES data field of EN 300 472: teletext lines for DVB.
 //
 // Normative references: docs/RULES.md, "PES data field"; EN 300 472.
+#![tactic(auto)]
+
 ghost use Rattle.std.specs.Prelude.{◌≡◌};
 ghost use Rattle.pes.specs.Order.{teletext_id, known_id};
 ghost use Rattle.pes.specs.Reading.{line_verdict};

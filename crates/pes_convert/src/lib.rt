@@ -1,6 +1,8 @@
 // A subtitling packet (RDD 8, OP-47) carried into a PES data field (EN 300 472).
 //
 // Normative references: docs/RULES.md, "PES data field"; document 002 (RDD 8), clause 5; EN 300 472.
+#![tactic(auto)]
+
 ghost use Rattle.std.specs.Prelude.{◌≡◌, ◌+◌, ◌*◌, ◌≤◌, ◌<◌, [], ◌∷◌, map, length, get_or};
 ghost use Rattle.lists.specs.Each.{Each};
 ghost use Rattle.lists.specs.Room.{over, over_at};

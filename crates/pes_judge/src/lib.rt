@@ -1,6 +1,8 @@
 // The checks of reading a PES data field, from left to right.
 //
 // Normative references: docs/RULES.md, "PES data field" and "Order of checks"; EN 300 472.
+#![tactic(auto)]
+
 ghost use Rattle.std.specs.Prelude.{◌≡◌, ◌<◌, length};
 ghost use Rattle.pes.specs.Reading.{teletext_verdict, unit_verdict, field_verdict};
 

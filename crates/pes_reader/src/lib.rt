@@ -1,6 +1,8 @@
 // Reading a PES data field. Nothing is stored before all its checks accept.
 //
 // Normative references: docs/RULES.md, "PES data field" and "Order of checks"; EN 300 472.
+#![tactic(auto)]
+
 ghost use Rattle.std.specs.Prelude.{◌≡◌, ◌+◌, ◌*◌, ◌≤◌, ◌<◌, length, drop};
 ghost use Rattle.lists.specs.Flat.{taken};
 ghost use Rattle.lists.specs.Room.{filled, over};

@@ -1,6 +1,8 @@
 // Writing a PES data field.
 //
 // Normative references: docs/RULES.md, "PES data field" and "Order of checks"; EN 300 472.
+#![tactic(auto)]
+
 ghost use Rattle.std.specs.Prelude.{◌≡◌, ◌+◌, ◌*◌, ◌≤◌, ◌<◌, length};
 ghost use Rattle.lists.specs.Flat.{taken};
 ghost use Rattle.lists.specs.Room.{over};

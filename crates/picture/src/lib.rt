@@ -1,6 +1,8 @@
 // A picture's user data area: foreign units, and at most one caption unit of each kind.
 //
 // Normative references: docs/RULES.md, "Picture area" and "GA94"; document 001, 5.7; document 003, Table 3.
+#![tactic(auto)]
+
 mod atsc;
 mod places;
 mod reading;

@@ -1,6 +1,8 @@
 // Writing an SCTE 20 caption unit, and putting one into a picture's user data area.
 //
 // Normative references: docs/RULES.md, "Picture area" and "Order of checks"; document 001, 5.7.
+#![tactic(auto)]
+
 ghost use Rattle.std.specs.Prelude.{◌≤◌, length};
 ghost use Rattle.kind.specs.declared.Kind.TheVariants.{Scte20};
 ghost use Rattle.scte20.specs.Lent.{unit_in};

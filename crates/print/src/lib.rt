@@ -1,6 +1,8 @@
 // What the programs print, to standard output.
 //
 // Each function answers whether all of it was written, and stops at the first write that was not. Then `os::fail` called next says why.
+#![tactic(auto)]
+
 ghost use Rattle.std.specs.Prelude.{◌≡◌, ◌%◌};
 ghost use Rattle.print.specs.Digits.{digit_of};
 

@@ -1,6 +1,8 @@
 // A reel: a run of access units as Line 21 payloads of one size, one behind the other.
 //
 // Normative references: docs/RULES.md, "Reel"; document 004, 3.2.1, Tables 1 and 2.
+#![tactic(auto)]
+
 ghost use Rattle.std.specs.Prelude.{◌≡◌, ◌-◌};
 ghost use Rattle.reel.specs.Writing.{size_verdict};
 ghost use Rattle.reel.specs.Lent.{run_verdict};

@@ -1,6 +1,8 @@
 // A reel of a slice of access unit structs: a run of units as Line 21 payloads of one size, one behind the other.
 //
 // Normative references: docs/RULES.md, "Reel" and "Order of checks"; document 004, 3.2.1, Tables 1 and 2.
+#![tactic(auto)]
+
 ghost use Rattle.std.specs.Prelude.{◌≡◌, ◌+◌, ◌^◌, ◌≤◌, ◌<◌, length};
 ghost use Rattle.lists.specs.Room.{over_at};
 ghost use Rattle.refusal.specs.declared.Verdict.TheVariants.{Accepted};

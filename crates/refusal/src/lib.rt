@@ -2,6 +2,8 @@
 //
 // A reader or a writer says why it refuses by a reason, and where by the item that failed. Only this
 // crate knows which number and which place the rules have for them.
+#![tactic(auto)]
+
 ghost use Rattle.std.specs.Prelude.{◌≡◌, ◌+◌};
 ghost use Rattle.refusal.specs.Numbers.{fixed_number, number_of, place_of, refusal_of};
 ghost use Rattle.refusal.specs.Checks.{fit_verdict};

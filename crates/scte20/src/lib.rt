@@ -1,6 +1,8 @@
 // SCTE 20 caption content: what a caption unit of a picture's user data holds behind its start code.
 //
 // Normative references: docs/RULES.md, "Picture area"; document 001, 5.4 to 5.8.
+#![tactic(auto)]
+
 mod lent;
 
 use fields::DisplayField;

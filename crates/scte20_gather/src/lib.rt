@@ -1,6 +1,8 @@
 // One look at the body of a caption unit: all of it at once, with no order of checks, and its constructs gathered as numbers.
 //
 // Normative references: docs/RULES.md, "Picture area" and "Order of checks"; document 001, 5.4 to 5.8.
+#![tactic(auto)]
+
 ghost use Rattle.std.specs.Prelude.{◌≡◌, ◌+◌, ◌*◌, ◌≤◌, ◌<◌, true, length, set};
 ghost use Rattle.bits.specs.Peek.{peek_of};
 ghost use Rattle.scte20_gather.specs.Inside.{Numbered, Held, Blank, Gathers};

@@ -1,6 +1,8 @@
 // The rules over an SCTE 20 record and those before it, which reading and writing share.
 //
 // Normative references: docs/RULES.md, "Picture area" and "Order of checks"; document 001, 5.8.
+#![tactic(auto)]
+
 ghost use Rattle.std.specs.Prelude.{◌≡◌, ◌+◌, min, []};
 ghost use Rattle.scte20.specs.Value.{count_if};
 ghost use Rattle.scte20.specs.Inside.{last_of, last_after, last_verdict};

@@ -1,6 +1,8 @@
 // Whether the value of an SCTE 20 caption unit can be written.
 //
 // Normative references: docs/RULES.md, "Picture area" and "Order of checks".
+#![tactic(auto)]
+
 ghost use Rattle.std.specs.Prelude.{◌≡◌, ◌≤◌, ◌<◌, true, [], take};
 ghost use Rattle.refusal.specs.declared.Verdict.TheVariants.{Accepted};
 ghost use Rattle.scte20.specs.Lent.{lent_records, unit_in};

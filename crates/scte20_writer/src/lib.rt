@@ -1,6 +1,8 @@
 // Writing SCTE 20 caption content: the body of a caption unit.
 //
 // Normative references: docs/RULES.md, "Picture area" and "Order of checks"; document 001, 5.4 to 5.8.
+#![tactic(auto)]
+
 ghost use Rattle.std.specs.Prelude.{◌≡◌, ◌++◌, ◌+◌, ◌-◌, ◌*◌, ◌/◌, ◌≤◌, ◌<◌, length, take, replicate};
 ghost use Rattle.lists.specs.Room.{over_at};
 ghost use Rattle.refusal.specs.declared.Verdict.TheVariants.{Accepted};

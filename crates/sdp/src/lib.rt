@@ -2,6 +2,8 @@
 // carries them.
 //
 // Normative references: docs/RULES.md, "Subtitling packet"; document 002 (RDD 8), clause 5.
+#![tactic(auto)]
+
 mod holding;
 mod user;
 

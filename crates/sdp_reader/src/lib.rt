@@ -1,6 +1,8 @@
 // The rules over the user words of an RDD 8 (OP-47) packet, apart from the header and CS around them.
 //
 // Normative references: docs/RULES.md, "Subtitling packet" and "Order of checks"; document 002 (RDD 8), clause 5.
+#![tactic(auto)]
+
 ghost use Rattle.std.specs.Prelude.{◌≡◌, ◌+◌, ◌*◌, ◌%◌, ◌≤◌, ◌<◌, map, length, drop};
 ghost use Rattle.lists.specs.Sum.{sum as Sum·sum};
 ghost use Rattle.anc.specs.Words.{byte_of};

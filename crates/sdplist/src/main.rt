@@ -1,5 +1,7 @@
 // Lists the slots of the subtitling packet that comes on standard input, each word as two bytes, the high
 // one first.
+#![tactic(auto)]
+
 ghost use Rattle.std.specs.Prelude.{◌≤◌, ◌<◌, length};
 
 use libc::STDERR_FILENO;

@@ -1,6 +1,8 @@
 // The RDD 8 (OP-47) subtitling packet: the ancillary data words that carry a subtitling distribution packet, and the order of checks over them.
 //
 // Normative references: docs/RULES.md, "Subtitling packet" and "Order of checks"; document 002 (RDD 8), clause 4; SMPTE 291M.
+#![tactic(auto)]
+
 ghost use Rattle.std.specs.Prelude.{◌≡◌, ◌≤◌, length};
 ghost use Rattle.subtitling.specs.Reading.{form_verdict, header_verdict, checksum_verdict, packet_verdict};
 ghost use Rattle.subtitling.specs.Inside.{Vouches};

@@ -1,6 +1,8 @@
 // Reading an RDD 8 (OP-47) subtitling packet: its numbers, or its rows.
 //
 // Normative references: docs/RULES.md, "Subtitling packet"; document 002 (RDD 8), clauses 4 and 5.
+#![tactic(auto)]
+
 ghost use Rattle.std.specs.Prelude.{◌≡◌, ◌+◌, ◌≤◌, map, length, take, drop};
 ghost use Rattle.anc.specs.Words.{byte_of};
 ghost use Rattle.sdp.specs.Value.{none, numbers_of, rows_of};

@@ -1,6 +1,8 @@
 // Writing an RDD 8 (OP-47) subtitling packet.
 //
 // Normative references: docs/RULES.md, "Subtitling packet" and "Order of checks"; document 002 (RDD 8), clause 4; SMPTE 291M.
+#![tactic(auto)]
+
 ghost use Rattle.std.specs.Prelude.{◌≡◌, ◌+◌, ◌*◌, ◌%◌, ◌<◌, ◌≤◌, [], ◌∷◌, map, length, take};
 ghost use Rattle.lists.specs.Each.{Each};
 ghost use Rattle.lists.specs.Part.{part};

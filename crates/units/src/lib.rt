@@ -1,6 +1,8 @@
 // The units of an area: start codes, and the search for the units of one kind. It knows no kind of caption.
 //
 // Normative references: docs/RULES.md, "Picture area"; ISO/IEC 13818-2, start codes.
+#![tactic(auto)]
+
 ghost use Rattle.std.specs.Prelude.{◌≡◌, ◌+◌, ◌≤◌, ◌<◌, length};
 ghost use Rattle.kind.specs.Ours.{ours};
 ghost use Rattle.units.specs.Layout.{started};

@@ -6,6 +6,8 @@
 // The fields are separated by one space. INPUT and EXPECTED are bytes in upper-case hex; a byte
 // followed by `*NNNN`, four hex digits, stands for that byte so many times; `-` is no bytes. A `!`
 // directly before OPERATION marks a vector that is wrong on purpose, and must be found to differ.
+#![tactic(auto)]
+
 mod bytes;
 mod hex;
 mod line;

@@ -10,39 +10,39 @@ use Rattle.bits.proofs.Runs.{first_set-here, first_set-next, first_set-end}
 use Rattle.bits.proofs.first_set.Statement.{statement}
 use Rattle.bits.proofs.first_set.Tie as tie
 
-abbrev invariant-loop : tie.invariant-loop
+abbrev invariant-loop : tie.invariant-loop-i
 invariant-loop s from i₀ i = first_set s from ≡ first_set s i
 
-abbrev decreases-loop : tie.decreases-loop
+abbrev decreases-loop : tie.decreases-loop-i
 decreases-loop s from i₀ i = length s - i
 
 -- 64 zero bytes are passed
-block : (c : tie.Then1 invariant-loop decreases-loop)
+block : (c : tie.Then-is_clear invariant-loop decreases-loop)
     → let s = c.before.before.before.before.before.args.s.now in
-    let i = c.before.before.before.loop.i in
+    let i = c.before.before.before.loop-i.i in
     (i + 64 ≤ length s) × (first_set s i ≡ first_set s (i + 64))
-block c = c.before.is-clear.ensures c.if1.true
+block c = c.before.is_clear.ensures c.if-is_clear.true
 
-loop-again : tie.Need-loop-preserved invariant-loop decreases-loop
-loop-again c = c.before.before.before.loop.invariant ∙ (block c).1
+loop-again : tie.Need-loop-i-preserved-then-is_clear invariant-loop decreases-loop
+loop-again c = c.before.before.before.loop-i.invariant ∙ (block c).1
 
-here : tie.Need-returns invariant-loop decreases-loop
+here : tie.Need-returns-then-s-i-ne0 invariant-loop decreases-loop
 here c =
     let at = c.before.before.before.before.before in
     let s = at.before.before.args.s.now in
-    let set : 0 < get_or s at.loop.i 0 = omega arith in
-    sym (at.loop.invariant ∙ first_set-here s at.loop.i c.before.before.before.before.loop-test.true set)
+    let set : 0 < get_or s at.loop-i.i 0 = omega arith in
+    sym (at.loop-i.invariant ∙ first_set-here s at.loop-i.i c.before.before.before.before.loop-i-test.true set)
 
-loop-again-2 : tie.Need-loop-preserved-2 invariant-loop decreases-loop
+loop-again-2 : tie.Need-loop-i-preserved invariant-loop decreases-loop
 loop-again-2 c =
     let at = c.before.before.before.before.before in
-    at.loop.invariant ∙ first_set-next at.before.before.args.s.now at.loop.i c.before.before.before.before.loop-test.true c.if2.false
+    at.loop-i.invariant ∙ first_set-next at.before.before.args.s.now at.loop-i.i c.before.before.before.before.loop-i-test.true c.if-s-i-ne0.false
 
-past : tie.Need-returns-2 invariant-loop decreases-loop
-past c = sym (c.before.loop.invariant ∙ first_set-end c.before.before.before.args.s.now c.before.loop.i c.loop-test.false)
+past : tie.Need-returns invariant-loop decreases-loop
+past c = sym (c.before.loop-i.invariant ∙ first_set-end c.before.before.before.args.s.now c.before.loop-i.i c.loop-i-test.false)
 
-pub first-set-spec : {M : Type 1} → statement M
-first-set-spec =
+pub first_set_spec : {M : Type 1} → statement M
+first_set_spec =
     tie.close
     (tie.spec
     invariant-loop

@@ -17,10 +17,10 @@ use Rattle.bits.proofs.is_clear.Tie as tie
 abbrev Passed : List ℕ → ℕ → ℕ → ℕ → Type 0
 Passed s i j any = any ≡ 0 → first_set s i ≡ first_set s (i + j)
 
-abbrev invariant-loop : tie.invariant-loop
+abbrev invariant-loop : tie.invariant-loop-j
 invariant-loop s i any₀ j₀ any j = (i + 64 ≤ length s) × (j ≤ 64) × Passed s i j any
 
-abbrev decreases-loop : tie.decreases-loop
+abbrev decreases-loop : tie.decreases-loop-j
 decreases-loop s i any₀ j₀ any j = 64 - j
 
 -- no bit is set in two numbers together only where none is in either
@@ -36,28 +36,28 @@ one-more s i j any before inside e =
     let same : i + j + 1 ≡ i + (j + 1) = omega arith in
     before both.0 ∙ first_set-next s (i + j) inside both.1 ∙ ap (first_set s) same
 
-loop-holds : tie.Need-loop-init invariant-loop decreases-loop
+loop-holds : tie.Need-loop-j-init invariant-loop decreases-loop
 loop-holds c =
     let args = c.before.before.args in
     (omega arith, omega arith, none_passed args.s.now args.i 0)
 
-loop-again : tie.Need-loop-preserved invariant-loop decreases-loop
+loop-again : tie.Need-loop-j-preserved invariant-loop decreases-loop
 loop-again c =
     let args = c.before.before.before.before.before.args in
     let s = args.s.now in
-    let at = c.before.before.loop in
-    let inside : args.i + at.j < length s = omega (arith, at.invariant.0, c.before.loop-test.true) in
-    (at.invariant.0, omega (arith, c.before.loop-test.true), one-more s args.i at.j at.any at.invariant.2 inside)
+    let at = c.before.before.loop-j in
+    let inside : args.i + at.j < length s = omega (arith, at.invariant.0, c.before.loop-j-test.true) in
+    (at.invariant.0, omega (arith, c.before.loop-j-test.true), one-more s args.i at.j at.any at.invariant.2 inside)
 
-all-passed : tie.Need-returns-3 invariant-loop decreases-loop
+all-passed : tie.Need-returns invariant-loop decreases-loop
 all-passed c told =
     let args = c.before.before.before.before.args in
-    let at = c.before.loop in
-    let all : at.j ≡ 64 = omega (arith, at.invariant.1, c.loop-test.false) in
+    let at = c.before.loop-j in
+    let all : at.j ≡ 64 = omega (arith, at.invariant.1, c.loop-j-test.false) in
     (at.invariant.0, at.invariant.2 (eqb-true _ _ told) ∙ ap (λ (k : ℕ). first_set args.s.now (args.i + k)) all)
 
-pub is-clear-spec : {M : Type 1} → statement M
-is-clear-spec =
+pub is_clear_spec : {M : Type 1} → statement M
+is_clear_spec =
     tie.close
     (tie.spec
     invariant-loop

@@ -13,16 +13,16 @@ use Rattle.bits.proofs.Table.{found_at}
 use Rattle.bits.proofs.look_up.Statement.{statement}
 use Rattle.bits.proofs.look_up.Tie as tie
 
-abbrev invariant-loop : tie.invariant-loop
+abbrev invariant-loop : tie.invariant-loop-i
 invariant-loop s table out₀ n i₀ out i = (i ≤ n) × (out ≡ over (take i (map (found table) s)) out₀)
 
-abbrev decreases-loop : tie.decreases-loop
+abbrev decreases-loop : tie.decreases-loop-i
 decreases-loop s table out₀ n i₀ out i = n - i
 
 -- n is the smaller of the two lengths
-module _ (c : tie.Joined1 invariant-loop decreases-loop) where
+module _ (c : tie.Joined-s-out invariant-loop decreases-loop) where
   abbrev n : ℕ
-  n = c.if1.n
+  n = c.if-s-out.n
 
   -- the bytes as the table has them
   abbrev table : List ℕ
@@ -38,48 +38,48 @@ module _ (c : tie.Joined1 invariant-loop decreases-loop) where
   out = c.before.args.out.now
 
   in-s : n ≤ length s
-  in-s = ⊎_elim (λ e. omega (arith, whole, e.1)) (λ e. omega (arith, whole, e.0.left, e.1)) c.if1.branch
+  in-s = ⊎_elim (λ e. omega (arith, whole, e.1)) (λ e. omega (arith, whole, e.0.left, e.1)) c.if-s-out.branch
 
   in-out : n ≤ length out
-  in-out = ⊎_elim (λ e. omega (arith, e.0.taken, e.1)) (λ e. omega (arith, e.1)) c.if1.branch
+  in-out = ⊎_elim (λ e. omega (arith, e.0.taken, e.1)) (λ e. omega (arith, e.1)) c.if-s-out.branch
 
   all : take n s ≡ take (length out) s
-  all = ⊎_elim (λ e. front-all s n (length out) (omega (arith, whole, e.1)) (omega (arith, whole, e.0.taken))) (λ e. ap (λ (k : ℕ). take k s) e.1) c.if1.branch
+  all = ⊎_elim (λ e. front-all s n (length out) (omega (arith, whole, e.1)) (omega (arith, whole, e.0.taken))) (λ e. ap (λ (k : ℕ). take k s) e.1) c.if-s-out.branch
 
 -- the output keeps its length
-kept : (c : tie.At-loop invariant-loop decreases-loop) → length c.loop.out ≡ length (out c.before)
+kept : (c : tie.At-loop-i invariant-loop decreases-loop) → length c.loop-i.out ≡ length (out c.before)
 kept c =
     let at = c.before in
-    ap length c.loop.invariant.1 ∙ front_length (s at) (out at) c.loop.i (omega (arith, in-s at, c.loop.invariant.0)) (omega (arith, in-out at, c.loop.invariant.0))
+    ap length c.loop-i.invariant.1 ∙ front_length (s at) (out at) c.loop-i.i (omega (arith, in-s at, c.loop-i.invariant.0)) (omega (arith, in-out at, c.loop-i.invariant.0))
 
-loop-again : tie.Need-loop-preserved invariant-loop decreases-loop
+loop-again : tie.Need-loop-i-preserved invariant-loop decreases-loop
 loop-again c =
     let turn = c.before.before.before in
     let at = turn.before in
-    let i = turn.loop.i in
+    let i = turn.loop-i.i in
     let bytes = at.before.args.s.now in (
       omega arith,
-      ap (λ (b : ℕ). set turn.loop.out i b) (sym (found_at (table at) bytes i (omega (arith, whole at, in-s at))))
-          ∙ ap (λ (xs : List ℕ). set xs i (get_or (s at) i 0)) turn.loop.invariant.1
+      ap (λ (b : ℕ). set turn.loop-i.out i b) (sym (found_at (table at) bytes i (omega (arith, whole at, in-s at))))
+          ∙ ap (λ (xs : List ℕ). set xs i (get_or (s at) i 0)) turn.loop-i.invariant.1
           ∙ front-next (s at) (out at) i 0 (omega (arith, in-s at)) (omega (arith, in-out at)),
     )
 
 returns : tie.Need-returns invariant-loop decreases-loop
 returns c =
     let at = c.before.before in
-    let end : c.before.loop.i ≡ n at = omega arith in
-    c.before.loop.invariant.1 ∙ ap (λ (k : ℕ). over (take k (s at)) (out at)) end ∙ ap (λ (front : List ℕ). over front (out at)) (all at)
+    let end : c.before.loop-i.i ≡ n at = omega arith in
+    c.before.loop-i.invariant.1 ∙ ap (λ (k : ℕ). over (take k (s at)) (out at)) end ∙ ap (λ (front : List ℕ). over front (out at)) (all at)
 
-pub look-up-spec : {M : Type 1} → statement M
-look-up-spec =
+pub look_up_spec : {M : Type 1} → statement M
+look_up_spec =
     tie.close
     (tie.spec
     invariant-loop
     decreases-loop
     (λ c. (omega arith, refl))
     (λ c. omega (arith, in-s c.before.before.before, whole c.before.before.before))
-    (λ c. omega (arith, c.shared-slice-known.given c.before.before.loop.i))
-    (λ c. omega (arith, c.shared-slice-known.given c.before.before.loop.i))
+    (λ c. omega (arith, c.shared_slice_known-1.given c.before.before.loop-i.i))
+    (λ c. omega (arith, c.shared_slice_known-1.given c.before.before.loop-i.i))
     (λ c. omega (arith, kept c.before.before.before, in-out c.before.before.before.before))
     (λ c. omega (arith, in-out c.before.before.before.before))
     (λ c. omega arith)

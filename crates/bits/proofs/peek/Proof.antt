@@ -15,11 +15,11 @@ use Rattle.bits.proofs.peek.Statement.{statement}
 use Rattle.bits.proofs.peek.Tie as tie
 
 -- the width is w, and 32 at most
-narrowed : (c : tie.Joined1) → c.if1.width ≡ min c.before.before.args.w 32
-narrowed c = ⊎_elim (λ w. w.1 ∙ sym (min-eq_left (le_of_lt w.0.taken))) (λ w. w.1 ∙ sym (min-eq_right w.0.left)) c.if1.branch
+narrowed : (c : tie.Joined-w-lt32) → c.if-w-lt32.width ≡ min c.before.before.args.w 32
+narrowed c = ⊎_elim (λ w. w.1 ∙ sym (min-eq_left (le_of_lt w.0.taken))) (λ w. w.1 ∙ sym (min-eq_right w.0.left)) c.if-w-lt32.branch
 
-narrow : (c : tie.Joined1) → c.if1.width ≤ 32
-narrow c = ⊎_elim (λ w. omega arith) (λ w. omega arith) c.if1.branch
+narrow : (c : tie.Joined-w-lt32) → c.if-w-lt32.width ≤ 32
+narrow c = ⊎_elim (λ w. omega arith) (λ w. omega arith) c.if-w-lt32.branch
 
 -- what is left of a division by the code's power
 remainder-lt : (n w : ℕ) → w ≤ 32 → n % (1 * 2 ^ w % 18446744073709551616) < 4294967296
@@ -36,25 +36,25 @@ taken s at w h =
     ∙ sym (peek-window s (at / 8) j w inside)
     ∙ ap (λ (n : ℕ). peek_of s n w) place
 
-sub-bits-2 : tie.Need-overflow-sub-bits-2
+sub-bits-2 : tie.Need-overflow_sub-bits-2
 sub-bits-2 c = omega (arith, narrow c.before.before)
 
-shl-result : tie.Need-overflow-shl-result
+shl-result : tie.Need-overflow_shl-result
 shl-result c = omega (arith, narrow c.before.before)
 
-rem-result : tie.Need-nonzero-rem-result
+rem-result : tie.Need-nonzero_rem-result
 rem-result c =
-    let w = c.before.before.if1.width in
+    let w = c.before.before.if-w-lt32.width in
     one-shifted-pos w (omega (arith, narrow c.before.before))
 
 cast-result : tie.Need-overflow-cast-result
-cast-result c = record { fits = remainder-lt _ c.before.before.if1.width (narrow c.before.before) }
+cast-result c = record { fits = remainder-lt _ c.before.before.if-w-lt32.width (narrow c.before.before) }
 
 returns : tie.Need-returns
 returns c =
     let args = c.before.before.before.before.args in
     let s = args.s.now in
-    let w = c.before.before.if1.width in
+    let w = c.before.before.if-w-lt32.width in
     ap (λ (n : ℕ). n / 2 ^ (40 - args.at % 8 - w) % (1 * 2 ^ w % 18446744073709551616)) c.before.window.ensures
     ∙ taken s args.at w (narrow c.before.before)
     ∙ ap (peek_of s args.at) (narrowed c.before.before)

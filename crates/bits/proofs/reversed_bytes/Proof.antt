@@ -10,5 +10,5 @@ returns : tie.Need-returns
 unfolding reversed
 returns c = reverses _ refl tt
 
-pub reversed-bytes-spec : {M : Type 1} → statement M
-reversed-bytes-spec = tie.close (tie.spec returns)
+pub reversed_bytes_spec : {M : Type 1} → statement M
+reversed_bytes_spec = tie.close (tie.spec returns)

@@ -6,21 +6,21 @@ use Rattle.bits.proofs.Windows.{window_bytes}
 use Rattle.bits.proofs.window.Statement.{statement}
 use Rattle.bits.proofs.window.Tie as tie
 
-all-inside : tie.Need-returns
+all-inside : tie.Need-returns-then-k-s
 all-inside c =
     let args = c.before.before.before.before.before.before.before.before.args in
     window_bytes args.s.now args.k refl refl refl refl refl c.joined.ensures
 
-some-beyond : tie.Need-returns-2
+some-beyond : tie.Need-returns
 some-beyond c =
     let args = c.before.before.before.before.before.before.before.before.args in
     window_bytes args.s.now args.k
     c.before.before.before.before.before.byte_at.ensures
-    c.before.before.before.before.byte-at2.ensures
-    c.before.before.before.byte-at3.ensures
-    c.before.before.byte-at4.ensures
-    c.before.byte-at5.ensures
-    c.joined2.ensures
+    c.before.before.before.before.byte_at-2.ensures
+    c.before.before.before.byte_at-3.ensures
+    c.before.before.byte_at-4.ensures
+    c.before.byte_at-5.ensures
+    c.joined-2.ensures
 
 pub window-spec : {M : Type 1} → statement M
 window-spec =

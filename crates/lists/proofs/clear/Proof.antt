@@ -12,31 +12,31 @@ use Rattle.lists.proofs.Lay.{length_over, store-next}
 use Rattle.lists.proofs.clear.Statement.{statement}
 use Rattle.lists.proofs.clear.Tie as tie
 
-abbrev invariant-loop : tie.invariant-loop
+abbrev invariant-loop : tie.invariant-loop-i
 invariant-loop out₀ i₀ out i = (i ≤ length out₀) × (out ≡ over (replicate i 0) out₀)
 
-abbrev decreases-loop : tie.decreases-loop
+abbrev decreases-loop : tie.decreases-loop-i
 decreases-loop out₀ i₀ out i = length out₀ - i
 
-loop-holds : tie.Need-loop-init invariant-loop decreases-loop
+loop-holds : tie.Need-loop-i-init invariant-loop decreases-loop
 loop-holds c = (omega arith, refl)
 
 -- the output keeps its length
-kept : (c : tie.At-loop invariant-loop decreases-loop) → length c.loop.out ≡ length c.before.args.out.now
+kept : (c : tie.At-loop-i invariant-loop decreases-loop) → length c.loop-i.out ≡ length c.before.args.out.now
 kept c =
     let out = c.before.args.out.now in
-    let long = length-replicate {A = ℕ} c.loop.i 0 in
-    ap length c.loop.invariant.1 ∙ length_over (replicate c.loop.i 0) out (omega (arith, c.loop.invariant.0))
+    let long = length-replicate {A = ℕ} c.loop-i.i 0 in
+    ap length c.loop-i.invariant.1 ∙ length_over (replicate c.loop-i.i 0) out (omega (arith, c.loop-i.invariant.0))
 
-loop-again : tie.Need-loop-preserved invariant-loop decreases-loop
+loop-again : tie.Need-loop-i-preserved invariant-loop decreases-loop
 loop-again c =
     let at = c.before in
     let out = at.before.args.out.now in
-    let i = at.loop.i in
+    let i = at.loop-i.i in
     let below : i < length out = omega (arith, kept at) in
     let more : ◌++◌ {A = ℕ} (replicate i 0) (0 ∷ []) ≡ replicate (i + 1) 0 = replicate-append-replicate i 1 0 in (
       omega arith,
-      ap (λ (xs : List ℕ). set xs i 0) at.loop.invariant.1
+      ap (λ (xs : List ℕ). set xs i 0) at.loop-i.invariant.1
           ∙ store-next (replicate i 0) out 0 i (length-replicate i 0) below
           ∙ ap (λ (front : List ℕ). over front out) more,
     )
@@ -45,10 +45,10 @@ returns : tie.Need-returns invariant-loop decreases-loop
 returns c =
     let at = c.before in
     let out = at.before.args.out.now in
-    let i = at.loop.i in
+    let i = at.loop-i.i in
     let all : i ≡ length out = omega (arith, kept at) in
     let none : drop (length {A = ℕ} (replicate (length out) 0)) out ≡ [] = ap (λ (k : ℕ). drop k out) (length-replicate (length out) 0) ∙ drop-length out in
-    at.loop.invariant.1
+    at.loop-i.invariant.1
     ∙ ap (λ (k : ℕ). over (replicate k 0) out) all
     ∙ ap (λ (rest : List ℕ). replicate (length out) 0 ++ rest) none
     ∙ append-nil (replicate (length out) 0)

@@ -3,24 +3,24 @@
 use Prim.Native.Nat.{ℕ, ◌-◌, ◌≤◌}
 use native.Mathlib.Omega.{arith}
 use mathlib.Core.Path.{◌≡◌, ◌∙◌, ap, refl}
-use mathlib.Core.Logic.{⊎_elim}
 use mathlib.Core.List.{List}
 use lib.ListN.{length, take, get_or, set}
 use Rattle.lists.specs.Room.{over}
 use Rattle.lists.proofs.Lay.{front_length, front-next, front-all}
 use Rattle.lists.proofs.copy.Statement.{statement}
+use Rattle.lists.proofs.copy.Lts.{then-s-out, else-s-out}
 use Rattle.lists.proofs.copy.Tie as tie
 
-abbrev invariant-loop : tie.invariant-loop
+abbrev invariant-loop : tie.invariant-loop-i
 invariant-loop s out₀ n i₀ out i = (i ≤ n) × (out ≡ over (take i s) out₀)
 
-abbrev decreases-loop : tie.decreases-loop
+abbrev decreases-loop : tie.decreases-loop-i
 decreases-loop s out₀ n i₀ out i = n - i
 
 -- n is the smaller of the two lengths
-module _ (c : tie.Joined1 invariant-loop decreases-loop) where
+module _ (c : tie.Joined-s-out invariant-loop decreases-loop) where
   abbrev n : ℕ
-  n = c.if1.n
+  n = c.if-s-out.n
 
   abbrev s : List ℕ
   s = c.before.args.s.now
@@ -29,35 +29,39 @@ module _ (c : tie.Joined1 invariant-loop decreases-loop) where
   out = c.before.args.out.now
 
   in-s : n ≤ length s
-  in-s = ⊎_elim (λ e. omega (arith, e.1)) (λ e. omega (arith, e.0.left, e.1)) c.if1.branch
+  in-s = elim c.if-s-out.branch [ then-s-out w ↦ omega arith | else-s-out w ↦ omega arith ]
 
   in-out : n ≤ length out
-  in-out = ⊎_elim (λ e. omega (arith, e.0.taken, e.1)) (λ e. omega (arith, e.1)) c.if1.branch
+  in-out = elim c.if-s-out.branch [ then-s-out w ↦ omega arith | else-s-out w ↦ omega arith ]
 
   all : take n s ≡ take (length out) s
-  all = ⊎_elim (λ e. front-all s n (length out) (omega (arith, e.1)) (omega (arith, e.0.taken))) (λ e. ap (λ (k : ℕ). take k s) e.1) c.if1.branch
+  all =
+      elim c.if-s-out.branch [
+        then-s-out w ↦ front-all s n (length out) (omega arith) (omega arith)
+        | else-s-out w ↦ ap (λ (k : ℕ). take k s) w.n-is
+      ]
 
 -- the output keeps its length
-kept : (c : tie.At-loop invariant-loop decreases-loop) → length c.loop.out ≡ length (out c.before)
+kept : (c : tie.At-loop-i invariant-loop decreases-loop) → length c.loop-i.out ≡ length (out c.before)
 kept c =
     let at = c.before in
-    ap length c.loop.invariant.1 ∙ front_length (s at) (out at) c.loop.i (omega (arith, in-s at, c.loop.invariant.0)) (omega (arith, in-out at, c.loop.invariant.0))
+    ap length c.loop-i.invariant.1 ∙ front_length (s at) (out at) c.loop-i.i (omega (arith, in-s at, c.loop-i.invariant.0)) (omega (arith, in-out at, c.loop-i.invariant.0))
 
-loop-again : tie.Need-loop-preserved invariant-loop decreases-loop
+loop-again : tie.Need-loop-i-preserved invariant-loop decreases-loop
 loop-again c =
     let turn = c.before.before in
     let at = turn.before in
-    let i = turn.loop.i in (
+    let i = turn.loop-i.i in (
       omega arith,
-      ap (λ (xs : List ℕ). set xs i (get_or (s at) i 0)) turn.loop.invariant.1
+      ap (λ (xs : List ℕ). set xs i (get_or (s at) i 0)) turn.loop-i.invariant.1
           ∙ front-next (s at) (out at) i 0 (omega (arith, in-s at)) (omega (arith, in-out at)),
     )
 
 returns : tie.Need-returns invariant-loop decreases-loop
 returns c =
     let at = c.before.before in
-    let end : c.before.loop.i ≡ n at = omega arith in
-    c.before.loop.invariant.1 ∙ ap (λ (k : ℕ). over (take k (s at)) (out at)) end ∙ ap (λ (front : List ℕ). over front (out at)) (all at)
+    let end : c.before.loop-i.i ≡ n at = omega arith in
+    c.before.loop-i.invariant.1 ∙ ap (λ (k : ℕ). over (take k (s at)) (out at)) end ∙ ap (λ (front : List ℕ). over front (out at)) (all at)
 
 pub copy_spec : {M : Type 1} → statement M
 copy_spec =
