@@ -22,23 +22,23 @@ none f h = eq-eqb f 0 (omega arith)
 some : (f : ℕ) → 1 ≤ f → eqb f 0 ≡ false
 some f h = ne_eqb f 0 (λ e. omega arith)
 
-zero : tie.Need-returns
+zero : tie.Need-returns-then-field-lt1
 unfolding last_verdict
-zero c = simp (none (field_of c.before.args.r) c.if1.true)
+zero c = simp (none (field_of c.before.args.r) c.if-field-lt1.true)
 
-falls : tie.Need-returns-2
+falls : tie.Need-returns-then-field-before
 unfolding last_verdict
-falls c = let args = c.before.before.args in simp (some (field_of args.r) c.before.if1.false, lt-ltb _ _ c.if2.true)
+falls c = let args = c.before.before.args in simp (some (field_of args.r) c.before.if-field-lt1.false, lt-ltb _ _ c.if-field-before.true)
 
-rises : tie.Need-returns-3
+rises : tie.Need-returns-then-before-field
 unfolding last_verdict
 rises c =
     let args = c.before.before.before.args in
     let other : args.last.field_number.0 ≡ field_of args.r → ⊥ = λ e. omega arith in
-    simp (some (field_of args.r) c.before.before.if1.false, le-ltb _ _ c.before.if2.false, ne_eqb _ _ other, and-false)
+    simp (some (field_of args.r) c.before.before.if-field-lt1.false, le-ltb _ _ c.before.if-field-before.false, ne_eqb _ _ other, and-false)
 
 -- past the tests of the field it is the same, and two checks are left
-same-field : (c : tie.Else3)
+same-field : (c : tie.Else-before-field)
     → let args = c.before.before.before.args in
     last_verdict args.at args.last args.r
     ≡ first
@@ -49,35 +49,35 @@ unfolding last_verdict
 same-field c =
     let args = c.before.before.before.args in
     let same : args.last.field_number.0 ≡ field_of args.r = omega arith in
-    simp (some (field_of args.r) c.before.before.if1.false, le-ltb _ _ c.before.if2.false, eq-eqb _ _ same)
+    simp (some (field_of args.r) c.before.before.if-field-lt1.false, le-ltb _ _ c.before.if-field-before.false, eq-eqb _ _ same)
 
-not-rising : tie.Need-returns-4
-not-rising c = simp (same-field c.before.before.before, le-ltb _ _ c.if4.true)
+not-rising : tie.Need-returns-then-r-last
+not-rising c = simp (same-field c.before.before.before, le-ltb _ _ c.if-r-last.true)
 
 -- on a higher line
-later : tie.Need-returns-5
+later : tie.Need-returns-then-r-ne0
 later c =
     let line = c.before.before in
-    simp (same-field line.before.before.before, lt-ltb _ _ line.if4.false, ne_eqb _ _ c.if5.true)
+    simp (same-field line.before.before.before, lt-ltb _ _ line.if-r-last.false, ne_eqb _ _ c.if-r-ne0.true)
 
-fifth : tie.Need-returns-6
+fifth : tie.Need-returns-then-last-gt3
 fifth c =
     let priority = c.before.before in
     let line = priority.before.before in
     simp (
       same-field line.before.before.before,
-      lt-ltb _ _ line.if4.false,
-      eq-eqb _ _ priority.if5.false,
-      lt-ltb _ _ c.if6.true,
+      lt-ltb _ _ line.if-r-last.false,
+      eq-eqb _ _ priority.if-r-ne0.false,
+      lt-ltb _ _ c.if-last-gt3.true,
     )
 
-fourth : tie.Need-returns-7
+fourth : tie.Need-returns
 fourth c =
     let line = c.before.before.before.before in
-    simp (same-field line.before.before.before, lt-ltb _ _ line.if4.false, le-ltb _ _ c.if6.false, and-false)
+    simp (same-field line.before.before.before, lt-ltb _ _ line.if-r-last.false, le-ltb _ _ c.if-last-gt3.false, and-false)
 
-pub judge-record-spec : {M : Type 1} → statement M
-judge-record-spec =
+pub judge_record_spec : {M : Type 1} → statement M
+judge_record_spec =
     tie.close
     (tie.spec
     (λ c. omega arith)
