@@ -1,5 +1,4 @@
 -- `ga94::lent::put_record` meets its contract: within the array the four stores, one behind the other, lay the record's bytes.
--- Assumes nothing.
 use Prim.Native.Nat.{ℕ, suc, ◌+◌, ◌*◌}
 use native.Mathlib.Omega.{arith}
 use mathlib.Core.Path.{◌≡◌, ◌∙◌, ap, ap₂, sym}
@@ -9,8 +8,7 @@ use borrow.Author.Tests.{lt-ltb, le-ltb}
 use lib.ListN.{set}
 use lib.Seq.{sets}
 use Rattle.ga94.specs.Lent.{stored_if, stored_at}
-use Rattle.ga94.proofs.lent.put_record.Statement.{statement}
-use Rattle.ga94.proofs.lent.put_record.Tie as tie
+use Rattle.ga94.proofs.lent.put_record.Goals as goal
 
 four : (s : List ℕ) (at a b c d : ℕ) → sets s at (a ∷ b ∷ c ∷ d ∷ []) ≡ set (set (set (set s at a) (at + 1) b) (at + 2) c) (at + 3) d
 four s at a b c d =
@@ -20,29 +18,14 @@ four s at a b c d =
     ap₂ (λ (i j : ℕ). set (set (set (set s at a) i b) j c) (suc (suc (suc at))) d) one two
     ∙ ap (λ (i : ℕ). set (set (set (set s at a) (at + 1) b) (at + 2) c) i d) three
 
-beyond : tie.Need-returns
+pub returns-then-i-ge-MAX_RECORDS : goal.returns-then-i-ge-MAX_RECORDS
 unfolding stored_at
-beyond c = ap (λ (t : Bool). stored_if t c.before.args.i c.before.args.r c.before.args.records.now) (sym (le-ltb c.before.args.i 31 c.if1.true))
+returns-then-i-ge-MAX_RECORDS c = ap (λ (t : Bool). stored_if t c.args.i c.args.r c.args.records.now) (sym (le-ltb c.args.i 31 c.if-i-ge-MAX_RECORDS.true))
 
-stores : tie.Need-returns-2
+pub returns : goal.returns
 unfolding stored_at
-stores c =
-    let args = c.before.args in
+returns c =
+    let args = c.args in
     let s = args.records.now in
     sym (four s (4 * args.i) _ _ _ _)
-    ∙ ap (λ (t : Bool). stored_if t args.i args.r s) (sym (lt-ltb args.i 31 (omega (arith, c.if1.false))))
-
-pub put-record-spec : {M : Type 1} → statement M
-put-record-spec =
-    tie.close
-    (tie.spec
-    beyond
-    (λ c. omega arith)
-    (λ c. omega arith)
-    (λ c. omega arith)
-    (λ c. omega arith)
-    (λ c. omega arith)
-    (λ c. omega arith)
-    (λ c. omega arith)
-    (λ c. omega arith)
-    stores)
+    ∙ ap (λ (t : Bool). stored_if t args.i args.r s) (sym (lt-ltb args.i 31 (omega (arith, c.if-i-ge-MAX_RECORDS.false))))
