@@ -1,6 +1,6 @@
 // Decoding the bytes of a field.
 ghost use Rattle.std.specs.Prelude.{◌≡◌, ◌≤◌, length};
-ghost use Rattle.io.specs.Counts.{IsPrefixLen};
+ghost use Rattle.input.specs.Counts.{IsPrefixLen};
 ghost use Rattle.vectors.specs.Digits.{digit_value};
 
 // How many bytes were decoded, or 0 where the field is unreadable.
