@@ -6,12 +6,13 @@
 ghost use Rattle.std.specs.Prelude.{◌<◌};
 ghost use Rattle.input.specs.Counts.{IsPrefixLen};
 
+use std::env::{Env, FillError};
 use std::io;
 use std::io::{Read, Stdin};
 
 // What was read: whether the input came to its end, or filled the buffer, and else why a read failed; and how many of the buffer's bytes it fills, none
 // where a read failed.
-#[derive(Drop)]
+#[derive(Clone, Copy)]
 pub struct Input {
     pub is_read: bool,
     pub len: usize,
@@ -74,4 +75,9 @@ pub fn count_rest(stdin: Stdin) -> Input
         len,
         failure: None,
     }
+}
+
+// Whether the program was given words, be they empty.
+pub fn has_words(rt: &impl Env) -> bool {
+    !matches!(rt.arg(1, &mut []), Err(FillError::NotPresent))
 }

@@ -8,7 +8,7 @@ use std::io::{Read, Stdin};
 
 const LINE_FEED: u8 = 10;
 
-#[derive(Drop)]
+#[derive(Clone, Copy)]
 pub enum Kind {
     Whole,
     // The front of a line that the buffer cannot hold.
@@ -20,7 +20,7 @@ pub enum Kind {
 }
 
 // Where the line that `next` found stands in the buffer, and what of the buffer comes after it.
-#[derive(Drop)]
+#[derive(Clone, Copy)]
 pub struct Lines {
     pub kind: Kind,
     pub start: usize,

@@ -7,7 +7,7 @@ use std::io;
 use std::io::Stdout;
 
 // What became of a vector.
-#[derive(Drop)]
+#[derive(Clone, Copy)]
 pub enum Outcome {
     Agrees,
     Differs,
@@ -25,7 +25,7 @@ pub fn judged(agrees: bool) -> Outcome
 }
 
 // How many vectors ran, and how many of them differed.
-#[derive(Drop)]
+#[derive(Clone, Copy)]
 pub struct Tally {
     pub ran: u64,
     pub differ: u64,
