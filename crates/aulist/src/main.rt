@@ -6,7 +6,7 @@ use std::io;
 use std::io::Stdout;
 
 fn main(rt: HostRuntime) -> io::Result<()> {
-    if input::has_words(&rt) {
+    if input::has_word(&rt, 1) {
         return rt.eprint("usage: aulist <PAYLOAD\n");
     }
     // One byte more than a payload may have, so that longer input is noticed.

@@ -77,7 +77,7 @@ pub fn count_rest(stdin: Stdin) -> Input
     }
 }
 
-// Whether the program was given words, be they empty.
-pub fn has_words(rt: &impl Env) -> bool {
-    !matches!(rt.arg(1, &mut []), Err(FillError::NotPresent))
+// Whether the program was given the word of an index, be it empty. Its name is word 0.
+pub fn has_word(rt: &impl Env, i: usize) -> bool {
+    !matches!(rt.arg(i, &mut []), Err(FillError::NotPresent))
 }
