@@ -2,7 +2,6 @@
 use Prim.Native.Nat.{◌<◌}
 use native.Mathlib.Omega.{arith}
 use mathlib.Core.Path.{sym}
-use borrow.Author.Rules.{rules}
 use Rattle.bits.proofs.Windows.{bytes-number}
 use Rattle.bits.proofs.joined.Goals as goal
 

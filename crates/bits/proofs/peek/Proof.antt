@@ -16,9 +16,9 @@ use Rattle.bits.proofs.peek.Tie as tie
 
 -- the width is w, and 32 at most
 narrowed : (c : tie.Joined-w-lt32) → c.if-w-lt32.width ≡ min c.before.before.args.w 32
-narrowed c = 
+narrowed c =
     elim c.if-w-lt32.branch [
-      then-w-lt32 w ↦ w.width-is ∙ sym (min-eq_left (le_of_lt w.if-w-lt32.true))
+      | then-w-lt32 w ↦ w.width-is ∙ sym (min-eq_left (le_of_lt w.if-w-lt32.true))
       | else-w-lt32 w ↦ w.width-is ∙ sym (min-eq_right w.if-w-lt32.false)
     ]
 

@@ -1,6 +1,5 @@
 -- `bits::reverse` meets its contract: the table's entry at a byte is that byte with its bits in the other order.
 use native.Mathlib.Omega.{arith}
-use borrow.Author.Rules.{rules}
 use Rattle.bits.proofs.reverse.Goals as goal
 
 pub returns : goal.returns

@@ -1,6 +1,5 @@
 -- `bits::window` meets its contract: each byte that it joins is the one at its index, or 0 beyond the last.
 use mathlib.Core.Path.{refl}
-use borrow.Author.Rules.{rules}
 use Rattle.bits.proofs.Windows.{window_bytes}
 use Rattle.bits.proofs.window.Goals as goal
 
