@@ -1,0 +1,14 @@
+-- `listing::refused` puts the pieces of a refusal's text one behind the other.
+use Rattle.listing.proofs.Building.{appends-both, appends-first}
+use Rattle.listing.proofs.Lengths.{refused-fits}
+use Rattle.listing.proofs.refused.Goals as goal
+
+pub returns : goal.returns
+returns c =
+    appends-first
+    c.empty.ensures
+    (appends-both c.with-t.ensures
+    (appends-both c.with_decimal-t.ensures
+    (appends-both c.with-t-2.ensures
+    (appends-both c.with_decimal-t-2.ensures c.with_byte.ensures))))
+    (refused-fits c.args.r)
