@@ -23,7 +23,7 @@ pub const LENT_UNITS: usize = 2037;
 
 // One access unit (004, Table 2). A field's data bytes are carried whatever its flag says.
 #[repr(C)]
-#[derive(Drop)]
+#[derive(Clone, Copy)]
 pub struct AccessUnit {
     pub cc_valid_1: u8,
     pub cc_valid_2: u8,
@@ -35,7 +35,7 @@ pub struct AccessUnit {
 }
 
 // A payload's value: the flags byte as it is, and the first m of the units.
-#[derive(Drop)]
+#[derive(Clone, Copy)]
 pub struct Payload {
     pub flags: u8,
     pub m: usize,
@@ -43,7 +43,7 @@ pub struct Payload {
 }
 
 // What `read` answers: the value, or a refusal and zeros.
-#[derive(Drop)]
+#[derive(Clone, Copy)]
 pub struct Answer {
     pub refusal: Refusal,
     pub payload: Payload,
@@ -51,7 +51,7 @@ pub struct Answer {
 
 // What `read_head` and `read_into` answer: the flags byte and how many units follow it, or a refusal and zeros.
 #[repr(C)]
-#[derive(Drop)]
+#[derive(Clone, Copy)]
 pub struct Head {
     pub refusal: Refusal,
     pub flags: u8,
@@ -59,7 +59,7 @@ pub struct Head {
 }
 
 // What `read_unit` answers.
-#[derive(Drop)]
+#[derive(Clone, Copy)]
 pub enum One {
     Unit(AccessUnit),
     // No unit of that index: the payload's refusal, of number 0 where it is accepted and has fewer.

@@ -77,6 +77,7 @@ pub fn read_unit(s: &[u8], i: usize) -> One
 }
 
 // RULES, "Order of checks": 2, 1, 13.
+#[tactic(auto, unfolding(crate::specs::Reading::length_verdict))]
 fn judge_length(n: usize) -> Verdict
     ensures { result ≡ length_verdict n }
 {

@@ -9,7 +9,7 @@ ghost use Rattle.refusal.specs.Numbers.{fixed_number, number_of, place_of, refus
 ghost use Rattle.refusal.specs.Checks.{fit_verdict};
 
 // Which fixed bit, byte or word is another.
-#[derive(Drop)]
+#[derive(Clone, Copy)]
 pub enum Fixed {
     Marker,
     Alignment,
@@ -27,7 +27,7 @@ pub enum Fixed {
 }
 
 // Which length or count does not fit.
-#[derive(Drop)]
+#[derive(Clone, Copy)]
 pub enum Misfit {
     // A packet's DC against the number of its words.
     DataCount,
@@ -44,7 +44,7 @@ pub enum Misfit {
 }
 
 // Which number its layout cannot hold.
-#[derive(Drop)]
+#[derive(Clone, Copy)]
 pub enum Excess {
     // n above 31, m above 291.
     Count,
@@ -92,7 +92,7 @@ pub enum Excess {
 }
 
 // Why a check refused: finer than the numbers of RULES, since two reasons may share one.
-#[derive(Drop)]
+#[derive(Clone, Copy)]
 pub enum Reason {
     TooLong,
     NoStart,
@@ -134,7 +134,7 @@ pub enum Reason {
 }
 
 // What failed: the item's place, in its carriage's own measure.
-#[derive(Drop)]
+#[derive(Clone, Copy)]
 pub enum Item {
     // The input or the value as a whole.
     Whole,
@@ -152,7 +152,7 @@ pub enum Item {
 }
 
 // What the checks of one call found.
-#[derive(Drop)]
+#[derive(Clone, Copy)]
 pub enum Verdict {
     Accepted,
     Refused(Reason, Item),
@@ -160,7 +160,7 @@ pub enum Verdict {
 
 // What a caller is told: number and place, both 0 where the call is accepted.
 #[repr(C)]
-#[derive(Drop)]
+#[derive(Clone, Copy)]
 pub struct Refusal {
     pub number: u8,
     pub place: usize,
@@ -168,14 +168,14 @@ pub struct Refusal {
 
 // What a writer tells: a refusal, or how many bytes or words it wrote at the front of its output.
 #[repr(C)]
-#[derive(Drop)]
+#[derive(Clone, Copy)]
 pub struct Written {
     pub refusal: Refusal,
     pub len: usize,
 }
 
 // What a writer of a unit's body answers: the verdict, and how many bytes the body has, 0 where it refuses.
-#[derive(Drop)]
+#[derive(Clone, Copy)]
 pub struct Laid {
     pub verdict: Verdict,
     pub len: usize,

@@ -32,51 +32,51 @@ begun at units fits =
     ∙ ap (λ (k : ℕ). take at units ++ drop k units) (sym (length-take-le at units fits))
     ∙ ap (λ (head : List ℕ). over head units) (sym (append-nil (take at units)) ∙ ap (λ (k : ℕ). take at units ++ replicate {A = ℕ} k 0) none)
 
-abbrev invariant-loop : tie.invariant-loop
+abbrev invariant-loop : tie.invariant-loop-j
 invariant-loop at units₀ j₀ units j = (at ≤ j) × (j ≤ 2037) × (units ≡ over (front at units₀ j) units₀)
 
-abbrev decreases-loop : tie.decreases-loop
+abbrev decreases-loop : tie.decreases-loop-j
 decreases-loop at units₀ j₀ units j = 2037 - j
 
-loop-holds : tie.Need-loop-init invariant-loop decreases-loop
+loop-holds : tie.Need-loop-j-init invariant-loop decreases-loop
 loop-holds c = (omega arith, omega arith, begun c.args.at c.args.units.now (omega arith))
 
-kept : (c : tie.At-loop invariant-loop decreases-loop) → length c.loop.units ≡ length c.before.args.units.now
+kept : (c : tie.At-loop-j invariant-loop decreases-loop) → length c.loop-j.units ≡ length c.before.args.units.now
 kept c =
     let at = c.before.args.at in
     let units = c.before.args.units.now in
-    let long = length_front at units c.loop.j (omega arith) c.loop.invariant.0 in
-    let within : length (front at units c.loop.j) ≤ length units = omega arith in
-    ap length c.loop.invariant.2 ∙ length_over (front at units c.loop.j) units within
+    let long = length_front at units c.loop-j.j (omega arith) c.loop-j.invariant.0 in
+    let within : length (front at units c.loop-j.j) ≤ length units = omega arith in
+    ap length c.loop-j.invariant.2 ∙ length_over (front at units c.loop-j.j) units within
 
-loop-again : tie.Need-loop-preserved invariant-loop decreases-loop
+loop-again : tie.Need-loop-j-preserved invariant-loop decreases-loop
 loop-again c =
     let at = c.before.before.args.at in
     let units = c.before.before.args.units.now in
-    let j = c.before.loop.j in
+    let j = c.before.loop-j.j in
     let fits : at ≤ length units = omega arith in
     let inside : j < length units = omega arith in (
       omega arith,
       omega arith,
-      ap (λ (xs : List ℕ). set xs j 0) c.before.loop.invariant.2
-          ∙ store-next (front at units j) units 0 j (length_front at units j fits c.before.loop.invariant.0) inside
-          ∙ ap (λ (head : List ℕ). over head units) (front-more at units j fits c.before.loop.invariant.0),
+      ap (λ (xs : List ℕ). set xs j 0) c.before.loop-j.invariant.2
+          ∙ store-next (front at units j) units 0 j (length_front at units j fits c.before.loop-j.invariant.0) inside
+          ∙ ap (λ (head : List ℕ). over head units) (front-more at units j fits c.before.loop-j.invariant.0),
     )
 
 returns : tie.Need-returns invariant-loop decreases-loop
 returns c =
     let at = c.before.before.args.at in
     let units = c.before.before.args.units.now in
-    let j = c.before.loop.j in
+    let j = c.before.loop-j.j in
     let all : j ≡ 2037 = omega arith in
-    let past : length units ≤ length (front at units j) = omega (arith, length_front at units j (omega arith) c.before.loop.invariant.0) in
-    c.before.loop.invariant.2
+    let past : length units ≤ length (front at units j) = omega (arith, length_front at units j (omega arith) c.before.loop-j.invariant.0) in
+    c.before.loop-j.invariant.2
     ∙ ap (λ (rest : List ℕ). front at units j ++ rest) (drop_of_length-le units past)
     ∙ append-nil (front at units j)
     ∙ ap (λ (k : ℕ). front at units k) all
 
-pub clear-from-spec : {M : Type 1} → statement M
-clear-from-spec =
+pub clear_from_spec : {M : Type 1} → statement M
+clear_from_spec =
     tie.close
     (tie.spec
     invariant-loop
