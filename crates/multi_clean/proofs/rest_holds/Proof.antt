@@ -1,6 +1,6 @@
 -- `multi_clean::rest_holds` meets its contract. The loop's invariant is `Turn`: the sum so far, and how many strays were NCS words.
 -- Assumes nothing.
-use Rattle.std.proofs.Common.{◌≡◌, ℕ, ◌+◌, ◌-◌, ◌%◌, ◌<◌, ◌≤◌, List, length, get_or, sym, refl, ◌∙◌, arith, rules, eqb-true}
+use Rattle.std.proofs.Common.{ℕ, ◌+◌, ◌-◌, ◌≤◌, List, length, get_or, sym, refl, ◌∙◌, arith, eqb-true}
 use mathlib.Core.Bool.{false≢true}
 use Rattle.lists.specs.Part.{part}
 use Rattle.anc.specs.Words.{byte_of}
@@ -47,7 +47,7 @@ loop-again c =
     let past = added.before.before in
     let w = words past in
     let loop = (turn past).before.loop-at in
-    turn_on w (length w - 1) loop.at loop.total loop.excused (omega arith) (turn past).loop-at-test.true loop.inv
+    turn_on w (length w - 1) loop.at loop.total loop.excused (omega arith) (turn past).loop-at-test.true loop.invariant
     past.before.inner_sum-sum.result (sums past) (loop.at + 4 + byte_of (get_or w (loop.at + 3) 0)) refl _ _
     (omega (arith, added.wrapping_add_u16-total.ensures)) (omega (arith, c.stray-excused.ensures))
 
@@ -92,7 +92,7 @@ rest_holds_spec =
     (λ c. omega (arith, inside c.before.before))
     (λ c. omega (arith, inside c.before.before.before))
     (λ c κs. omega arith)
-    (λ c. omega (arith, c.stray-excused.ensures, stray-low (get_or (words c.before.before.before.before) (at c.before.before.before.before + 4 + byte_of (get_or (words c.before.before.before.before) (at c.before.before.before.before + 3) 0)) 0), (turn c.before.before.before.before).before.loop-at.inv.few))
+    (λ c. omega (arith, c.stray-excused.ensures, stray-low (get_or (words c.before.before.before.before) (at c.before.before.before.before + 4 + byte_of (get_or (words c.before.before.before.before) (at c.before.before.before.before + 3) 0)) 0), (turn c.before.before.before.before).before.loop-at.invariant.few))
     (λ c. omega (arith, inside c.before.before.before.before))
     (λ c. omega (arith, inside c.before.before.before.before))
     loop-again

@@ -1,5 +1,5 @@
 -- `multi_clean::stray` meets its contract.
-use Rattle.std.proofs.Common.{◌≡◌, ◌+◌, ◌/◌, sym, ap, ◌∙◌, arith, rules, eq-eqb, ne_eqb}
+use Rattle.std.proofs.Common.{◌≡◌, ◌+◌, ◌/◌, sym, ap, ◌∙◌, arith, eq-eqb, ne_eqb}
 use Rattle.anc.specs.Words.{parity_of, byte_of}
 use Rattle.anc.proofs.Words.{parity-low}
 use Rattle.multi.specs.Inside.{mark, stray}

@@ -1,6 +1,6 @@
 -- `multi_clean::strays` meets its contract. The loop's invariant: n is the number of strays before i.
 -- Assumes nothing.
-use Rattle.std.proofs.Common.{◌≡◌, ◌+◌, ◌-◌, ◌<◌, ◌≤◌, length, get_or, sym, ap, ◌∙◌, arith}
+use Rattle.std.proofs.Common.{◌≡◌, ◌-◌, ◌≤◌, get_or, sym, ap, ◌∙◌, arith}
 use Rattle.lists.specs.Part.{part}
 use Rattle.lists.proofs.Part.{part_none}
 use Rattle.multi.specs.Inside.{strays}

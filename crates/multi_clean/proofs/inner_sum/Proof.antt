@@ -1,20 +1,20 @@
 -- `multi_clean::inner_sum` meets its contract: a sum stands behind every test, and CS of what NCS covers is made from it.
+-- Assumes nothing.
 use Rattle.std.proofs.Common.{◌≡◌, ℕ, ◌+◌, ◌%◌, ◌≤◌, List, length, get_or, sym, ap, ◌∙◌, arith, rules}
-use borrow.Author.Tests.{not-false}
 use Rattle.lists.specs.Part.{part}
 use Rattle.lists.specs.Sum.{sum}
-use Rattle.anc.specs.Words.{byte_of, checksum_of}
+use Rattle.anc.specs.Words.{checksum_of}
 use Rattle.anc.specs.Inside.{cs_of}
 use Rattle.anc.proofs.Words.{checksum-sum}
 use Rattle.multi.specs.Order.{ncs_at, size_in}
 use Rattle.multi.proofs.Clean.{sum-covered, sum-inner, inner-clean}
-use Rattle.multi_clean.proofs.inner_sum.Goals.{After-sum-user, After-wrapping_add_u16-covered, Else-n-lt-HEADER_WORDS, Else-n-ncs, Else-not-own_holds, Else-rest-ncs, Else-rest-ne0}
-use Rattle.multi_clean.proofs.inner_sum.Goals as goal
+use Rattle.multi_clean.proofs.inner_sum.Statement.{statement}
+use Rattle.multi_clean.proofs.inner_sum.Tie as tie
 
-pub own_holds-requires : goal.own_holds-requires
-own_holds-requires c κs =
-    let two = c in
-    let one = two in
+own-holds-requires : tie.Need-own_holds-requires
+own-holds-requires c κs =
+    let two = c.before.before.before.before in
+    let one = two.before.before in
     ((one.if-n-lt-HEADER_WORDS.false, omega (arith, two.if-n-ncs.false)), c.sum-user.ensures)
 
 -- a sum modulo 65,536 to which more is added
@@ -31,51 +31,51 @@ turned : (s a x : ℕ) → s + a + x ≡ a + s + x
 turned s a x = omega arith
 
 -- all tests are passed
-module _ (c : Else-rest-ncs) where
-  abbrev third : After-wrapping_add_u16-covered
-  third = c
+module _ (c : tie.Else-rest-ncs) where
+  abbrev third : tie.After-wrapping_add_u16-covered
+  third = c.before.before.before
 
-  abbrev four : Else-not-own_holds
-  four = third
+  abbrev four : tie.Else-not-own_holds
+  four = third.before.before.before.before.before.before
 
-  abbrev summed : After-sum-user
-  summed = four
+  abbrev summed : tie.After-sum-user
+  summed = four.before.before
 
-  abbrev three : Else-rest-ne0
-  three = summed
+  abbrev three : tie.Else-rest-ne0
+  three = summed.before.before
 
-  abbrev two : Else-n-ncs
-  two = three
+  abbrev two : tie.Else-n-ncs
+  two = three.before.before
 
-  abbrev one : Else-n-lt-HEADER_WORDS
-  one = two
+  abbrev one : tie.Else-n-lt-HEADER_WORDS
+  one = two.before.before
 
   abbrev u : List ℕ
-  u = one.args.rest.now
+  u = one.before.before.args.rest.now
 
   abbrev covered : ℕ
   covered = third.wrapping_add_u16-covered.result
 
   long : size_in u ≤ length u
-  long = omega (arith, two.if-n-ncs.left)
+  long = omega (arith, two.if-n-ncs.false)
 
   covers : covered ≡ sum (part 1 (ncs_at u) u) % 65536
   covers =
       let user = sum (part 4 (ncs_at u) u) in
-      let second = third in
-      let first = second in
+      let second = third.before in
+      let first = second.before.before in
       let ids = more (get_or u 1 0 + get_or u 2 0) (get_or u 3 0) first.wrapping_add_u16-ids.result second.wrapping_add_u16.result first.wrapping_add_u16-ids.ensures second.wrapping_add_u16.ensures in
       let all = both (get_or u 1 0 + get_or u 2 0 + get_or u 3 0) user second.wrapping_add_u16.result summed.sum-user.result covered ids summed.sum-user.ensures third.wrapping_add_u16-covered.ensures in
-      let same : get_or u 1 0 + get_or u 2 0 + get_or u 3 0 + user ≡ sum (part 1 (ncs_at u) u) = regrouped (get_or u 1 0) (get_or u 2 0) (get_or u 3 0) user ∙ sym (sum-covered u one.if-n-lt-HEADER_WORDS.left) in
+      let same : get_or u 1 0 + get_or u 2 0 + get_or u 3 0 + user ≡ sum (part 1 (ncs_at u) u) = regrouped (get_or u 1 0) (get_or u 2 0) (get_or u 3 0) user ∙ sym (sum-covered u one.if-n-lt-HEADER_WORDS.false) in
       all ∙ ap (λ (k : ℕ). k % 65536) same
 
   ncs : get_or u (ncs_at u) 0 ≡ checksum_of (part 1 (ncs_at u) u)
-  ncs = c.if-rest-ncs.false ∙ c.cs.ensures ∙ ap cs_of covers ∙ sym (checksum-sum (part 1 (ncs_at u) u))
+  ncs = c.if-rest-ncs.false ∙ c.before.cs.ensures ∙ ap cs_of covers ∙ sym (checksum-sum (part 1 (ncs_at u) u))
 
-pub returns : goal.returns
-returns c low =
-    let fourth = c in
-    let five = fourth in
+sums : tie.Need-returns
+sums c low =
+    let fourth = c.before.before in
+    let five = fourth.before.before in
     let u = u five in
     record {
       header = (one five).if-n-lt-HEADER_WORDS.false;
@@ -89,25 +89,40 @@ returns c low =
           ∙ ap (λ (k : ℕ). k % 65536) (turned s a x ∙ sym (sum-inner u (one five).if-n-lt-HEADER_WORDS.false (long five)));
       holds =
           inner-clean u (one five).if-n-lt-HEADER_WORDS.false (long five) (three five).if-rest-ne0.false
-          ((four five).own_holds.ensures (not-false _ (four five).if-not-own_holds.false)) (ncs five);
+          ((four five).before.own_holds.ensures (four five).if-not-own_holds.false) (ncs five);
     }
 
-pub returns-then-n-lt-HEADER_WORDS : goal.returns-then-n-lt-HEADER_WORDS
-returns-then-n-lt-HEADER_WORDS c low =
-    let f : ⊥ = omega arith in absurd f
-
-pub returns-then-n-ncs : goal.returns-then-n-ncs
-returns-then-n-ncs c low =
-    let f : ⊥ = omega arith in absurd f
-
-pub returns-then-rest-ne0 : goal.returns-then-rest-ne0
-returns-then-rest-ne0 c low =
-    let f : ⊥ = omega arith in absurd f
-
-pub returns-then-not-own_holds : goal.returns-then-not-own_holds
-returns-then-not-own_holds c low =
-    let f : ⊥ = omega arith in absurd f
-
-pub returns-then-rest-ncs : goal.returns-then-rest-ncs
-returns-then-rest-ncs c low =
-    let f : ⊥ = omega arith in absurd f
+pub inner_sum_spec : {M : Type 1} → statement M
+inner_sum_spec =
+    tie.close
+    (tie.spec
+    (λ c low. let f : ⊥ = omega arith in absurd f)
+    (λ c. search rules)
+    (λ c. search rules)
+    (λ c. search rules)
+    (λ c low. let f : ⊥ = omega arith in absurd f)
+    (λ c. search rules)
+    (λ c low. let f : ⊥ = omega arith in absurd f)
+    (λ c. search rules)
+    (λ c. search rules)
+    (λ c. search rules)
+    (λ c κs. search rules)
+    own-holds-requires
+    (λ c low. let f : ⊥ = omega arith in absurd f)
+    (λ c. search rules)
+    (λ c. search rules)
+    (λ c κs. search rules)
+    (λ c. search rules)
+    (λ c κs. search rules)
+    (λ c κs. search rules)
+    (λ c. search rules)
+    (λ c. search rules)
+    (λ c κs. search rules)
+    (λ c low. let f : ⊥ = omega arith in absurd f)
+    (λ c. search rules)
+    (λ c κs. search rules)
+    (λ c. search rules)
+    (λ c. search rules)
+    (λ c κs. search rules)
+    (λ c. search rules)
+    sums)
