@@ -57,6 +57,7 @@ sub all_paths {
         opendir my $entries, $folder eq '' ? '.' : $folder or next;
         for my $entry (grep { !/\A(?:\.|\.\.|\.git|target)\z/ } readdir $entries) {
             my $path = "$folder$entry";
+            next if $path =~ m{\Acrates/[^/]+/out\z};
             $present{$path} = 1;
             push @folders, "$path/" if -d $path && !-l $path;
         }

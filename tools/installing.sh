@@ -5,7 +5,7 @@ umask 022
 prove_here=
 archive=${CAPTIONS_LIB:-}
 case $archive in
-'') prove_here=1 archive=$root/target/staticlib/libcaptions.a ;;
+'') prove_here=1 archive=$root/crates/captions/out/libcaptions.a ;;
 /*) ;;
 *) archive=$PWD/$archive ;;
 esac
@@ -43,7 +43,7 @@ digest() {
 }
 
 # ---- The machine ----
-# The library is x86-64 code. Elsewhere the command is linked by a cross compiler, static, and runs under the kit's emulator.
+# The library is x86-64 code. Elsewhere the command is linked by a cross compiler, static, and runs under qemu-x86_64.
 look_at_machine() {
     machine=$(uname -m)
     emulator=
@@ -53,9 +53,8 @@ look_at_machine() {
     else
         compiler=x86_64-linux-gnu-gcc
         need "$compiler" gcc-x86-64-linux-gnu
-        command -v rt >/dev/null 2>&1 || die 'there is no rt; the emulator of the Rattle kit is needed'
-        emulator=$(dirname "$(dirname "$(rt doc)")")/on/$machine/toolchain/bin/qemu-x86_64
-        [ -x "$emulator" ] || die "there is no emulator at $emulator"
+        need qemu-x86_64 qemu-user
+        emulator=$(command -v qemu-x86_64)
     fi
 }
 
@@ -146,7 +145,7 @@ make_parts() {
         mkdir -p "$below/lib/captions"
         {
             echo '#!/bin/sh'
-            echo '# captions is x86-64 code, and this machine is another: it runs under the emulator of the Rattle kit.'
+            echo '# captions is x86-64 code, and this machine is another: it runs under qemu-x86_64.'
             # shellcheck disable=SC2016
             echo "exec $(quoted "$emulator") $(quoted "$at/$program")"' "$@"'
         } >"$below/bin/captions"
@@ -161,7 +160,7 @@ make_parts() {
         # shellcheck disable=SC2086
         echo "compiler $(LC_ALL=C $compiler --version | sed -n 1p)"
         if [ -n "$prove_here" ]; then
-            echo 'proof made with this file, by rt staticlib captions'
+            echo 'proof made with this file, by rt lib'
         else
             echo 'proof not made with this file: the archive was given'
         fi

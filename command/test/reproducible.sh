@@ -1,23 +1,24 @@
 #!/bin/sh
 # command/test/reproducible.sh [--from-nothing] [WORK]: builds the archive and the command twice, in two folders, and compares their digests. The
-# folders stand in WORK, else in one that is removed again: some 0.5 GB at a time.
+# folders stand in WORK, else in one that is removed again: some GB at a time.
 #
-# Without --from-nothing the folders are copies of this one, with what is proved here: target/rlib and target/stamp, in which rt looks. Done anew in
-# each, in half a minute: the crate captions is proved and translated, and the machine code of the whole library is made, since target/rlib has none.
-# Not done anew: proof and translation of the crates below it, where their files are as they were when they were proved.
+# Without --from-nothing the folders are copies of this one, without what rt keeps in it. In each the machine code of the whole library is made anew.
+# Not done anew: proofs, and the translation of the crates below captions, that this checkout or another one on this machine keeps of the same files,
+# since rt looks there.
 #
-# --from-nothing takes two clones of the commit, and all is proved, translated and compiled in each: twice some minutes. Changes that are not
-# committed are not in the clones.
+# --from-nothing takes two clones of the commit, each with a kit of its own (tools/own-kit), beside which nothing is kept: all is proved, translated and
+# compiled in each. Changes that are not committed are not in the clones.
 #
 # Both ways the command is then compiled in each folder. The second folder has a longer name, another umask and another time zone. Where an archive is
-# there already, given by CAPTIONS_LIB or in target/staticlib, it is compared with them. The last line counts the checks, and the status is 1 where
+# there already, given by CAPTIONS_LIB or in crates/captions/out, it is compared with them. The last line counts the checks, and the status is 1 where
 # one failed.
 set -eu
 given=${CAPTIONS_LIB:-}
 case $given in '' | /*) ;; *) given=$PWD/$given ;; esac
 unset CAPTIONS_LIB
 root=$(cd "$(dirname "$0")/../.." && pwd)
-[ -n "$given" ] || given=$root/target/staticlib/libcaptions.a
+archive=crates/captions/out/libcaptions.a
+[ -n "$given" ] || given=$root/$archive
 
 die() {
     echo "reproducible.sh: $*" >&2
@@ -44,8 +45,6 @@ trap 'exit 1' HUP INT TERM
 
 if [ -n "$nothing" ]; then
     command -v git >/dev/null || die 'there is no git to clone the repository'
-elif [ ! -d "$root/target/rlib" ] || [ ! -d "$root/target/stamp" ]; then
-    die 'nothing is proved in this folder yet: run tools/prove-library first, or use --from-nothing'
 fi
 
 # The files as they are now: both folders get these, whatever is edited meanwhile.
@@ -54,14 +53,13 @@ sources() {
         git clone -q --no-hardlinks "$root" "$work/sources" &&
             git -C "$work/sources" -c advice.detachedHead=false checkout -q "$(git -C "$root" rev-parse HEAD)"
     else
-        mkdir "$work/sources" && (cd "$root" && find . -mindepth 1 -maxdepth 1 ! -name target -exec cp -Rp {} "$work/sources" \;)
+        mkdir "$work/sources" && (cd "$root" && tar -c --exclude=./target --exclude='./crates/*/out' .) | tar -xp -C "$work/sources"
     fi
 }
 
-# folder NAME: a new folder with these files, and with what is proved here.
+# folder NAME: a new folder with these files.
 folder() {
-    mkdir -p "$1" && cp -Rp "$work/sources/." "$1" || return
-    [ -n "$nothing" ] || { mkdir "$1/target" && cp -Rp "$root/target/rlib" "$root/target/stamp" "$1/target"; }
+    mkdir -p "$1" && cp -Rp "$work/sources/." "$1"
 }
 
 count=0
@@ -83,18 +81,22 @@ same() {
 # build FOLDER NAME: makes it, builds in it, keeps the archive and the command, and removes it.
 build() {
     folder "$1" || die "cannot make the folder $1"
-    [ ! -e "$1/target/staticlib" ] || die "there is an archive in $1 before it is built"
-    (cd "$1" && tools/prove-library && CAPTIONS_LIB=target/staticlib/libcaptions.a tools/build-command "$work/$2.command") ||
-        die "nothing is built in $1"
-    cp "$1/target/staticlib/libcaptions.a" "$work/$2.a" || die "there is no archive in $1"
-    rm -rf "$1"
+    [ ! -e "$1/$archive" ] || die "there is an archive in $1 before it is built"
+    if [ -n "$nothing" ]; then
+        mkdir "$work/$2.kit" && "$root/tools/own-kit" "$work/$2.kit/kit" || die 'there is no kit of its own'
+        PATH=$work/$2.kit/kit/bin:$PATH
+        export PATH
+    fi
+    (cd "$1" && tools/prove-library && CAPTIONS_LIB=$archive tools/build-command "$work/$2.command") || die "nothing is built in $1"
+    cp "$1/$archive" "$work/$2.a" || die "there is no archive in $1"
+    rm -rf "$1" "$work/$2.kit"
 }
 
 sources || die 'the files of this folder are not copied'
 if [ -n "$nothing" ]; then
     echo 'reproducible.sh: building the first of two, from nothing'
 else
-    echo 'reproducible.sh: building the first of two, with what is proved in this folder'
+    echo 'reproducible.sh: building the first of two, with what is proved on this machine'
 fi
 (umask 022 && TZ=UTC0 && export TZ && build "$work/a" first) || exit
 echo 'reproducible.sh: building the second'

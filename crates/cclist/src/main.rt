@@ -1,31 +1,31 @@
 // Lists the captions of the picture area that comes on standard input (docs/RULES.md, "Programs").
 #![tactic(auto)]
 
-use libc::STDERR_FILENO;
+use std::io;
+use std::io::Stdout;
 use units::MAX_BYTES;
 
-fn main() {
-    if 1 < os::arg_count() {
-        io::write_all(STDERR_FILENO, b"usage: cclist <AREA\n");
-        return;
+fn main(rt: HostRuntime) -> io::Result<()> {
+    if input::has_word(&rt, 1) {
+        return rt.eprint("usage: cclist <AREA\n");
     }
     // One byte more than an area may have, so that longer input is noticed.
     let mut area = [0u8; MAX_BYTES + 1];
-    let input = input::read(&mut area);
-    if !input.is_read {
-        os::fail(b"cclist: standard input");
-        return;
+    let input = input::read(rt.stdin(), &mut area);
+    if let Some(why) = input.failure {
+        return print::failed(rt.stderr(), "cclist: standard input", why);
     }
     let n = input.len;
-    if !list(&area[..n]) {
-        os::fail(b"cclist: standard output");
+    match list(rt.stdout(), &area[..n]) {
+        Ok(()) => Ok(()),
+        Err(why) => print::failed(rt.stderr(), "cclist: standard output", why),
     }
 }
 
 // Answers whether all was written.
-fn list(area: &[u8]) -> bool {
+fn list(out: Stdout, area: &[u8]) -> io::Result<()> {
     let text = listing::text_of(picture::read(area));
     let bytes = text.bytes;
     let len = text.len;
-    print::text(&bytes[..len])
+    print::text(out, &bytes[..len])
 }

@@ -10,6 +10,8 @@ mod reel_writing;
 
 ghost use Rattle.std.specs.Prelude.{◌<◌};
 
+use std::io;
+use std::io::{Stdin, Stdout};
 use vectors::{Kind, Outcome, Tally};
 
 // A line and its line feed must fit.
@@ -21,7 +23,7 @@ const INPUT_ROOM: usize = 131072;
 // An expectation and an answer must each fit: 9 bytes and an output of 20,480 words.
 pub(crate) const ROOM: usize = 40969;
 
-#[derive(Drop)]
+#[derive(Clone, Copy)]
 enum Operation {
     PacketRead,
     PacketWrite,
@@ -34,24 +36,25 @@ enum Operation {
 // The places of the operations among the tallies.
 const OPERATIONS: usize = 6;
 
-#[derive(Drop)]
+#[derive(Clone, Copy)]
 struct Tallies {
     ran: [Tally; OPERATIONS],
     wrong: Tally,
 }
 
-fn main() {
+fn main(rt: HostRuntime) -> io::Result<()> {
+    let out = rt.stdout();
     let mut buf = [0u8; LINE_ROOM];
-    let tallies = run(&mut buf);
+    let tallies = run(rt.stdin(), out, &mut buf)?;
     let ran = tallies.ran;
-    vectors::print_tally(b"packet read", ran[0]);
-    vectors::print_tally(b"packet write", ran[1]);
-    vectors::print_tally(b"payload read", ran[2]);
-    vectors::print_tally(b"payload write", ran[3]);
-    vectors::print_tally(b"payload reel", ran[4]);
-    vectors::print_tally(b"not known", ran[5]);
+    vectors::print_tally(out, b"packet read", ran[0])?;
+    vectors::print_tally(out, b"packet write", ran[1])?;
+    vectors::print_tally(out, b"payload read", ran[2])?;
+    vectors::print_tally(out, b"payload write", ran[3])?;
+    vectors::print_tally(out, b"payload reel", ran[4])?;
+    vectors::print_tally(out, b"not known", ran[5])?;
     let wrong = tallies.wrong;
-    vectors::print_wrong(wrong);
+    vectors::print_wrong(out, wrong)
 }
 
 fn place(operation: Operation) -> usize
@@ -67,66 +70,64 @@ fn place(operation: Operation) -> usize
     }
 }
 
-// A proved loop has to end, and nothing says that the input does. So the loop counts its turns down,
-// from a number that no run uses up.
-fn run(buf: &mut [u8]) -> Tallies {
+// A proved loop has to end, and nothing says that the input does. So the loop has a number of turns
+// that no run uses up.
+fn run(stdin: Stdin, out: Stdout, buf: &mut [u8]) -> io::Result<Tallies> {
     let mut tallies = Tallies {
         ran: [vectors::none(); OPERATIONS],
         wrong: vectors::none(),
     };
     let mut lines = vectors::before();
-    let mut turns = u64::MAX;
-    while 0 < turns {
-        lines = vectors::next(lines, buf);
+    for _ in 0..u64::MAX {
+        lines = vectors::next(stdin, lines, buf);
         let kind = lines.kind;
         if let Kind::Over = kind {
-            return tallies;
+            return Ok(tallies);
         }
         let start = lines.start;
         let end = lines.end;
-        tallies = run_line(kind, &buf[start..end], tallies);
-        turns -= 1;
+        tallies = run_line(out, kind, &buf[start..end], tallies)?;
     }
-    tallies
+    Ok(tallies)
 }
 
-fn run_line(kind: Kind, line: &[u8], tallies: Tallies) -> Tallies {
+fn run_line(out: Stdout, kind: Kind, line: &[u8], tallies: Tallies) -> io::Result<Tallies> {
     match kind {
         Kind::Whole => {
             let operation = operation_of(vectors::unmarked(line));
             let outcome = outcome_of(operation, vectors::unmarked(line));
-            vectors::print_outcome(line, outcome);
-            counted(tallies, operation, vectors::is_wrong(line), outcome)
+            vectors::print_outcome(out, line, outcome)?;
+            Ok(counted(tallies, operation, vectors::is_wrong(line), outcome))
         }
         Kind::TooLong => {
-            vectors::print_outcome(line, Outcome::Unreadable);
-            counted(
+            vectors::print_outcome(out, line, Outcome::Unreadable)?;
+            Ok(counted(
                 tallies,
                 Operation::Unknown,
                 vectors::is_wrong(line),
                 Outcome::Unreadable,
-            )
+            ))
         }
-        Kind::Rest => tallies,
-        Kind::Over => tallies,
+        Kind::Rest => Ok(tallies),
+        Kind::Over => Ok(tallies),
     }
 }
 
 fn operation_of(vector: &[u8]) -> Operation {
     let name = vectors::field(vector, 0);
-    if check::same(name, b"packet-read") {
+    if name == b"packet-read".as_slice() {
         return Operation::PacketRead;
     }
-    if check::same(name, b"packet-write") {
+    if name == b"packet-write".as_slice() {
         return Operation::PacketWrite;
     }
-    if check::same(name, b"payload-read") {
+    if name == b"payload-read".as_slice() {
         return Operation::PayloadRead;
     }
-    if check::same(name, b"payload-write") {
+    if name == b"payload-write".as_slice() {
         return Operation::PayloadWrite;
     }
-    if check::same(name, b"payload-reel") {
+    if name == b"payload-reel".as_slice() {
         return Operation::PayloadReel;
     }
     Operation::Unknown

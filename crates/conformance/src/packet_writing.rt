@@ -50,7 +50,7 @@ fn agrees(
     vectors::put_number(answer, 5, written.len);
     put_words(out, answer);
     let end = HEAD + 2 * out.len();
-    check::same(&answer[..end], expected)
+    &answer[..end] == expected
 }
 
 // Stores the output after the answer's head.

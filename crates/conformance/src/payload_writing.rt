@@ -31,7 +31,7 @@ fn agrees(payload: Payload, room: usize, expected: &[u8], answer: &mut [u8]) -> 
     let written = line21_writer::write(payload, &mut answer[HEAD..end]);
     vectors::put_refusal(answer, written.refusal);
     vectors::put_number(answer, 5, written.len);
-    check::same(&answer[..end], expected)
+    &answer[..end] == expected
 }
 
 fn payload_of(input: &[u8]) -> Payload

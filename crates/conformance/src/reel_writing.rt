@@ -32,5 +32,5 @@ fn agrees(input: &[u8], room: usize, expected: &[u8], answer: &mut [u8]) -> bool
     let written = line21_writer::write_reel(input[0], size, &input[HEAD..], &mut answer[HEAD..end]);
     vectors::put_refusal(answer, written.refusal);
     vectors::put_number(answer, 5, written.len);
-    check::same(&answer[..end], expected)
+    &answer[..end] == expected
 }

@@ -9,5 +9,5 @@ pub(crate) fn outcome(input: &[u8], expected: &[u8]) -> Outcome {
     if ROOM < len {
         return Outcome::Differs;
     }
-    judged(check::same(&bytes[..len], expected))
+    judged(&bytes[..len] == expected)
 }

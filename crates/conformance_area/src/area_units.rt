@@ -25,7 +25,7 @@ fn agrees(input: &[u8], expected: &[u8], out: &mut [u8]) -> bool {
     if out.len() < n {
         return false;
     }
-    check::same(&out[..n], expected)
+    &out[..n] == expected
 }
 
 // Stores the answer, and answers its length.

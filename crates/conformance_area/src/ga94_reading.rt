@@ -25,8 +25,8 @@ fn agrees(head: &[u8; HEAD], records: &[u8; LENT_RECORDS], expected: &[u8]) -> b
     if expected.len() < HEAD {
         return false;
     }
-    if check::same(head, &expected[..HEAD]) {
-        check::same(records, &expected[HEAD..])
+    if head.as_slice() == &expected[..HEAD] {
+        records.as_slice() == &expected[HEAD..]
     } else {
         false
     }

@@ -12,6 +12,8 @@ mod writing;
 
 ghost use Rattle.std.specs.Prelude.{◌<◌};
 
+use std::io;
+use std::io::{Stdin, Stdout};
 use vectors::{Kind, Outcome, Tally};
 use writing::Call;
 
@@ -24,7 +26,7 @@ const INPUT_ROOM: usize = 131072;
 // An expectation and an answer must each fit: the longest are those of an area of 4,096 units.
 pub(crate) const ROOM: usize = 32773;
 
-#[derive(Drop)]
+#[derive(Clone, Copy)]
 enum Operation {
     AreaCclist,
     AreaRead,
@@ -40,27 +42,28 @@ enum Operation {
 // The places of the operations among the tallies.
 const OPERATIONS: usize = 9;
 
-#[derive(Drop)]
+#[derive(Clone, Copy)]
 struct Tallies {
     ran: [Tally; OPERATIONS],
     wrong: Tally,
 }
 
-fn main() {
+fn main(rt: HostRuntime) -> io::Result<()> {
+    let out = rt.stdout();
     let mut buf = [0u8; LINE_ROOM];
-    let tallies = run(&mut buf);
+    let tallies = run(rt.stdin(), out, &mut buf)?;
     let ran = tallies.ran;
-    vectors::print_tally(b"area cclist", ran[0]);
-    vectors::print_tally(b"area read", ran[1]);
-    vectors::print_tally(b"area replace", ran[2]);
-    vectors::print_tally(b"area units", ran[3]);
-    vectors::print_tally(b"ga94 read", ran[4]);
-    vectors::print_tally(b"ga94 replace", ran[5]);
-    vectors::print_tally(b"ga94 write", ran[6]);
-    vectors::print_tally(b"unit write", ran[7]);
-    vectors::print_tally(b"not known", ran[8]);
+    vectors::print_tally(out, b"area cclist", ran[0])?;
+    vectors::print_tally(out, b"area read", ran[1])?;
+    vectors::print_tally(out, b"area replace", ran[2])?;
+    vectors::print_tally(out, b"area units", ran[3])?;
+    vectors::print_tally(out, b"ga94 read", ran[4])?;
+    vectors::print_tally(out, b"ga94 replace", ran[5])?;
+    vectors::print_tally(out, b"ga94 write", ran[6])?;
+    vectors::print_tally(out, b"unit write", ran[7])?;
+    vectors::print_tally(out, b"not known", ran[8])?;
     let wrong = tallies.wrong;
-    vectors::print_wrong(wrong);
+    vectors::print_wrong(out, wrong)
 }
 
 fn place(operation: Operation) -> usize
@@ -79,75 +82,73 @@ fn place(operation: Operation) -> usize
     }
 }
 
-// A proved loop has to end, and nothing says that the input does. So the loop counts its turns down,
-// from a number that no run uses up.
-fn run(buf: &mut [u8]) -> Tallies {
+// A proved loop has to end, and nothing says that the input does. So the loop has a number of turns
+// that no run uses up.
+fn run(stdin: Stdin, out: Stdout, buf: &mut [u8]) -> io::Result<Tallies> {
     let mut tallies = Tallies {
         ran: [vectors::none(); OPERATIONS],
         wrong: vectors::none(),
     };
     let mut lines = vectors::before();
-    let mut turns = u64::MAX;
-    while 0 < turns {
-        lines = vectors::next(lines, buf);
+    for _ in 0..u64::MAX {
+        lines = vectors::next(stdin, lines, buf);
         let kind = lines.kind;
         if let Kind::Over = kind {
-            return tallies;
+            return Ok(tallies);
         }
         let start = lines.start;
         let end = lines.end;
-        tallies = run_line(kind, &buf[start..end], tallies);
-        turns -= 1;
+        tallies = run_line(out, kind, &buf[start..end], tallies)?;
     }
-    tallies
+    Ok(tallies)
 }
 
-fn run_line(kind: Kind, line: &[u8], tallies: Tallies) -> Tallies {
+fn run_line(out: Stdout, kind: Kind, line: &[u8], tallies: Tallies) -> io::Result<Tallies> {
     match kind {
         Kind::Whole => {
             let operation = operation_of(vectors::unmarked(line));
             let outcome = outcome_of(operation, vectors::unmarked(line));
-            vectors::print_outcome(line, outcome);
-            counted(tallies, operation, vectors::is_wrong(line), outcome)
+            vectors::print_outcome(out, line, outcome)?;
+            Ok(counted(tallies, operation, vectors::is_wrong(line), outcome))
         }
         Kind::TooLong => {
-            vectors::print_outcome(line, Outcome::Unreadable);
-            counted(
+            vectors::print_outcome(out, line, Outcome::Unreadable)?;
+            Ok(counted(
                 tallies,
                 Operation::Unknown,
                 vectors::is_wrong(line),
                 Outcome::Unreadable,
-            )
+            ))
         }
-        Kind::Rest => tallies,
-        Kind::Over => tallies,
+        Kind::Rest => Ok(tallies),
+        Kind::Over => Ok(tallies),
     }
 }
 
 fn operation_of(vector: &[u8]) -> Operation {
     let name = vectors::field(vector, 0);
-    if check::same(name, b"area-cclist") {
+    if name == b"area-cclist".as_slice() {
         return Operation::AreaCclist;
     }
-    if check::same(name, b"area-read") {
+    if name == b"area-read".as_slice() {
         return Operation::AreaRead;
     }
-    if check::same(name, b"area-replace") {
+    if name == b"area-replace".as_slice() {
         return Operation::AreaReplace;
     }
-    if check::same(name, b"area-units") {
+    if name == b"area-units".as_slice() {
         return Operation::AreaUnits;
     }
-    if check::same(name, b"ga94-read") {
+    if name == b"ga94-read".as_slice() {
         return Operation::Ga94Read;
     }
-    if check::same(name, b"ga94-replace") {
+    if name == b"ga94-replace".as_slice() {
         return Operation::Ga94Replace;
     }
-    if check::same(name, b"ga94-write") {
+    if name == b"ga94-write".as_slice() {
         return Operation::Ga94Write;
     }
-    if check::same(name, b"unit-write") {
+    if name == b"unit-write".as_slice() {
         return Operation::UnitWrite;
     }
     Operation::Unknown

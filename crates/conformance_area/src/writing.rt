@@ -10,7 +10,7 @@ use vectors::{Outcome, judged};
 const HEAD: usize = 9;
 
 // What a vector calls.
-#[derive(Drop)]
+#[derive(Clone, Copy)]
 pub(crate) enum Call {
     AreaReplace,
     Ga94Replace,
@@ -76,8 +76,8 @@ fn agrees(
     if answer.len() < k {
         return false;
     }
-    if check::same(&answer[..k], expected) {
-        check::same(&answer[k..], &before[k..])
+    if &answer[..k] == expected {
+        answer[k..] == before[k..]
     } else {
         false
     }

@@ -96,11 +96,11 @@ fn is_state(state: State, expected: &[u8]) -> bool {
 
 // An array's type says its length, which lending it as a slice needs.
 fn same_answer(out: &[u8; ANSWER], expected: &[u8]) -> bool {
-    check::same(out, expected)
+    out.as_slice() == expected
 }
 
 fn same_state(out: &[u8; STATE], expected: &[u8]) -> bool {
-    check::same(out, expected)
+    out.as_slice() == expected
 }
 
 fn answer_bytes(before: State, answer: Answer) -> [u8; ANSWER] {

@@ -4,6 +4,8 @@
 
 mod film_run;
 
+use std::io;
+use std::io::{Stdin, Stdout};
 use vectors::{Kind, Outcome, Tally};
 
 // A line and its line feed must fit.
@@ -15,67 +17,66 @@ const INPUT_ROOM: usize = 131072;
 // An expectation must fit: 780 answers and the state.
 const ROOM: usize = 16384;
 
-#[derive(Drop)]
+#[derive(Clone, Copy)]
 struct Tallies {
     film: Tally,
     unknown: Tally,
     wrong: Tally,
 }
 
-fn main() {
+fn main(rt: HostRuntime) -> io::Result<()> {
+    let out = rt.stdout();
     let mut buf = [0u8; LINE_ROOM];
-    let tallies = run(&mut buf);
+    let tallies = run(rt.stdin(), out, &mut buf)?;
     let film = tallies.film;
-    vectors::print_tally(b"film run", film);
+    vectors::print_tally(out, b"film run", film)?;
     let unknown = tallies.unknown;
-    vectors::print_tally(b"not known", unknown);
+    vectors::print_tally(out, b"not known", unknown)?;
     let wrong = tallies.wrong;
-    vectors::print_wrong(wrong);
+    vectors::print_wrong(out, wrong)
 }
 
-// A proved loop has to end, and nothing says that the input does. So the loop counts its turns down,
-// from a number that no run uses up.
-fn run(buf: &mut [u8]) -> Tallies {
+// A proved loop has to end, and nothing says that the input does. So the loop has a number of turns
+// that no run uses up.
+fn run(stdin: Stdin, out: Stdout, buf: &mut [u8]) -> io::Result<Tallies> {
     let mut tallies = Tallies {
         film: vectors::none(),
         unknown: vectors::none(),
         wrong: vectors::none(),
     };
     let mut lines = vectors::before();
-    let mut turns = u64::MAX;
-    while 0 < turns {
-        lines = vectors::next(lines, buf);
+    for _ in 0..u64::MAX {
+        lines = vectors::next(stdin, lines, buf);
         let kind = lines.kind;
         if let Kind::Over = kind {
-            return tallies;
+            return Ok(tallies);
         }
         let start = lines.start;
         let end = lines.end;
-        tallies = run_line(kind, &buf[start..end], tallies);
-        turns -= 1;
+        tallies = run_line(out, kind, &buf[start..end], tallies)?;
     }
-    tallies
+    Ok(tallies)
 }
 
-fn run_line(kind: Kind, line: &[u8], tallies: Tallies) -> Tallies {
+fn run_line(out: Stdout, kind: Kind, line: &[u8], tallies: Tallies) -> io::Result<Tallies> {
     match kind {
         Kind::Whole => {
             let is_known = is_film_run(vectors::unmarked(line));
             let outcome = outcome_of(is_known, vectors::unmarked(line));
-            vectors::print_outcome(line, outcome);
-            counted(tallies, is_known, vectors::is_wrong(line), outcome)
+            vectors::print_outcome(out, line, outcome)?;
+            Ok(counted(tallies, is_known, vectors::is_wrong(line), outcome))
         }
         Kind::TooLong => {
-            vectors::print_outcome(line, Outcome::Unreadable);
-            counted(tallies, false, vectors::is_wrong(line), Outcome::Unreadable)
+            vectors::print_outcome(out, line, Outcome::Unreadable)?;
+            Ok(counted(tallies, false, vectors::is_wrong(line), Outcome::Unreadable))
         }
-        Kind::Rest => tallies,
-        Kind::Over => tallies,
+        Kind::Rest => Ok(tallies),
+        Kind::Over => Ok(tallies),
     }
 }
 
 fn is_film_run(vector: &[u8]) -> bool {
-    check::same(vectors::field(vector, 0), b"film-run")
+    vectors::field(vector, 0) == b"film-run".as_slice()
 }
 
 fn outcome_of(is_known: bool, vector: &[u8]) -> Outcome {

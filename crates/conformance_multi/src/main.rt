@@ -12,6 +12,8 @@ mod writing;
 
 ghost use Rattle.std.specs.Prelude.{◌<◌};
 
+use std::io;
+use std::io::{Stdin, Stdout};
 use vectors::{Kind, Outcome, Tally};
 
 // A line and its line feed must fit.
@@ -23,7 +25,7 @@ const INPUT_ROOM: usize = 65536;
 // An expectation and an answer must each fit: 9 bytes and an output of 20,480 words.
 pub(crate) const ROOM: usize = 40969;
 
-#[derive(Drop)]
+#[derive(Clone, Copy)]
 enum Operation {
     Read,
     Write,
@@ -33,21 +35,22 @@ enum Operation {
 // The places of the operations among the tallies.
 const OPERATIONS: usize = 3;
 
-#[derive(Drop)]
+#[derive(Clone, Copy)]
 struct Tallies {
     ran: [Tally; OPERATIONS],
     wrong: Tally,
 }
 
-fn main() {
+fn main(rt: HostRuntime) -> io::Result<()> {
+    let out = rt.stdout();
     let mut buf = [0u8; LINE_ROOM];
-    let tallies = run(&mut buf);
+    let tallies = run(rt.stdin(), out, &mut buf)?;
     let ran = tallies.ran;
-    vectors::print_tally(b"multi read", ran[0]);
-    vectors::print_tally(b"multi write", ran[1]);
-    vectors::print_tally(b"not known", ran[2]);
+    vectors::print_tally(out, b"multi read", ran[0])?;
+    vectors::print_tally(out, b"multi write", ran[1])?;
+    vectors::print_tally(out, b"not known", ran[2])?;
     let wrong = tallies.wrong;
-    vectors::print_wrong(wrong);
+    vectors::print_wrong(out, wrong)
 }
 
 fn place(operation: Operation) -> usize
@@ -60,51 +63,49 @@ fn place(operation: Operation) -> usize
     }
 }
 
-// A proved loop has to end, and nothing says that the input does. So the loop counts its turns down,
-// from a number that no run uses up.
-fn run(buf: &mut [u8]) -> Tallies {
+// A proved loop has to end, and nothing says that the input does. So the loop has a number of turns
+// that no run uses up.
+fn run(stdin: Stdin, out: Stdout, buf: &mut [u8]) -> io::Result<Tallies> {
     let mut tallies = Tallies {
         ran: [vectors::none(); OPERATIONS],
         wrong: vectors::none(),
     };
     let mut lines = vectors::before();
-    let mut turns = u64::MAX;
-    while 0 < turns {
-        lines = vectors::next(lines, buf);
+    for _ in 0..u64::MAX {
+        lines = vectors::next(stdin, lines, buf);
         let kind = lines.kind;
         if let Kind::Over = kind {
-            return tallies;
+            return Ok(tallies);
         }
         let start = lines.start;
         let end = lines.end;
-        tallies = run_line(kind, &buf[start..end], tallies);
-        turns -= 1;
+        tallies = run_line(out, kind, &buf[start..end], tallies)?;
     }
-    tallies
+    Ok(tallies)
 }
 
-fn run_line(kind: Kind, line: &[u8], tallies: Tallies) -> Tallies {
+fn run_line(out: Stdout, kind: Kind, line: &[u8], tallies: Tallies) -> io::Result<Tallies> {
     match kind {
-        Kind::Whole => run_as(operation_of(vectors::unmarked(line)), line, tallies),
+        Kind::Whole => run_as(out, operation_of(vectors::unmarked(line)), line, tallies),
         // The front of a line names no vector that could be run.
-        Kind::TooLong => run_as(Operation::Unknown, line, tallies),
-        Kind::Rest => tallies,
-        Kind::Over => tallies,
+        Kind::TooLong => run_as(out, Operation::Unknown, line, tallies),
+        Kind::Rest => Ok(tallies),
+        Kind::Over => Ok(tallies),
     }
 }
 
-fn run_as(operation: Operation, line: &[u8], tallies: Tallies) -> Tallies {
+fn run_as(out: Stdout, operation: Operation, line: &[u8], tallies: Tallies) -> io::Result<Tallies> {
     let outcome = outcome_of(operation, vectors::unmarked(line));
-    vectors::print_outcome(line, outcome);
-    counted(tallies, operation, vectors::is_wrong(line), outcome)
+    vectors::print_outcome(out, line, outcome)?;
+    Ok(counted(tallies, operation, vectors::is_wrong(line), outcome))
 }
 
 fn operation_of(vector: &[u8]) -> Operation {
     let name = vectors::field(vector, 0);
-    if check::same(name, b"multi-read") {
+    if name == b"multi-read".as_slice() {
         return Operation::Read;
     }
-    if check::same(name, b"multi-write") {
+    if name == b"multi-write".as_slice() {
         return Operation::Write;
     }
     Operation::Unknown

@@ -9,8 +9,8 @@ pub(crate) fn holds(before: &[u8], after: &[u8], expected: &[u8]) -> bool
     if after.len() < k {
         return false;
     }
-    if check::same(&after[..k], expected) {
-        check::same(&after[k..], &before[k..])
+    if &after[..k] == expected {
+        after[k..] == before[k..]
     } else {
         false
     }

@@ -30,7 +30,7 @@ fn agrees(
     if expected.len() < HEAD {
         return false;
     }
-    if check::same(head, &expected[..HEAD]) {
+    if head.as_slice() == &expected[..HEAD] {
         comparing::holds(before, units, &expected[HEAD..])
     } else {
         false

@@ -10,7 +10,7 @@ use vectors::{Outcome, judged};
 const HEAD: usize = 9;
 
 // What a vector calls.
-#[derive(Drop)]
+#[derive(Clone, Copy)]
 pub(crate) enum Call {
     Convert,
     ConvertValue,

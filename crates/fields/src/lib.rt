@@ -6,12 +6,12 @@ ghost use Rattle.std.specs.Prelude.{◌≡◌};
 ghost use Rattle.fields.specs.Sides.{side};
 
 // A display field of this picture, counted from 1. It is not the odd or the even field of a frame.
-#[derive(Drop)]
+#[derive(Clone, Copy)]
 pub struct DisplayField(pub u8);
 
 // A field of a frame: 1 odd, 0 even. It is not a display field's number.
 #[repr(C)]
-#[derive(Drop)]
+#[derive(Clone, Copy)]
 pub struct OddEven(pub u8);
 
 // Which field of a frame a display field is, in a picture with that top_field_first.

@@ -15,7 +15,7 @@ use Rattle.bits.proofs.Stream.{bits_of-append, bits_of-zeros}
 use Rattle.ga94.specs.declared.Record.{Record}
 use Rattle.ga94.specs.Value.{Content, Legal, blank}
 use Rattle.ga94.specs.Layout.{flags_byte, content_bytes, layout, construct_bits, item_bits}
-use Rattle.ga94.specs.Places.{Element, atsc_identifier, user-data-type-code, flags_byte, additional-data-flag, cc-count, em-data, construct, marker-bits, closing}
+use Rattle.ga94.specs.Places.{Element, atsc_identifier, user-data-type-code, flags-byte, additional-data-flag, cc-count, em-data, construct, marker-bits, closing}
 use Rattle.ga94.specs.Places.{Has, element_in, record_at, value_in}
 use Rattle.ga94.proofs.Table.{table-3}
 
@@ -58,7 +58,7 @@ module _ (c : Content) (legal : Legal c) where
   pub layout-elements : (e : Element) → Has (length c.records) e → element_in (bits_of (layout c)) e ≡ value_in c e
   layout-elements atsc_identifier h = refl
   layout-elements user-data-type-code h = refl
-  layout-elements flags_byte h = num-bits-small 8 (flags_byte c) (omega (arith, legal.em_flag, legal.cc_flag, legal.no_additional, legal.few))
+  layout-elements flags-byte h = num-bits-small 8 (flags_byte c) (omega (arith, legal.em_flag, legal.cc_flag, legal.no_additional, legal.few))
   layout-elements additional-data-flag h =
       ap (λ (ys : List ℕ). field ys 42 1) stands ∙ num-bits-small 1 c.additional_data_flag (omega (arith, legal.no_additional))
   layout-elements cc-count h = ap (λ (ys : List ℕ). field ys 43 5) stands ∙ num-bits-small 5 n (omega (arith, legal.few))

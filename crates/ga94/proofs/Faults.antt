@@ -14,7 +14,7 @@ use Rattle.ga94.specs.Value.{Content, Legal}
 use Rattle.ga94.specs.Layout.{layout}
 use Rattle.ga94.specs.Reading.{content_verdict, value_of}
 use Rattle.ga94.specs.Lent.{ReadsInto}
-use Rattle.ga94.specs.Places.{Element, atsc_identifier, user-data-type-code, flags_byte, additional-data-flag, cc-count, em-data, construct, marker-bits, closing}
+use Rattle.ga94.specs.Places.{Element, atsc_identifier, user-data-type-code, flags-byte, additional-data-flag, cc-count, em-data, construct, marker-bits, closing}
 use Rattle.ga94.specs.Places.{first_bit, bit_count, element_in, Has, HasIn, value_in, Stands}
 use Rattle.ga94.specs.Places.{ends_5, identifier_6, type_code_6, additional_16, marker_18, closing_18, zeros_19}
 use Rattle.ga94.proofs.Sizes.{length-layout}
@@ -38,7 +38,7 @@ stands-numbers xs number bit (zeros_19 is one) = (omega (arith, is), λ six same
 before-zeros : (n : ℕ) (e : Element) → Has n e → first_bit e + bit_count e ≤ 8 * (8 + 3 * n)
 before-zeros n atsc_identifier h = omega arith
 before-zeros n user-data-type-code h = omega arith
-before-zeros n flags_byte h = omega arith
+before-zeros n flags-byte h = omega arith
 before-zeros n additional-data-flag h = omega arith
 before-zeros n cc-count h = omega arith
 before-zeros n em-data h = omega arith

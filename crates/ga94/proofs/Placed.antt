@@ -30,7 +30,7 @@ use Rattle.bits.proofs.Runs.{zeros-le}
 use Rattle.stuffing.specs.Zeros.{FirstOne}
 use Rattle.stuffing.proofs.Numbered.{zero-only, first_one}
 use Rattle.ga94.specs.Reading.{missing, identifier_in, additional_in, count_in, head_verdict, marker_verdict, constructs_verdict, closing_verdict, content_verdict}
-use Rattle.ga94.specs.Places.{Element, atsc_identifier, user-data-type-code, flags_byte, additional-data-flag, cc-count, em-data, construct, marker-bits, closing}
+use Rattle.ga94.specs.Places.{Element, atsc_identifier, user-data-type-code, flags-byte, additional-data-flag, cc-count, em-data, construct, marker-bits, closing}
 use Rattle.ga94.specs.Places.{first_bit, bit_count, element_in, HasIn, zeros_in, Complete, Stands}
 use Rattle.ga94.specs.Places.{ends_5, identifier_6, type_code_6, additional_16, marker_18, closing_18, zeros_19}
 use Rattle.ga94.proofs.Constructs.{accepted-missing, constructs-within}
@@ -111,7 +111,7 @@ module _ (body : List ℕ) (bytes : Bytes body) where
       and_then-only Here _ _ (check-only (not (eqb (get_or body 4 0) 3)) (Unfixed Identifier) 32 (omega arith) (λ t.
       type_code_6 refl (complete user-data-type-code 4 1 (omega arith) tt five)
       (λ same. eqb-false (get_or body 4 0) 3 (not-true (eqb (get_or body 4 0) 3) t) (sym code ∙ same)))) (λ h.
-      and_then-only Here (missing 5 1 body) _ (missing-only flags_byte 5 1 refl refl tt (omega arith)) (λ i.
+      and_then-only Here (missing 5 1 body) _ (missing-only flags-byte 5 1 refl refl tt (omega arith)) (λ i.
       let six : 5 + 1 ≤ length body = accepted-missing 5 1 body i in
       and_then-only Here _ _ (check-only (not (eqb (additional_in body) 0)) AdditionalData 42 (omega arith) (λ t.
       let flag : additional_in body ≡ 0 → ⊥ = eqb-false (additional_in body) 0 (not-true (eqb (additional_in body) 0) t) in

@@ -1,6 +1,6 @@
 -- The longest run of zero bits in legal GA94 content, without its stuffing, has 19 of them. RULES, "GA94".
 -- Assumes nothing.
-use Prim.Native.Nat.{ℕ, ◌+◌, ◌≤◌}
+use Prim.Native.Nat.{ℕ, ◌≤◌}
 use native.Mathlib.Omega.{arith}
 use mathlib.Core.Path.{◌≡◌, sym, subst, refl}
 use mathlib.Core.List.{List, [], ◌∷◌, ◌++◌}

@@ -9,13 +9,13 @@ use Rattle.ga94.specs.Layout.{flags_byte, construct_bits}
 
 -- THE ELEMENTS
 
--- those that a check looks at, in the order of the table. `flags_byte` is the three flags and cc_count, which are asked
+-- those that a check looks at, in the order of the table. `flags-byte` is the three flags and cc_count, which are asked
 -- for at once. Constructs count from 0; `construct` is all 24 bits of one. `closing n` is the marker_bits 1111 1111
 -- behind n constructs
 pub data Element : Type 0 where
   atsc_identifier : Element
   user-data-type-code : Element
-  flags_byte : Element
+  flags-byte : Element
   additional-data-flag : Element
   cc-count : Element
   em-data : Element
@@ -27,7 +27,7 @@ pub data Element : Type 0 where
 abbrev pub first_bit : Element → ℕ
 first_bit atsc_identifier = 0
 first_bit user-data-type-code = 32
-first_bit flags_byte = 40
+first_bit flags-byte = 40
 first_bit additional-data-flag = 42
 first_bit cc-count = 43
 first_bit em-data = 48
@@ -39,7 +39,7 @@ first_bit (closing n) = 8 * (7 + 3 * n)
 abbrev pub bit_count : Element → ℕ
 bit_count atsc_identifier = 32
 bit_count user-data-type-code = 8
-bit_count flags_byte = 8
+bit_count flags-byte = 8
 bit_count additional-data-flag = 1
 bit_count cc-count = 5
 bit_count em-data = 8
@@ -55,7 +55,7 @@ element_in xs e = field xs (first_bit e) (bit_count e)
 abbrev pub Has : ℕ → Element → Type 0
 Has n atsc_identifier = Unit {0}
 Has n user-data-type-code = Unit {0}
-Has n flags_byte = Unit {0}
+Has n flags-byte = Unit {0}
 Has n additional-data-flag = Unit {0}
 Has n cc-count = Unit {0}
 Has n em-data = Unit {0}
@@ -117,7 +117,7 @@ record_at c i = get_or c.records i blank
 abbrev pub value_in : Content → Element → ℕ
 value_in c atsc_identifier = 0x47413934
 value_in c user-data-type-code = 3
-value_in c flags_byte = flags_byte c
+value_in c flags-byte = flags_byte c
 value_in c additional-data-flag = c.additional_data_flag
 value_in c cc-count = length c.records
 value_in c em-data = c.em_data

@@ -9,7 +9,7 @@ use Rattle.refusal.specs.declared.Verdict.TheVariants.{Accepted}
 use Rattle.refusal.specs.declared.Reason.TheVariants.{TooLong, Ends, Unfixed, AdditionalData}
 use Rattle.refusal.specs.declared.Fixed.TheVariants.{Marker, Stuffing, Identifier}
 use Rattle.refusal.specs.declared.Item.TheVariants.{Whole, Bit}
-use Rattle.refusal.specs.Checks.{refuse_if, and_then, first}
+use Rattle.refusal.specs.Checks.{refuse_if, first}
 use Rattle.bits.specs.Bits.{bits_of}
 use Rattle.stuffing.specs.Zeros.{zero_verdict}
 use Rattle.ga94.specs.declared.Record.{Record}

@@ -24,7 +24,7 @@ pub const LENT_RECORD: usize = 4;
 pub const LENT_RECORDS: usize = 124;
 
 // One construct, its data bytes as they are sent.
-#[derive(Drop)]
+#[derive(Clone, Copy)]
 pub struct Record {
     pub cc_valid: u8,
     pub cc_type: u8,
@@ -34,7 +34,7 @@ pub struct Record {
 
 // A unit's value without its records, which a lent array holds: the three flags and em_data as they are, how many
 // records there are, and how many zero bytes of stuffing follow the content.
-#[derive(Drop)]
+#[derive(Clone, Copy)]
 pub struct Numbers {
     pub process_em_data_flag: u32,
     pub process_cc_data_flag: u32,
@@ -45,7 +45,7 @@ pub struct Numbers {
 }
 
 // What `ga94_reader::read_into` answers: the verdict, and the numbers, all zero where it refuses.
-#[derive(Drop)]
+#[derive(Clone, Copy)]
 pub struct Head {
     pub verdict: Verdict,
     pub numbers: Numbers,

@@ -4,15 +4,19 @@
 #![tactic(auto)]
 
 ghost use Rattle.std.specs.Prelude.{◌<◌};
-ghost use Rattle.io.specs.Counts.{IsPrefixLen};
+ghost use Rattle.input.specs.Counts.{IsPrefixLen};
 
-use libc::STDIN_FILENO;
+use std::env::{Env, FillError};
+use std::io;
+use std::io::{Read, Stdin};
 
-// What was read: whether the input came to its end, or filled the buffer; and how many of the buffer's bytes it fills, none where a read failed.
-#[derive(Drop)]
+// What was read: whether the input came to its end, or filled the buffer, and else why a read failed; and how many of the buffer's bytes it fills, none
+// where a read failed.
+#[derive(Clone, Copy)]
 pub struct Input {
     pub is_read: bool,
     pub len: usize,
+    pub failure: Option<io::Error>,
 }
 
 // Where counting stops, so that it ends whatever the input is: 4 GiB.
@@ -21,41 +25,44 @@ const MOST: usize = 4294967296;
 // How many bytes are read and dropped at a time.
 const STEP: usize = 4096;
 
-// Reads standard input into a buffer, up to the end of either. Where a read fails, `os::fail` called next says why.
-pub fn read(buf: &mut [u8]) -> Input
+// Reads standard input into a buffer, up to the end of either.
+pub fn read(mut stdin: Stdin, buf: &mut [u8]) -> Input
     ensures { IsPrefixLen result.len buf.new }
 {
     let mut len = 0;
     while len < buf.len() {
-        let got = libc::read(STDIN_FILENO, &mut buf[len..]);
-        if got < 0 {
-            return Input {
-                is_read: false,
-                len: 0,
-            };
+        match stdin.read(&mut buf[len..]) {
+            Ok(0) => break,
+            Ok(more) => len += more,
+            Err(why) => {
+                return Input {
+                    is_read: false,
+                    len: 0,
+                    failure: Some(why),
+                };
+            }
         }
-        let more = io::count(got, &buf[len..]);
-        if more == 0 {
-            break;
-        }
-        len += more;
     }
-    Input { is_read: true, len }
+    Input {
+        is_read: true,
+        len,
+        failure: None,
+    }
 }
 
-// Reads standard input to its end, or for 4 GiB, and counts its bytes: how many a program that has filled its buffer leaves. Where a read fails,
-// `os::fail` called next says why.
-pub fn count_rest() -> Input
+// Reads standard input to its end, or for 4 GiB, and counts its bytes: how many a program that has filled its buffer leaves.
+pub fn count_rest(stdin: Stdin) -> Input
     ensures { result.len < 4294971392 }
 {
     let mut dropped = [0u8; STEP];
     let mut len = 0;
     while len < MOST {
-        let more = read(&mut dropped);
+        let more = read(stdin, &mut dropped);
         if !more.is_read {
             return Input {
                 is_read: false,
                 len: 0,
+                failure: more.failure,
             };
         }
         if more.len == 0 {
@@ -63,5 +70,14 @@ pub fn count_rest() -> Input
         }
         len += more.len;
     }
-    Input { is_read: true, len }
+    Input {
+        is_read: true,
+        len,
+        failure: None,
+    }
+}
+
+// Whether the program was given the word of an index, be it empty. Its name is word 0.
+pub fn has_word(rt: &impl Env, i: usize) -> bool {
+    !matches!(rt.arg(i, &mut []), Err(FillError::NotPresent))
 }

@@ -5,7 +5,7 @@ ghost use Rattle.std.specs.Prelude.{◌≡◌};
 ghost use Rattle.kind.specs.Ours.{ours as Ours·ours, typed as Ours·typed, group_type, identified as Ours·identified};
 
 // The kinds of caption unit.
-#[derive(Drop)]
+#[derive(Clone, Copy)]
 pub enum Kind {
     // SCTE 20 picture user data (001, 5.4): user_data_type_code 03, where no data group begins (003, Table 1).
     Scte20,

@@ -14,7 +14,7 @@ use scte20::{CaptionUnit, MAX_RECORDS, Record};
 pub const ROOM: usize = 640;
 
 // A text: its first len bytes.
-#[derive(Drop)]
+#[derive(Clone, Copy)]
 pub struct Text {
     pub len: usize,
     pub bytes: [u8; ROOM],

@@ -12,28 +12,28 @@ ghost use Rattle.notation.specs.Value.{meant_of, unreadable};
 use scte20::{CaptionUnit, MAX_RECORDS, Record};
 
 // What a text tells: whether it can be read, and the value, all zero where it cannot.
-#[derive(Drop)]
+#[derive(Clone, Copy)]
 pub struct Meant {
     pub is_readable: bool,
     pub unit: CaptionUnit,
 }
 
 // A word of a text: its first character, and the first behind it.
-#[derive(Drop)]
+#[derive(Clone, Copy)]
 struct Word {
     start: usize,
     end: usize,
 }
 
 // What a word writes: whether it is a number, and which.
-#[derive(Drop)]
+#[derive(Clone, Copy)]
 struct Number {
     is_readable: bool,
     value: usize,
 }
 
 // The same of the next word of a text, and the first character behind it.
-#[derive(Drop)]
+#[derive(Clone, Copy)]
 struct Taken {
     is_readable: bool,
     value: usize,
@@ -41,7 +41,7 @@ struct Taken {
 }
 
 // What the three words before the records tell, and the first character behind them.
-#[derive(Drop)]
+#[derive(Clone, Copy)]
 struct Head {
     is_readable: bool,
     reserved: u8,
@@ -51,7 +51,7 @@ struct Head {
 }
 
 // What five words tell, and the first character behind them.
-#[derive(Drop)]
+#[derive(Clone, Copy)]
 struct Entry {
     is_readable: bool,
     end: usize,
@@ -59,7 +59,7 @@ struct Entry {
 }
 
 // What the words behind the head tell: how many records, and those that have a place.
-#[derive(Drop)]
+#[derive(Clone, Copy)]
 struct Entries {
     is_readable: bool,
     n: usize,

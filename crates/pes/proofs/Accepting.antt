@@ -1,6 +1,6 @@
 -- Which bytes are accepted, and with which answer.
 -- Assumes nothing.
-use Prim.Native.Nat.{ℕ, ◌+◌}
+use Prim.Native.Nat.{ℕ}
 use native.Mathlib.Omega.{arith}
 use mathlib.Core.Path.{◌≡◌, ◌∙◌, ap, sym, subst, refl}
 use mathlib.Core.Logic.{◌↔◌}

@@ -1,7 +1,7 @@
 -- One unit: which bytes the checks let through, what is read from those of a legal unit, and that what is read lays them
 -- again.
 -- Assumes nothing.
-use Prim.Native.Nat.{ℕ, ◌+◌, ◌-◌, ◌*◌, ◌/◌, ◌%◌, ◌≤◌, ◌<◌}
+use Prim.Native.Nat.{ℕ, ◌+◌, ◌*◌, ◌/◌, ◌%◌, ◌≤◌, ◌<◌}
 use native.Mathlib.Omega.{arith}
 use mathlib.Core.Path.{◌≡◌, ◌∙◌, ap, ap₂, sym, subst, refl}
 use mathlib.Core.Logic.{◌⊎◌, inl, inr, ⊎_elim}

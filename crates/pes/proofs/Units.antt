@@ -1,7 +1,7 @@
 -- Units, one behind the other: in which order they are judged, that legal ones are accepted, and that bytes which are
 -- accepted are those of the units that are read from them.
 -- Assumes nothing.
-use Prim.Native.Nat.{ℕ, zero, suc, ◌+◌, ◌-◌, ◌*◌, ◌≤◌, ◌<◌}
+use Prim.Native.Nat.{ℕ, zero, suc, ◌+◌, ◌*◌, ◌≤◌, ◌<◌}
 use native.Mathlib.Omega.{arith}
 use mathlib.Core.Path.{◌≡◌, ◌∙◌, ap, ap₂, sym, refl}
 use mathlib.Core.List.{List, [], ◌∷◌, ◌++◌}
@@ -15,7 +15,7 @@ use Rattle.lists.proofs.FlatOf.{length-flat, flat-taken}
 use Rattle.refusal.specs.declared.Verdict.TheVariants.{Accepted, Refused}
 use Rattle.refusal.specs.declared.Reason.TheVariants.{SurplusUnit}
 use Rattle.refusal.specs.declared.Item.TheVariants.{Byte}
-use Rattle.refusal.specs.Checks.{and_then, first}
+use Rattle.refusal.specs.Checks.{and_then}
 use Rattle.refusal.proofs.Checks.{refused-not-accepted, accepted-and_then, and_then-accepted}
 use Rattle.refusal.proofs.Sequence.{first-append}
 use Rattle.pes.specs.Value.{DataUnit, LegalUnit}

@@ -27,7 +27,7 @@ pub const STUFFING_ID: u8 = 0xFF;
 
 // What `pes_reader::read_into` answers: data_identifier and how many units follow it, or a refusal and zeros.
 #[repr(C)]
-#[derive(Drop)]
+#[derive(Clone, Copy)]
 pub struct Head {
     pub refusal: Refusal,
     pub data_identifier: u8,

@@ -14,7 +14,7 @@ use scte20::{CaptionUnit, Numbers};
 
 // What `read` answers: whether a caption unit stands in the area, and its value; or a refusal. Where no caption
 // unit stands, and in a refusal, all else is zero.
-#[derive(Drop)]
+#[derive(Clone, Copy)]
 pub struct Answer {
     pub refusal: Refusal,
     pub present: bool,
@@ -22,7 +22,7 @@ pub struct Answer {
 }
 
 // What `read_into` answers: the same, with the records in a lent array.
-#[derive(Drop)]
+#[derive(Clone, Copy)]
 pub struct Head {
     pub refusal: Refusal,
     pub present: bool,
@@ -30,7 +30,7 @@ pub struct Head {
 }
 
 // What `ga94_read_into` answers: the same for GA94.
-#[derive(Drop)]
+#[derive(Clone, Copy)]
 pub struct Ga94Head {
     pub refusal: Refusal,
     pub present: bool,
@@ -38,14 +38,14 @@ pub struct Ga94Head {
 }
 
 // Which bytes of an area give way to a new unit: those from `start` up to `end`.
-#[derive(Drop)]
+#[derive(Clone, Copy)]
 pub struct Spot {
     pub start: usize,
     pub end: usize,
 }
 
 // What `read_old` and `ga94_read_old` answer: the area's refusal, and where a new unit goes.
-#[derive(Drop)]
+#[derive(Clone, Copy)]
 pub struct Old {
     pub refusal: Refusal,
     pub spot: Spot,

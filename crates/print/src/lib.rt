@@ -1,41 +1,42 @@
-// What the programs print, to standard output.
+// What the programs print: to standard output, and to standard error where a read or a write failed.
 //
-// Each function answers whether all of it was written, and stops at the first write that was not. Then `os::fail` called next says why.
+// Each function answers whether all of it was written, and stops at the first write that was not.
 #![tactic(auto)]
 
 ghost use Rattle.std.specs.Prelude.{◌≡◌, ◌%◌};
 ghost use Rattle.print.specs.Digits.{digit_of};
 
-use libc::STDOUT_FILENO;
 use refusal::{Item, Reason, Refusal, Verdict};
+use std::io::{Cursor, Stderr, Stdout, Write};
+use std::{io, str};
 
-pub fn text(bytes: &[u8]) -> bool {
-    io::write_all(STDOUT_FILENO, bytes)
+pub fn text(out: Stdout, bytes: &[u8]) -> io::Result<()> {
+    Print::write_all(&out, bytes)
 }
 
-pub fn decimal(n: u64) -> bool {
-    io::print_decimal(STDOUT_FILENO, n)
+pub fn decimal(out: Stdout, n: u64) -> io::Result<()> {
+    out.print(n)
 }
 
 // A byte as two upper-case hex digits.
-pub fn hex(b: u8) -> bool {
+pub fn hex(out: Stdout, b: u8) -> io::Result<()> {
     let digits = [digit(b / 16), digit(b)];
-    text(&digits)
+    text(out, &digits)
 }
 
 // A refusal and a line feed.
-pub fn refused(r: Refusal) -> bool {
-    text(b"refused ")
-        && decimal(r.number as u64)
-        && text(b" at ")
-        && decimal(r.place as u64)
-        && text(b"\n")
+pub fn refused(out: Stdout, r: Refusal) -> io::Result<()> {
+    text(out, b"refused ")?;
+    decimal(out, r.number as u64)?;
+    text(out, b" at ")?;
+    decimal(out, r.place as u64)?;
+    text(out, b"\n")
 }
 
 // The refusal of input that is longer than its carriage allows: the place is its length.
-pub fn too_long(length: usize) -> bool {
+pub fn too_long(out: Stdout, length: usize) -> io::Result<()> {
     let verdict = Verdict::Refused(Reason::TooLong, Item::Length(length));
-    refused(refusal::told(verdict))
+    refused(out, refusal::told(verdict))
 }
 
 // The character of the hex digit that d is, modulo 16.
@@ -44,4 +45,27 @@ fn digit(d: u8) -> u8
 {
     let n = d % 16;
     if n < 10 { b'0' + n } else { b'A' + (n - 10) }
+}
+
+// What failed, to standard error: its name, a colon and why, as the system says it.
+pub fn failed(err: Stderr, what: &str, why: io::Error) -> io::Result<()> {
+    let mut words = [0u8; 512];
+    let mut to = Cursor::new(&mut words[..]);
+    write!(to, "{why}")?;
+    let len = (to.position() as usize).min(words.len());
+    let said = match str::from_utf8(&words[..len]) {
+        Ok(said) => without_number(said),
+        Err(_) => "",
+    };
+    err.print(what)?;
+    err.print(": ")?;
+    err.println(said)
+}
+
+// The system's words without the number that the library puts behind them.
+fn without_number(said: &str) -> &str {
+    match said.split_once(" (os error ") {
+        Some((words, _)) => words,
+        None => said,
+    }
 }

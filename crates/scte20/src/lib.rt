@@ -28,7 +28,7 @@ pub const LENT_RECORD: usize = 5;
 pub const LENT_RECORDS: usize = 155;
 
 // One construct (001, 5.8), its data bytes as line 21 has them.
-#[derive(Drop)]
+#[derive(Clone, Copy)]
 pub struct Record {
     pub cc_priority: u8,
     pub field_number: DisplayField,
@@ -39,7 +39,7 @@ pub struct Record {
 
 // A unit's value: the reserved bits as they are, the flag, the first n of the records, and how many zero
 // bytes of stuffing follow the content.
-#[derive(Drop)]
+#[derive(Clone, Copy)]
 pub struct CaptionUnit {
     pub reserved: u8,
     pub vbi_data_flag: u8,
@@ -49,7 +49,7 @@ pub struct CaptionUnit {
 }
 
 // A unit's value without its records, which a lent array holds.
-#[derive(Drop)]
+#[derive(Clone, Copy)]
 pub struct Numbers {
     pub reserved: u8,
     pub vbi_data_flag: u8,
@@ -58,7 +58,7 @@ pub struct Numbers {
 }
 
 // What `scte20_reader::read_into` answers: the verdict, and the numbers, all zero where it refuses.
-#[derive(Drop)]
+#[derive(Clone, Copy)]
 pub struct Head {
     pub verdict: Verdict,
     pub numbers: Numbers,
@@ -66,7 +66,7 @@ pub struct Head {
 
 // What the rules need of the records before one: the latest's field and line, and how many records of that
 // field have priority 0, no more than four of them counted.
-#[derive(Drop)]
+#[derive(Clone, Copy)]
 pub struct Last {
     pub field_number: DisplayField,
     pub line_offset: u8,

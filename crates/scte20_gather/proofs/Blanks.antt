@@ -4,7 +4,7 @@ use Prim.Native.Nat.{ℕ, zero, suc, ◌+◌, ◌-◌, ◌*◌, ◌/◌, ◌%◌
 use native.Mathlib.Nat.{div-one}
 use native.Mathlib.Omega.{arith}
 use mathlib.Core.Path.{◌≡◌, ◌∙◌, ap, sym, subst, refl}
-use mathlib.Core.List.{List, [], ◌∷◌, ◌++◌}
+use mathlib.Core.List.{List}
 use borrow.Author.Tests.{eq-eqb}
 use lib.ListN.{length, get_or, take, drop, replicate, take-append-drop}
 use lib.Seq.{drop-drop}
@@ -14,7 +14,6 @@ use Rattle.lists.proofs.Each.{each_take, each-drop, each_append, each_same, each
 use Rattle.refusal.specs.declared.Fixed.{Fixed}
 use Rattle.refusal.specs.declared.Fixed.TheVariants.{Alignment, Stuffing}
 use Rattle.refusal.specs.declared.Verdict.TheVariants.{Accepted}
-use Rattle.refusal.proofs.Checks.{and_then-last}
 use Rattle.bits.specs.Bits.{bits, num, bits_of, field}
 use Rattle.bits.proofs.Stream.{length-bits_of, bits_of-are, drop-bits_of}
 use Rattle.bits.proofs.Fields.{field-bits, field-byte}
@@ -22,7 +21,7 @@ use Rattle.bits.proofs.Runs.{bits-zero}
 use Rattle.stuffing.specs.Zeros.{zero_verdict}
 use Rattle.stuffing.proofs.Zeros.{accepted-zero, zero-accepted, stuffing-none}
 use Rattle.scte20.specs.Layout.{padding}
-use Rattle.scte20.specs.Reading.{missing, sampled_verdict, rest_verdict}
+use Rattle.scte20.specs.Reading.{sampled_verdict, rest_verdict}
 use Rattle.scte20.proofs.Bytewise.{missing-none}
 use Rattle.scte20_gather.specs.Inside.{Blank}
 

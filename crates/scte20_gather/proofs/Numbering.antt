@@ -3,7 +3,7 @@
 use Prim.Native.Nat.{ℕ, zero, suc, ◌+◌, ◌*◌, ◌≤◌, ◌<◌}
 use native.Mathlib.Omega.{arith}
 use mathlib.Core.Path.{◌≡◌, ◌∙◌, ap, ap₂, sym, subst, refl}
-use mathlib.Core.List.{List, [], ◌∷◌}
+use mathlib.Core.List.{List, ◌∷◌}
 use borrow.Author.Count.{below_more}
 use lib.ListN.{length, get_or, set}
 use lib.Seq.{get_or-set_same, get_or-set_other}
@@ -11,7 +11,6 @@ use Rattle.bits.specs.Bits.{bits_of, field}
 use Rattle.bits.specs.Peek.{peek_of}
 use Rattle.bits.proofs.Stream.{length-bits_of, bits_of-are}
 use Rattle.bits.proofs.Beyond.{peek-inside, peek-lt}
-use Rattle.scte20.specs.declared.Record.{Record}
 use Rattle.scte20.specs.Value.{blank}
 use Rattle.scte20.specs.Reading.{construct_at, records_at}
 use Rattle.scte20.specs.Inside.{construct_of}

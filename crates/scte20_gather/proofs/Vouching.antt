@@ -7,11 +7,10 @@ use mathlib.Core.Bool.{false}
 use mathlib.Core.List.{List}
 use lib.ListN.{length, get_or}
 use Rattle.lists.specs.Bytes.{Bytes}
-use Rattle.refusal.specs.declared.Verdict.TheVariants.{Accepted}
 use Rattle.refusal.proofs.Checks.{accepted-first}
 use Rattle.bits.specs.Bits.{bits_of}
 use Rattle.kind.specs.Ours.{group_type}
-use Rattle.scte20.specs.Reading.{flag_in, count_in, content_verdict}
+use Rattle.scte20.specs.Reading.{flag_in, count_in}
 use Rattle.scte20.proofs.Bytewise.{missing-none, flag-in, count-in}
 use Rattle.scte20.proofs.Answers.{flagged-verdict}
 use Rattle.scte20_gather.specs.Inside.{Numbered, Held, Blank, Gathers}

@@ -24,7 +24,7 @@ pub const STRUCTURE_WORDS: usize = 45;
 
 // One slot's numbers: 1 full or 0 empty, and what its descriptor says (002, 5.4.2).
 #[repr(C)]
-#[derive(Drop)]
+#[derive(Clone, Copy)]
 pub struct Slot {
     pub full: u8,
     pub line: u8,
@@ -34,7 +34,7 @@ pub struct Slot {
 
 // A packet's numbers. Beside them travel the slots' rows, an array of five 42-byte arrays.
 #[repr(C)]
-#[derive(Drop)]
+#[derive(Clone, Copy)]
 pub struct Packet {
     pub counter: u32,
     pub slots: [Slot; SLOTS],

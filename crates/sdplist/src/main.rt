@@ -4,51 +4,50 @@
 
 ghost use Rattle.std.specs.Prelude.{◌≤◌, ◌<◌, length};
 
-use libc::STDERR_FILENO;
 use refusal::{Item, Reason, Verdict};
 use sdp::{Packet, ROW_BYTES, SLOTS, Slot};
+use std::io;
+use std::io::Stdout;
 use subtitling::MAX_WORDS;
 
 // One word more than a packet may have, so that longer input is noticed.
 const ROOM: usize = MAX_WORDS + 1;
 
-fn main() {
-    if 1 < os::arg_count() {
-        io::write_all(STDERR_FILENO, b"usage: sdplist <PACKET\n");
-        return;
+fn main(rt: HostRuntime) -> io::Result<()> {
+    if input::has_word(&rt, 1) {
+        return rt.eprint("usage: sdplist <PACKET\n");
     }
     let mut bytes = [0u8; 2 * ROOM];
-    let input = input::read(&mut bytes);
-    if !input.is_read {
-        os::fail(b"sdplist: standard input");
-        return;
+    let input = input::read(rt.stdin(), &mut bytes);
+    if let Some(why) = input.failure {
+        return print::failed(rt.stderr(), "sdplist: standard input", why);
     }
     let n = input.len;
-    let is_written = if n == 2 * ROOM {
-        let rest = input::count_rest();
-        if !rest.is_read {
-            os::fail(b"sdplist: standard input");
-            return;
+    let written = if n == 2 * ROOM {
+        let rest = input::count_rest(rt.stdin());
+        if let Some(why) = rest.failure {
+            return print::failed(rt.stderr(), "sdplist: standard input", why);
         }
-        print::too_long((n + rest.len) / 2)
+        print::too_long(rt.stdout(), (n + rest.len) / 2)
     } else {
-        list_bytes(&bytes[..n])
+        list_bytes(rt.stdout(), &bytes[..n])
     };
-    if !is_written {
-        os::fail(b"sdplist: standard output");
+    match written {
+        Ok(()) => Ok(()),
+        Err(why) => print::failed(rt.stderr(), "sdplist: standard output", why),
     }
 }
 
-// Answers whether all was written, as the other functions that list do.
-fn list_bytes(input: &[u8]) -> bool
+// Stops at the first write that fails, as the other functions that list do.
+fn list_bytes(out: Stdout, input: &[u8]) -> io::Result<()>
     requires { length input.now ≤ 492 }
 {
     let words = words_of(input);
     let count = input.len() / 2;
     if input.len() % 2 == 0 {
-        return list(&words[..count]);
+        return list(out, &words[..count]);
     }
-    refuse_half(count)
+    refuse_half(out, count)
 }
 
 // The words that the bytes write, zeros after them.
@@ -65,9 +64,9 @@ fn words_of(input: &[u8]) -> [u16; ROOM]
 }
 
 // Half a word after the last whole one: the input ends before the next byte.
-fn refuse_half(count: usize) -> bool {
+fn refuse_half(out: Stdout, count: usize) -> io::Result<()> {
     let verdict = Verdict::Refused(Reason::Ends, Item::Length(count));
-    print::refused(refusal::told(verdict))
+    print::refused(out, refusal::told(verdict))
 }
 
 fn wide(b: u8) -> u16
@@ -76,60 +75,52 @@ fn wide(b: u8) -> u16
     b as u16
 }
 
-fn list(words: &[u16]) -> bool {
+fn list(out: Stdout, words: &[u16]) -> io::Result<()> {
     let answer = subtitling_reader::read(words);
     let refusal = answer.refusal;
     if refusal.number != 0 {
-        return print::refused(refusal);
+        return print::refused(out, refusal);
     }
     let packet = answer.packet;
-    print::text(b"counter ")
-        && print::decimal(packet.counter as u64)
-        && print::text(b"\nslot full line reserved field data\n")
-        && list_slots(packet, subtitling_reader::read_rows(words))
+    print::text(out, b"counter ")?;
+    print::decimal(out, packet.counter as u64)?;
+    print::text(out, b"\nslot full line reserved field data\n")?;
+    list_slots(out, packet, subtitling_reader::read_rows(words))
 }
 
-fn list_slots(packet: Packet, rows: [[u8; ROW_BYTES]; SLOTS]) -> bool {
-    let mut i = 0;
-    while i < SLOTS {
-        let slot = packet.slots[i];
-        let row = rows[i];
-        if !print::decimal(i as u64) {
-            return false;
-        }
-        if !list_slot(slot, row) {
-            return false;
-        }
-        i += 1;
+fn list_slots(out: Stdout, packet: Packet, rows: [[u8; ROW_BYTES]; SLOTS]) -> io::Result<()> {
+    for i in 0..SLOTS {
+        print::decimal(out, i as u64)?;
+        list_slot(out, packet.slots[i], rows[i])?;
     }
-    true
+    Ok(())
 }
 
 // An empty slot has no data to list.
-fn list_slot(slot: Slot, row: [u8; ROW_BYTES]) -> bool {
-    spaced(slot.full)
-        && spaced(slot.line)
-        && spaced(slot.reserved)
-        && spaced(slot.field.0)
-        && (slot.full == 0 || list_row(row))
-        && print::text(b"\n")
-}
-
-fn list_row(row: [u8; ROW_BYTES]) -> bool {
-    let mut i = 0;
-    while i < ROW_BYTES {
-        if !spaced_hex(row[i]) {
-            return false;
-        }
-        i += 1;
+fn list_slot(out: Stdout, slot: Slot, row: [u8; ROW_BYTES]) -> io::Result<()> {
+    spaced(out, slot.full)?;
+    spaced(out, slot.line)?;
+    spaced(out, slot.reserved)?;
+    spaced(out, slot.field.0)?;
+    if slot.full != 0 {
+        list_row(out, row)?;
     }
-    true
+    print::text(out, b"\n")
 }
 
-fn spaced(n: u8) -> bool {
-    print::text(b" ") && print::decimal(n as u64)
+fn list_row(out: Stdout, row: [u8; ROW_BYTES]) -> io::Result<()> {
+    for i in 0..ROW_BYTES {
+        spaced_hex(out, row[i])?;
+    }
+    Ok(())
 }
 
-fn spaced_hex(b: u8) -> bool {
-    print::text(b" ") && print::hex(b)
+fn spaced(out: Stdout, n: u8) -> io::Result<()> {
+    print::text(out, b" ")?;
+    print::decimal(out, n as u64)
+}
+
+fn spaced_hex(out: Stdout, b: u8) -> io::Result<()> {
+    print::text(out, b" ")?;
+    print::hex(out, b)
 }

@@ -38,7 +38,7 @@ const NO_START: u64 = 4;
 const START_CODE: u64 = 5;
 
 // What the search for the units of one kind found.
-#[derive(Drop)]
+#[derive(Clone, Copy)]
 pub enum Found {
     // The area is no list of units: 1, 2 or 3.
     NotUnits(Reason, Item),
@@ -50,7 +50,7 @@ pub enum Found {
 }
 
 // What the search has seen so far: how many units of the kind, and where the first stands.
-#[derive(Drop)]
+#[derive(Clone, Copy)]
 struct Seen {
     count: usize,
     unit: usize,

@@ -1,10 +1,10 @@
 // Decoding the bytes of a field.
 ghost use Rattle.std.specs.Prelude.{◌≡◌, ◌≤◌, length};
-ghost use Rattle.io.specs.Counts.{IsPrefixLen};
+ghost use Rattle.input.specs.Counts.{IsPrefixLen};
 ghost use Rattle.vectors.specs.Digits.{digit_value};
 
 // How many bytes were decoded, or 0 where the field is unreadable.
-#[derive(Drop)]
+#[derive(Clone, Copy)]
 pub struct Decoded {
     pub is_readable: bool,
     pub len: usize,
@@ -12,7 +12,7 @@ pub struct Decoded {
 
 // The first bytes of a field: one byte some times, and how many characters write it, 0 where they
 // are unreadable.
-#[derive(Drop)]
+#[derive(Clone, Copy)]
 struct Run {
     byte: u8,
     times: usize,

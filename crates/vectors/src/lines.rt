@@ -1,13 +1,14 @@
 // The lines of standard input, through a buffer that any number of them passes.
 ghost use Rattle.std.specs.Prelude.{◌≡◌, ◌+◌, ◌≤◌, length};
+ghost use Rattle.input.specs.Counts.{IsPrefixLen};
 ghost use Rattle.vectors.specs.Lines.{Standing, unread};
 
 use crate::line::find;
-use libc::STDIN_FILENO;
+use std::io::{Read, Stdin};
 
 const LINE_FEED: u8 = 10;
 
-#[derive(Drop)]
+#[derive(Clone, Copy)]
 pub enum Kind {
     Whole,
     // The front of a line that the buffer cannot hold.
@@ -19,7 +20,7 @@ pub enum Kind {
 }
 
 // Where the line that `next` found stands in the buffer, and what of the buffer comes after it.
-#[derive(Drop)]
+#[derive(Clone, Copy)]
 pub struct Lines {
     pub kind: Kind,
     pub start: usize,
@@ -47,7 +48,7 @@ pub fn before() -> Lines
 
 // Finds the next line. Where the buffer has no whole one left, it moves what is left to the front and
 // reads on.
-pub fn next(lines: Lines, buf: &mut [u8]) -> Lines
+pub fn next(stdin: Stdin, lines: Lines, buf: &mut [u8]) -> Lines
     ensures { Standing (length buf.new) result }
 {
     let filled = least(lines.filled, buf.len());
@@ -56,16 +57,16 @@ pub fn next(lines: Lines, buf: &mut [u8]) -> Lines
     if end < filled {
         return ended(lines.is_cut, from, end, filled);
     }
-    refill(buf, from, filled, lines.is_cut)
+    refill(stdin, buf, from, filled, lines.is_cut)
 }
 
-fn refill(buf: &mut [u8], from: usize, to: usize, is_cut: bool) -> Lines
+fn refill(stdin: Stdin, buf: &mut [u8], from: usize, to: usize, is_cut: bool) -> Lines
     requires { (from ≤ to) × (to ≤ length buf.old) }
     ensures { Standing (length buf.new) result }
 {
     move_to_front(buf, from, to);
     let have = to - from;
-    let got = io::read_full(STDIN_FILENO, &mut buf[have..]);
+    let got = read_full(stdin, &mut buf[have..]);
     let filled = have + got;
     let end = find(&buf[..filled], have, LINE_FEED);
     if end < filled {
@@ -75,6 +76,21 @@ fn refill(buf: &mut [u8], from: usize, to: usize, is_cut: bool) -> Lines
         return before();
     }
     unended(is_cut, filled, buf.len())
+}
+
+// Reads until the buffer is full, the input ends or a read fails, and tells how many bytes that put at its front.
+fn read_full(mut stdin: Stdin, buf: &mut [u8]) -> usize
+    ensures { IsPrefixLen result buf.new }
+{
+    let mut done = 0;
+    while done < buf.len() {
+        match stdin.read(&mut buf[done..]) {
+            Ok(0) => break,
+            Ok(more) => done += more,
+            Err(_) => break,
+        }
+    }
+    done
 }
 
 // A line that a line feed ends.

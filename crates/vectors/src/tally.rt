@@ -3,9 +3,11 @@ ghost use Rattle.std.specs.Prelude.{◌≡◌, not};
 ghost use Rattle.vectors.specs.Tallies.{agreed, differed, judged_of, tallied_of, one_more};
 
 use crate::line::{field, is_wrong, unmarked};
+use std::io;
+use std::io::Stdout;
 
 // What became of a vector.
-#[derive(Drop)]
+#[derive(Clone, Copy)]
 pub enum Outcome {
     Agrees,
     Differs,
@@ -23,7 +25,7 @@ pub fn judged(agrees: bool) -> Outcome
 }
 
 // How many vectors ran, and how many of them differed.
-#[derive(Drop)]
+#[derive(Clone, Copy)]
 pub struct Tally {
     pub ran: u64,
     pub differ: u64,
@@ -92,58 +94,59 @@ fn one_more(n: u64) -> u64
 }
 
 // The line of an operation.
-pub fn print_tally(operation: &[u8], t: Tally) {
-    print::text(operation);
-    print::text(b": ");
-    print::decimal(t.ran);
-    print::text(b" ran, ");
-    print::decimal(t.differ);
-    print::text(b" differ\n");
+pub fn print_tally(out: Stdout, operation: &[u8], t: Tally) -> io::Result<()> {
+    print::text(out, operation)?;
+    print::text(out, b": ")?;
+    print::decimal(out, t.ran)?;
+    print::text(out, b" ran, ")?;
+    print::decimal(out, t.differ)?;
+    print::text(out, b" differ\n")
 }
 
 // The line of the vectors that are wrong on purpose.
-pub fn print_wrong(t: Tally) {
-    print::text(b"wrong on purpose: ");
-    print::decimal(t.ran);
-    print::text(b" ran, ");
-    print::decimal(t.differ);
-    print::text(b" noticed\n");
+pub fn print_wrong(out: Stdout, t: Tally) -> io::Result<()> {
+    print::text(out, b"wrong on purpose: ")?;
+    print::decimal(out, t.ran)?;
+    print::text(out, b" ran, ")?;
+    print::decimal(out, t.differ)?;
+    print::text(out, b" noticed\n")
 }
 
 // Names a vector that did not do what it is to do. One that is wrong on purpose is to differ.
-pub fn print_outcome(line: &[u8], outcome: Outcome) {
+pub fn print_outcome(out: Stdout, line: &[u8], outcome: Outcome) -> io::Result<()> {
     let is_wrong = is_wrong(line);
     match outcome {
         Outcome::Agrees => {
             if is_wrong {
-                print::text(b"not noticed: ");
-                print_name(unmarked(line));
+                print::text(out, b"not noticed: ")?;
+                print_name(out, unmarked(line))?;
             }
         }
         Outcome::Differs => {
             if !is_wrong {
-                print::text(b"differs: ");
-                print_name(line);
+                print::text(out, b"differs: ")?;
+                print_name(out, line)?;
             }
         }
-        Outcome::Unreadable => print_unreadable(line),
+        Outcome::Unreadable => print_unreadable(out, line)?,
     }
+    Ok(())
 }
 
-fn print_name(line: &[u8]) {
-    print::text(field(line, 0));
-    print::text(b" ");
-    print::text(field(line, 1));
-    print::text(b"\n");
+fn print_name(out: Stdout, line: &[u8]) -> io::Result<()> {
+    print::text(out, field(line, 0))?;
+    print::text(out, b" ")?;
+    print::text(out, field(line, 1))?;
+    print::text(out, b"\n")
 }
 
 // Shows the first bytes of a line that cannot be decoded.
-fn print_unreadable(line: &[u8]) {
-    print::text(b"unreadable: ");
+fn print_unreadable(out: Stdout, line: &[u8]) -> io::Result<()> {
+    print::text(out, b"unreadable: ")?;
     if line.len() < 60 {
-        print::text(line);
+        print::text(out, line)?;
     } else {
-        print::text(&line[..60]);
+        print::text(out, &line[..60])?;
     }
-    print::text(b"\n");
+    print::text(out, b"\n")
 }

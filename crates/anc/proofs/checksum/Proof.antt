@@ -9,5 +9,5 @@ use Rattle.anc.proofs.checksum.Tie as tie
 returns : tie.Need-returns
 returns c = c.cs.ensures ∙ ap cs_of c.before.sum.ensures ∙ sym (checksum-sum c.before.before.before.args.words.now)
 
-pub checksum-spec : {M : Type 1} → statement M
-checksum-spec = tie.close (tie.spec (λ c κs. search rules) (λ c κs. search rules) returns)
+pub checksum_spec : {M : Type 1} → statement M
+checksum_spec = tie.close (tie.spec (λ c κs. search rules) (λ c κs. search rules) returns)

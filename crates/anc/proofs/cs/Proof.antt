@@ -9,5 +9,5 @@ returns : tie.Need-returns
 unfolding cs_of
 returns c = refl
 
-pub cs-spec : {M : Type 1} → statement M
-cs-spec = tie.close (tie.spec (λ c. search rules) (λ c. search rules) (λ c. search rules) returns)
+pub cs_spec : {M : Type 1} → statement M
+cs_spec = tie.close (tie.spec (λ c. search rules) (λ c. search rules) (λ c. search rules) returns)

@@ -5,17 +5,17 @@ use Rattle.anc.specs.Words.{sum_verdict}
 use Rattle.anc.proofs.judge_sum.Statement.{statement}
 use Rattle.anc.proofs.judge_sum.Tie as tie
 
-out_of_range : tie.Need-returns
+out_of_range : tie.Need-returns-then-w-gt1023
 unfolding sum_verdict
-out_of_range c = simp (lt-ltb _ _ c.if1.true)
+out_of_range c = simp (lt-ltb _ _ c.if-w-gt1023.true)
 
-not-inverse : tie.Need-returns-2
+not-inverse : tie.Need-returns-then-w
 unfolding sum_verdict
-not-inverse c = simp (le-ltb _ _ c.before.if1.false, eq-eqb _ _ c.if2.true)
+not-inverse c = simp (le-ltb _ _ c.before.if-w-gt1023.false, eq-eqb _ _ c.if-w.true)
 
-accepted : tie.Need-returns-3
+accepted : tie.Need-returns
 unfolding sum_verdict
-accepted c = simp (le-ltb _ _ c.before.if1.false, ne_eqb _ _ c.if2.false)
+accepted c = simp (le-ltb _ _ c.before.if-w-gt1023.false, ne_eqb _ _ c.if-w.false)
 
-pub judge-sum-spec : {M : Type 1} → statement M
-judge-sum-spec = tie.close (tie.spec out_of_range not-inverse accepted)
+pub judge_sum_spec : {M : Type 1} → statement M
+judge_sum_spec = tie.close (tie.spec out_of_range not-inverse accepted)

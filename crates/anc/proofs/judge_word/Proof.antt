@@ -5,19 +5,19 @@ use Rattle.anc.specs.Words.{word_verdict}
 use Rattle.anc.proofs.judge_word.Statement.{statement}
 use Rattle.anc.proofs.judge_word.Tie as tie
 
-out_of_range : tie.Need-returns
+out_of_range : tie.Need-returns-then-w-gt1023
 unfolding word_verdict
-out_of_range c = simp (lt-ltb _ _ c.if1.true)
+out_of_range c = simp (lt-ltb _ _ c.if-w-gt1023.true)
 
-wrong-parity : tie.Need-returns-2
+wrong-parity : tie.Need-returns-then-w-word
 unfolding word_verdict
-wrong-parity c = simp (le-ltb _ _ c.before.before.if1.false, ne_eqb _ _ (λ e. c.if2.true (e ∙ sym c.before.word.ensures)))
+wrong-parity c = simp (le-ltb _ _ c.before.before.if-w-gt1023.false, ne_eqb _ _ (λ e. c.if-w-word.true (e ∙ sym c.before.word.ensures)))
 
-accepted : tie.Need-returns-3
+accepted : tie.Need-returns
 unfolding word_verdict
-accepted c = simp (le-ltb _ _ c.before.before.if1.false, eq-eqb _ _ (c.if2.false ∙ c.before.word.ensures))
+accepted c = simp (le-ltb _ _ c.before.before.if-w-gt1023.false, eq-eqb _ _ (c.if-w-word.false ∙ c.before.word.ensures))
 
-pub judge-word-spec : {M : Type 1} → statement M
-judge-word-spec =
+pub judge_word_spec : {M : Type 1} → statement M
+judge_word_spec =
     tie.close
     (tie.spec out_of_range (λ c. search rules) (λ c κs. search rules) wrong-parity accepted)

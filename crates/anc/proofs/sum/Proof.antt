@@ -6,26 +6,26 @@ use Rattle.lists.proofs.Sum.{sum_more}
 use Rattle.anc.proofs.sum.Statement.{statement}
 use Rattle.anc.proofs.sum.Tie as tie
 
-abbrev invariant-loop : tie.invariant-loop
+abbrev invariant-loop : tie.invariant-loop-i
 invariant-loop words total₀ i₀ total i = total ≡ sum (take i words) % 65536
 
-abbrev decreases-loop : tie.decreases-loop
+abbrev decreases-loop : tie.decreases-loop-i
 decreases-loop words total₀ i₀ total i = length words - i
 
-loop-again : tie.Need-loop-preserved invariant-loop decreases-loop
+loop-again : tie.Need-loop-i-preserved invariant-loop decreases-loop
 loop-again c =
     let turn = c.before.before in
     let words = turn.before.before.before.args.words.now in
-    let i = turn.before.loop.i in
-    omega (arith, c.wrapping-add-u16.ensures, turn.before.loop.invariant, sum_more words i turn.loop-test.true)
+    let i = turn.before.loop-i.i in
+    omega (arith, c.wrapping_add_u16-total.ensures, turn.before.loop-i.invariant, sum_more words i turn.loop-i-test.true)
 
 returns : tie.Need-returns invariant-loop decreases-loop
 returns c =
     let words = c.before.before.before.args.words.now in
-    c.before.loop.invariant ∙ ap (λ (s : ℕ). s % 65536) (ap sum (take_all c.before.loop.i words c.loop-test.false))
+    c.before.loop-i.invariant ∙ ap (λ (s : ℕ). s % 65536) (ap sum (take_all c.before.loop-i.i words c.loop-i-test.false))
 
-pub sum-spec : {M : Type 1} → statement M
-sum-spec =
+pub sum_spec : {M : Type 1} → statement M
+sum_spec =
     tie.close
     (tie.spec
     invariant-loop

@@ -13,5 +13,5 @@ returns : tie.Need-returns
 unfolding word_of
 returns c = omega (arith, c.parity.ensures, parity-low c.before.args.byte)
 
-pub word-spec : {M : Type 1} → statement M
-word-spec = tie.close (tie.spec (λ c. search rules) (λ c κs. search rules) (λ c. omega (arith, low c)) (λ c. omega (arith, low c)) returns)
+pub word_spec : {M : Type 1} → statement M
+word_spec = tie.close (tie.spec (λ c. search rules) (λ c κs. search rules) (λ c. omega (arith, low c)) (λ c. omega (arith, low c)) returns)

@@ -3,7 +3,6 @@
 use Prim.Native.Nat.{ℕ, ◌-◌, ◌≤◌}
 use native.Mathlib.Omega.{arith}
 use mathlib.Core.Path.{◌≡◌, ◌∙◌, ap, sym, refl}
-use mathlib.Core.Logic.{⊎_elim}
 use mathlib.Core.List.{List, map}
 use lib.ListN.{length, take, get_or, set, length-map}
 use Rattle.lists.specs.Room.{over}
@@ -11,6 +10,7 @@ use Rattle.lists.proofs.Lay.{front_length, front-next, front-all}
 use Rattle.bits.specs.Table.{found}
 use Rattle.bits.proofs.Table.{found_at}
 use Rattle.bits.proofs.look_up.Statement.{statement}
+use Rattle.bits.proofs.look_up.Lts.{then-s-out, else-s-out}
 use Rattle.bits.proofs.look_up.Tie as tie
 
 abbrev invariant-loop : tie.invariant-loop-i
@@ -38,13 +38,17 @@ module _ (c : tie.Joined-s-out invariant-loop decreases-loop) where
   out = c.before.args.out.now
 
   in-s : n ≤ length s
-  in-s = ⊎_elim (λ e. omega (arith, whole, e.1)) (λ e. omega (arith, whole, e.0.left, e.1)) c.if-s-out.branch
+  in-s = elim c.if-s-out.branch [ then-s-out w ↦ omega (arith, whole) | else-s-out w ↦ omega (arith, whole) ]
 
   in-out : n ≤ length out
-  in-out = ⊎_elim (λ e. omega (arith, e.0.taken, e.1)) (λ e. omega (arith, e.1)) c.if-s-out.branch
+  in-out = elim c.if-s-out.branch [ then-s-out w ↦ omega arith | else-s-out w ↦ omega arith ]
 
   all : take n s ≡ take (length out) s
-  all = ⊎_elim (λ e. front-all s n (length out) (omega (arith, whole, e.1)) (omega (arith, whole, e.0.taken))) (λ e. ap (λ (k : ℕ). take k s) e.1) c.if-s-out.branch
+  all =
+      elim c.if-s-out.branch [
+        | then-s-out w ↦ front-all s n (length out) (omega (arith, whole)) (omega (arith, whole))
+        | else-s-out w ↦ ap (λ (k : ℕ). take k s) w.n-is
+      ]
 
 -- the output keeps its length
 kept : (c : tie.At-loop-i invariant-loop decreases-loop) → length c.loop-i.out ≡ length (out c.before)
@@ -54,7 +58,7 @@ kept c =
 
 loop-again : tie.Need-loop-i-preserved invariant-loop decreases-loop
 loop-again c =
-    let turn = c.before.before.before in
+    let turn = c.before.before.before.before in
     let at = turn.before in
     let i = turn.loop-i.i in
     let bytes = at.before.args.s.now in (
@@ -80,8 +84,8 @@ look_up_spec =
     (λ c. omega (arith, in-s c.before.before.before, whole c.before.before.before))
     (λ c. omega (arith, c.shared_slice_known-1.given c.before.before.loop-i.i))
     (λ c. omega (arith, c.shared_slice_known-1.given c.before.before.loop-i.i))
-    (λ c. omega (arith, kept c.before.before.before, in-out c.before.before.before.before))
-    (λ c. omega (arith, in-out c.before.before.before.before))
+    (λ c. omega (arith, kept c.before.before.before.before, in-out c.before.before.before.before.before))
+    (λ c. omega (arith, in-out c.before.before.before.before.before))
     (λ c. omega arith)
     loop-again
     (λ c. kept c.before)

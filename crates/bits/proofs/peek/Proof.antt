@@ -3,7 +3,6 @@
 use Prim.Native.Nat.{ℕ, ◌+◌, ◌-◌, ◌*◌, ◌/◌, ◌%◌, ◌^◌, ◌≤◌, ◌<◌, min}
 use native.Mathlib.Nat.{lt_of_lt_of_le, min-eq_left, min-eq_right, le_of_lt, mod-lt}
 use native.Mathlib.Omega.{arith}
-use mathlib.Core.Logic.{⊎_elim}
 use mathlib.Core.Path.{◌≡◌, ◌∙◌, ap, ap₂, sym, subst}
 use mathlib.Core.List.{List}
 use borrow.Author.Rules.{rules}
@@ -12,14 +11,19 @@ use Rattle.bits.specs.Peek.{peek_of}
 use Rattle.bits.proofs.Numbers.{one_shifted, one-shifted-pos}
 use Rattle.bits.proofs.Windows.{peek-window}
 use Rattle.bits.proofs.peek.Statement.{statement}
+use Rattle.bits.proofs.peek.Lts.{then-w-lt32, else-w-lt32}
 use Rattle.bits.proofs.peek.Tie as tie
 
 -- the width is w, and 32 at most
 narrowed : (c : tie.Joined-w-lt32) → c.if-w-lt32.width ≡ min c.before.before.args.w 32
-narrowed c = ⊎_elim (λ w. w.1 ∙ sym (min-eq_left (le_of_lt w.0.taken))) (λ w. w.1 ∙ sym (min-eq_right w.0.left)) c.if-w-lt32.branch
+narrowed c =
+    elim c.if-w-lt32.branch [
+      | then-w-lt32 w ↦ w.width-is ∙ sym (min-eq_left (le_of_lt w.if-w-lt32.true))
+      | else-w-lt32 w ↦ w.width-is ∙ sym (min-eq_right w.if-w-lt32.false)
+    ]
 
 narrow : (c : tie.Joined-w-lt32) → c.if-w-lt32.width ≤ 32
-narrow c = ⊎_elim (λ w. omega arith) (λ w. omega arith) c.if-w-lt32.branch
+narrow c = elim c.if-w-lt32.branch [ then-w-lt32 w ↦ omega arith | else-w-lt32 w ↦ omega arith ]
 
 -- what is left of a division by the code's power
 remainder-lt : (n w : ℕ) → w ≤ 32 → n % (1 * 2 ^ w % 18446744073709551616) < 4294967296
@@ -47,7 +51,7 @@ rem-result c =
     let w = c.before.before.if-w-lt32.width in
     one-shifted-pos w (omega (arith, narrow c.before.before))
 
-cast-result : tie.Need-overflow-cast-result
+cast-result : tie.Need-overflow_cast-result-2
 cast-result c = record { fits = remainder-lt _ c.before.before.if-w-lt32.width (narrow c.before.before) }
 
 returns : tie.Need-returns

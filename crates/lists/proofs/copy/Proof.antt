@@ -37,7 +37,7 @@ module _ (c : tie.Joined-s-out invariant-loop decreases-loop) where
   all : take n s ≡ take (length out) s
   all =
       elim c.if-s-out.branch [
-        then-s-out w ↦ front-all s n (length out) (omega arith) (omega arith)
+        | then-s-out w ↦ front-all s n (length out) (omega arith) (omega arith)
         | else-s-out w ↦ ap (λ (k : ℕ). take k s) w.n-is
       ]
 

@@ -17,20 +17,20 @@ marked (suc mark) d blank h = refl
 unmarked : (mark d : ℕ) (blank : Bool) → mark ≡ 0 → not (eqb d 0 && blank) ≡ unwritable mark d blank
 unmarked mark d blank e = ap (λ (m : ℕ). unwritable m d blank) (sym e)
 
-full : tie.Need-returns
-full c = ap (λ (d : ℕ). eqb d 0) c.before.before.descriptor.ensures ∙ marked _ _ _ c.if1.true
+full : tie.Need-returns-then-s-ne0
+full c = ap (λ (d : ℕ). eqb d 0) c.before.before.descriptor-d.ensures ∙ marked _ _ _ c.if-s-ne0.true
 
-described : tie.Need-returns-2
+described : tie.Need-returns-then-d-ne0
 described c =
-    let some = ne_eqb _ 0 (λ e. c.if2.true (c.before.before.before.descriptor.ensures ∙ e)) in
+    let some = ne_eqb _ 0 (λ e. c.if-d-ne0.true (c.before.before.before.descriptor-d.ensures ∙ e)) in
     let blank = all_zero c.before.before.before.before.args.row in
-    ap (λ (t : Bool). not (t && blank)) (sym some) ∙ unmarked _ _ _ c.before.if1.false
+    ap (λ (t : Bool). not (t && blank)) (sym some) ∙ unmarked _ _ _ c.before.if-s-ne0.false
 
-written : tie.Need-returns-3
+written : tie.Need-returns
 written c =
     let past = c.before in
-    let none = eq-eqb _ 0 (sym past.before.before.before.descriptor.ensures ∙ past.if2.false) in
-    ap₂ (λ (t blank : Bool). not (t && blank)) (sym none) c.is-blank.ensures ∙ unmarked _ _ _ past.before.if1.false
+    let none = eq-eqb _ 0 (sym past.before.before.before.descriptor-d.ensures ∙ past.if-d-ne0.false) in
+    ap₂ (λ (t blank : Bool). not (t && blank)) (sym none) c.is_blank.ensures ∙ unmarked _ _ _ past.before.if-s-ne0.false
 
-pub is-unwritable-spec : {M : Type 1} → statement M
-is-unwritable-spec = tie.close (tie.spec (λ c κs. search rules) full described (λ c κs. search rules) written)
+pub is_unwritable_spec : {M : Type 1} → statement M
+is_unwritable_spec = tie.close (tie.spec (λ c κs. search rules) full described (λ c κs. search rules) written)

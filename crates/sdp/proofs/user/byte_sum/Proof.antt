@@ -10,5 +10,5 @@ use Rattle.sdp.proofs.user.byte_sum.Tie as tie
 returns : tie.Need-returns
 returns c = ap (λ (s : ℕ). s % 256) c.sum.ensures ∙ sum_low 256 256 c.before.before.args.words.now
 
-pub byte-sum-spec : {M : Type 1} → statement M
-byte-sum-spec = tie.close (tie.spec (λ c κs. search rules) returns)
+pub byte_sum_spec : {M : Type 1} → statement M
+byte_sum_spec = tie.close (tie.spec (λ c κs. search rules) returns)

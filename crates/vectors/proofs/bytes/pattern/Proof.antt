@@ -10,33 +10,33 @@ use Rattle.vectors.proofs.Patterns.{one-more}
 use Rattle.vectors.proofs.bytes.pattern.Statement.{statement}
 use Rattle.vectors.proofs.bytes.pattern.Tie as tie
 
-abbrev invariant-loop : tie.invariant-loop
+abbrev invariant-loop : tie.invariant-loop-i
 invariant-loop out₀ i₀ out i = (i ≤ length out) × (length out ≡ length out₀) × ((k : ℕ) → k < i → get_or out k 0 ≡ pattern_at 256 k)
 
-abbrev decreases-loop : tie.decreases-loop
+abbrev decreases-loop : tie.decreases-loop-i
 decreases-loop out₀ i₀ out i = length out - i
 
-loop-holds : tie.Need-loop-init invariant-loop decreases-loop
+loop-holds : tie.Need-loop-i-init invariant-loop decreases-loop
 loop-holds c = omega arith
 
-loop-less : tie.Need-loop-smaller invariant-loop decreases-loop
+loop-less : tie.Need-loop-i-smaller invariant-loop decreases-loop
 loop-less c = simp length-set (omega arith)
 
-loop-again : tie.Need-loop-preserved invariant-loop decreases-loop
+loop-again : tie.Need-loop-i-preserved invariant-loop decreases-loop
 loop-again c = (
   simp length-set (omega arith),
   simp length-set (omega arith),
-  one-more 256 c.before.before.loop.out c.before.before.loop.i _ (omega arith) c.before.before.loop.invariant.2 c.pattern-at.ensures,
+  one-more 256 c.before.before.loop-i.out c.before.before.loop-i.i _ (omega arith) c.before.before.loop-i.invariant.2 c.pattern_at.ensures,
 )
 
-same_length : tie.Need-same-length invariant-loop decreases-loop
+same_length : tie.Need-shape_of-out invariant-loop decreases-loop
 same_length c = omega arith
 
 returns : tie.Need-returns invariant-loop decreases-loop
-returns c = record { size = omega arith; each = λ k h. c.before.loop.invariant.2 k (omega arith) }
+returns c = record { size = omega arith; each = λ k h. c.before.loop-i.invariant.2 k (omega arith) }
 
-pub pattern-spec : {M : Type 1} → statement M
-pattern-spec =
+pub pattern_spec : {M : Type 1} → statement M
+pattern_spec =
     tie.close
     (tie.spec
     invariant-loop

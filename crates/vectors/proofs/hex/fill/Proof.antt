@@ -7,16 +7,16 @@ use lib.ListN.{length, length-set}
 use Rattle.vectors.proofs.hex.fill.Statement.{statement}
 use Rattle.vectors.proofs.hex.fill.Tie as tie
 
-abbrev invariant-loop : tie.invariant-loop
+abbrev invariant-loop : tie.invariant-loop-i
 invariant-loop out₀ byte i₀ out i = (i ≤ length out) × (length out ≡ length out₀)
 
-abbrev decreases-loop : tie.decreases-loop
+abbrev decreases-loop : tie.decreases-loop-i
 decreases-loop out₀ byte i₀ out i = length out - i
 
-loop-less : tie.Need-loop-smaller invariant-loop decreases-loop
+loop-less : tie.Need-loop-i-smaller invariant-loop decreases-loop
 loop-less c = simp length-set (omega arith)
 
-loop-again : tie.Need-loop-preserved invariant-loop decreases-loop
+loop-again : tie.Need-loop-i-preserved invariant-loop decreases-loop
 loop-again c = simp length-set (omega arith)
 
 pub fill_spec : {M : Type 1} → statement M

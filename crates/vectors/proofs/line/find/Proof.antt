@@ -9,29 +9,29 @@ use lib.ListN.{length, get_or}
 use Rattle.vectors.proofs.line.find.Statement.{statement}
 use Rattle.vectors.proofs.line.find.Tie as tie
 
-abbrev invariant-loop : tie.invariant-loop
+abbrev invariant-loop : tie.invariant-loop-i
 invariant-loop s from byte i₀ i =
     (from ≤ i) × (from ≤ length s → i ≤ length s) × ((k : ℕ) → k < i → from ≤ k → get_or s k 0 ≡ byte → ⊥)
 
-abbrev decreases-loop : tie.decreases-loop
+abbrev decreases-loop : tie.decreases-loop-i
 decreases-loop s from byte i₀ i = length s - i
 
-loop-holds : tie.Need-loop-init invariant-loop decreases-loop
+loop-holds : tie.Need-loop-i-init invariant-loop decreases-loop
 loop-holds c = omega arith
 
-returns : tie.Need-returns invariant-loop decreases-loop
+returns : tie.Need-returns-then-s-i invariant-loop decreases-loop
 returns c =
-    let inv = c.before.before.before.loop.invariant in
-    record { within = omega arith; onward = λ _. inv.0; passed = inv.2; found = λ _. c.if1.true }
+    let inv = c.before.before.before.loop-i.invariant in
+    record { within = omega arith; onward = λ _. inv.0; passed = inv.2; found = λ _. c.if-s-i.true }
 
-loop-again : tie.Need-loop-preserved invariant-loop decreases-loop
+loop-again : tie.Need-loop-i-preserved invariant-loop decreases-loop
 loop-again c =
-    let inv = c.before.before.before.loop.invariant in
-    (omega arith, λ _. omega arith, below_more _ _ inv.2 (λ _. c.if1.false))
+    let inv = c.before.before.before.loop-i.invariant in
+    (omega arith, λ _. omega arith, below_more _ _ inv.2 (λ _. c.if-s-i.false))
 
-returns-2 : tie.Need-returns-2 invariant-loop decreases-loop
+returns-2 : tie.Need-returns invariant-loop decreases-loop
 returns-2 c =
-    let inv = c.before.loop.invariant in
+    let inv = c.before.loop-i.invariant in
     record { within = omega arith; onward = λ h. h; passed = λ k h. inv.2 k (omega arith); found = λ h. omega arith }
 
 pub find_spec : {M : Type 1} → statement M

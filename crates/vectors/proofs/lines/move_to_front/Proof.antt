@@ -8,17 +8,17 @@ use lib.ListN.{length, length-set}
 use Rattle.vectors.proofs.lines.move_to_front.Statement.{statement}
 use Rattle.vectors.proofs.lines.move_to_front.Tie as tie
 
-abbrev invariant-loop : tie.invariant-loop
+abbrev invariant-loop : tie.invariant-loop-i
 invariant-loop buf₀ from to i₀ buf i = (from ≤ i) × (i ≤ to) × (length buf ≡ length buf₀)
 
-abbrev decreases-loop : tie.decreases-loop
+abbrev decreases-loop : tie.decreases-loop-i
 decreases-loop buf₀ from to i₀ buf i = to - i
 
-loop-again : tie.Need-loop-preserved invariant-loop decreases-loop
+loop-again : tie.Need-loop-i-preserved invariant-loop decreases-loop
 loop-again c = simp length-set (omega arith)
 
-pub move-to-front-spec : {M : Type 1} → statement M
-move-to-front-spec =
+pub move_to_front_spec : {M : Type 1} → statement M
+move_to_front_spec =
     tie.close
     (tie.spec
     invariant-loop
