@@ -29,7 +29,7 @@ use Rattle.film_picture.proofs.picture.Statement.{statement}
 use Rattle.film_picture.proofs.picture.Tie as tie
 
 -- the verdict, and what the struct is by its type
-module _ (c : tie.After-told) where
+module _ (c : tie.After-told-refusal) where
   abbrev start : tie.Start
   start = c.before.before.before.before
 
@@ -39,35 +39,35 @@ module _ (c : tie.After-told) where
   abbrev verdict : Verdict
   verdict = picture_verdict start.args.how unit
 
-  refusal-told : c.told.result ≡ refusal_of verdict
-  refusal-told = c.told.ensures ∙ ap refusal_of c.before.judge.ensures
+  refusal-told : c.told-refusal.result ≡ refusal_of verdict
+  refusal-told = c.told-refusal.ensures ∙ ap refusal_of c.before.judge.ensures
 
   typed : Typed unit
   typed =
       let known = c.before.before in
-      lent-typed start.args.v start.args.records.now known.known.ensures known.before.known-arg.given.0
+      lent-typed start.args.v start.args.records.now known.known.ensures known.before.known-arg-1.given
 
-  accepted : c.told.result.number ≡ 0 → verdict ≡ Accepted
+  accepted : c.told-refusal.result.number ≡ 0 → verdict ≡ Accepted
   accepted e = told-accepted verdict (ap (λ (r : Refusal). r.number) (sym refusal-told) ∙ e)
 
-  few : c.told.result.number ≡ 0 → unit.n ≤ 31
+  few : c.told-refusal.result.number ≡ 0 → unit.n ≤ 31
   few e = (value-whole unit (accepted-checked start.args.how unit (accepted e)).value).few
 
-refused : tie.Need-returns
+refused : tie.Need-returns-then-refusal-ne0
 refused c =
     let told = c.before.before in
     let args = (start told).args in
     record {
       typed = typed told;
-      answer = refuses (verdict told) told.told.result args.state (picture_events args.how (held (unit told)).records) (refusal-told told) c.if1.true;
+      answer = refuses (verdict told) told.told-refusal.result args.state (picture_events args.how (held (unit told)).records) (refusal-told told) c.if-refusal-ne0.true;
     }
 
 -- the fields that were shown
-module _ (c : tie.After-add2) where
-  abbrev from : tie.After-told
+module _ (c : tie.After-add-sent) where
+  abbrev from : tie.After-told-refusal
   from = c.before.before.before.before.before.before
 
-  abbrev shows : tie.After-show2
+  abbrev shows : tie.After-show-two
   shows = c.before.before
 
   abbrev s : State
@@ -79,60 +79,60 @@ module _ (c : tie.After-add2) where
   abbrev rs : List Record
   rs = (held (unit from)).records
 
-  one : shows.before.show.result ≡ first_shown s how rs
-  one = shows.before.show.ensures
+  one : shows.before.show-one.result ≡ first_shown s how rs
+  one = shows.before.show-one.ensures
 
-  two : shows.show2.result ≡ second_shown s how rs
-  two = shows.show2.ensures ∙ ap (λ (p : Passing). shown_field p.state 2 how rs) one
+  two : shows.show-two.result ≡ second_shown s how rs
+  two = shows.show-two.ensures ∙ ap (λ (p : Passing). shown_field p.state 2 how rs) one
 
-  both : c.add2.result ≡ two_sent s how rs
+  both : c.add-sent.result ≡ two_sent s how rs
   both =
-      c.add2.ensures
-      ∙ ap (λ (x : Sent). added x shows.show2.result.gone) c.before.add.ensures
+      c.add-sent.ensures
+      ∙ ap (λ (x : Sent). added x shows.show-two.result.gone) c.before.add.ensures
       ∙ ap₂ (λ (p q : Passing). added (added None p.gone) q.gone) one two
 
-two_fields : tie.Need-returns-3
+two_fields : tie.Need-returns
 two_fields c =
     let added = c.before in
     let told = from added in
-    let right = two-shown (s added) (how added) (rs added) c.if2.false in
+    let right = two-shown (s added) (how added) (rs added) c.if-how.false in
     record {
       typed = typed told;
       answer =
-          accepts (verdict told) told.told.result (s added) (picture_events (how added) (rs added)) added.add2.result (shows added).show2.result.state
-          (refusal-told told) (accepted told (shows added).before.before.if1.false)
+          accepts (verdict told) told.told-refusal.result (s added) (picture_events (how added) (rs added)) added.add-sent.result (shows added).show-two.result.state
+          (refusal-told told) (accepted told (shows added).before.before.if-refusal-ne0.false)
           (ap units_sent (both added) ∙ right.0) (ap (λ (p : Passing). p.state) (two added) ∙ right.1);
     }
 
-three-fields : tie.Need-returns-2
+three-fields : tie.Need-returns-then-how
 three-fields c =
     let third = c.before in
     let added = third.before.before in
     let told = from added in
-    let right = three-shown (s added) (how added) (rs added) third.before.if2.true in
-    let three : third.show3.result ≡ third_shown (s added) (how added) (rs added) = third.show3.ensures ∙ ap (λ (p : Passing). shown_field p.state 3 (how added) (rs added)) (two added) in
+    let right = three-shown (s added) (how added) (rs added) third.before.if-how.true in
+    let three : third.show-three.result ≡ third_shown (s added) (how added) (rs added) = third.show-three.ensures ∙ ap (λ (p : Passing). shown_field p.state 3 (how added) (rs added)) (two added) in
     record {
       typed = typed told;
       answer =
-          accepts (verdict told) told.told.result (s added) (picture_events (how added) (rs added)) c.add3.result third.show3.result.state
-          (refusal-told told) (accepted told (shows added).before.before.if1.false)
-          (ap units_sent (c.add3.ensures ∙ ap₂ (λ (x : Sent) (p : Passing). Inside·added x p.gone) (both added) three) ∙ right.0)
+          accepts (verdict told) told.told-refusal.result (s added) (picture_events (how added) (rs added)) c.add-all.result third.show-three.result.state
+          (refusal-told told) (accepted told (shows added).before.before.if-refusal-ne0.false)
+          (ap units_sent (c.add-all.ensures ∙ ap₂ (λ (x : Sent) (p : Passing). Inside·added x p.gone) (both added) three) ∙ right.0)
           (ap (λ (p : Passing). p.state) three ∙ right.1);
     }
 
-pub picture-spec : {M : Type 1} → statement M
-picture-spec =
+pub picture_spec : {M : Type 1} → statement M
+picture_spec =
     tie.close
     (tie.spec
     (λ c κs. search rules)
     (λ c κs. search rules)
     (λ c κs. search rules)
     refused
-    (λ c κs. few c.before.before c.if1.false)
-    (λ c κs. few c.before.before.before c.before.if1.false)
+    (λ c κs. few c.before.before c.if-refusal-ne0.false)
+    (λ c κs. few c.before.before.before c.before.if-refusal-ne0.false)
     (λ c κs. search rules)
     (λ c κs. search rules)
-    (λ c κs. let added = c.before in few (from added) (shows added).before.before.if1.false)
+    (λ c κs. let added = c.before in few (from added) (shows added).before.before.if-refusal-ne0.false)
     (λ c κs. search rules)
     three-fields
     two_fields)

@@ -15,67 +15,67 @@ use Rattle.film.proofs.Records.{records_of, record-here, records-over, Left, lef
 use Rattle.film_picture.proofs.slot_of.Statement.{statement}
 use Rattle.film_picture.proofs.slot_of.Tie as tie
 
-abbrev invariant-loop : tie.invariant-loop
+abbrev invariant-loop : tie.invariant-loop-i
 invariant-loop line-offset field v records i₀ i = Left (slot_from line-offset field.0) (records_of v records) i
 
-abbrev decreases-loop : tie.decreases-loop
+abbrev decreases-loop : tie.decreases-loop-i
 decreases-loop line-offset field v records i₀ i = v.n - i
 
 -- all records
-module _ (c : tie.At-loop invariant-loop decreases-loop) where
+module _ (c : tie.At-loop-i invariant-loop decreases-loop) where
   abbrev all : List Record
   all = records_of c.before.args.v c.before.args.records.now
 
 -- a turn of the loop
-module _ (c : tie.After-record-in invariant-loop decreases-loop) where
-  abbrev head : tie.At-loop invariant-loop decreases-loop
+module _ (c : tie.After-record_in-record invariant-loop decreases-loop) where
+  abbrev head : tie.At-loop-i invariant-loop decreases-loop
   head = c.before.before.before
 
   abbrev r : Record
-  r = c.record-in.result
+  r = c.record_in-record.result
 
-  here : drop head.loop.i (all head) ≡ r ∷ drop (head.loop.i + 1) (all head)
+  here : drop head.loop-i.i (all head) ≡ r ∷ drop (head.loop-i.i + 1) (all head)
   here =
       let start = head.before in
-      record-here start.args.v start.args.records.now head.loop.i r start.pre c.before.if1.true c.record-in.ensures
+      record-here start.args.v start.args.records.now head.loop-i.i r start.requires c.before.loop-i-test.true c.record_in-record.ensures
 
-over : (c : tie.Else1 invariant-loop decreases-loop) → drop c.before.before.loop.i (all c.before.before) ≡ []
+over : (c : tie.After-loop-i invariant-loop decreases-loop) → drop c.before.before.loop-i.i (all c.before.before) ≡ []
 over c =
     let head = c.before.before in
     let start = head.before in
-    records-over start.args.v start.args.records.now head.loop.i start.requires c.if1.false
+    records-over start.args.v start.args.records.now head.loop-i.i start.requires c.loop-i-test.false
 
-loop-holds : tie.Need-loop-init invariant-loop decreases-loop
-loop-holds c = left-first (slot_from c.args.line-offset c.args.field.0) (records_of c.args.v c.args.records.now)
+loop-holds : tie.Need-loop-i-init invariant-loop decreases-loop
+loop-holds c = left-first (slot_from c.args.line_offset c.args.field.0) (records_of c.args.v c.args.records.now)
 
-found : tie.Need-returns invariant-loop decreases-loop
+found : tie.Need-returns-then-record-line_offset invariant-loop decreases-loop
 found c =
     let turn = c.before.before.before.before.before in
-    let loop = (head turn).loop in
+    let loop = (head turn).loop-i in
     let args = (head turn).before.args in
     let rest = drop (loop.i + 1) (all (head turn)) in
     sym
-    (left_here (slot_from args.line-offset args.field.0) (all (head turn)) loop.i (r turn) rest _ loop.inv (here turn)
-    (slot-here args.line-offset args.field.0 (r turn) rest c.before.before.if2.true (eqb-true _ _ c.if3.true)))
+    (left_here (slot_from args.line_offset args.field.0) (all (head turn)) loop.i (r turn) rest _ loop.invariant (here turn)
+    (slot-here args.line_offset args.field.0 (r turn) rest c.before.before.if-record-field.true c.if-record-line_offset.true))
 
-loop-again : tie.Need-loop-preserved invariant-loop decreases-loop
+loop-again : tie.Need-loop-i-preserved invariant-loop decreases-loop
 loop-again c =
     let turn = c.before.before.before in
-    let loop = (head turn).loop in
+    let loop = (head turn).loop-i in
     let args = (head turn).before.args in
     let rest = drop (loop.i + 1) (all (head turn)) in
-    left-next (slot_from args.line-offset args.field.0) (all (head turn)) loop.i (r turn) loop.inv (here turn)
-    (slot_next args.line-offset args.field.0 (r turn) rest
-    (⊎_elim {C = (field_of (r turn) ≡ args.field.0 → ⊥) ⊎ ((r turn).line_offset ≡ args.line-offset → ⊥)}
-    (λ line. inr (λ e. true≢false (sym (eq-eqb _ _ e) ∙ line.2.left))) (λ field. inl field.left) c.if2.branch))
+    left-next (slot_from args.line_offset args.field.0) (all (head turn)) loop.i (r turn) loop.invariant (here turn)
+    (slot_next args.line_offset args.field.0 (r turn) rest
+    (⊎_elim {C = (field_of (r turn) ≡ args.field.0 → ⊥) ⊎ ((r turn).line_offset ≡ args.line_offset → ⊥)}
+    (λ line. inr line.1) (λ field. inl field) c.else-record-field.either))
 
-none : tie.Need-returns-2 invariant-loop decreases-loop
+none : tie.Need-returns invariant-loop decreases-loop
 none c =
     let head = c.before.before in
-    sym (left_end (slot_from head.before.args.line-offset head.before.args.field.0) (all head) head.loop.i head.loop.invariant (over c))
+    sym (left_end (slot_from head.before.args.line_offset head.before.args.field.0) (all head) head.loop-i.i head.loop-i.invariant (over c))
 
-pub slot-of-spec : {M : Type 1} → statement M
-slot-of-spec =
+pub slot_of_spec : {M : Type 1} → statement M
+slot_of_spec =
     tie.close
     (tie.spec
     invariant-loop
