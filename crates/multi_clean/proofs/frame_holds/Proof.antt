@@ -5,28 +5,22 @@ use mathlib.Core.Bool.{false≢true}
 use Rattle.multi_clean.proofs.frame_holds.Statement.{statement}
 use Rattle.multi_clean.proofs.frame_holds.Tie as tie
 
-right : tie.Need-returns-8
+right : tie.Need-returns
 right c is =
-    let seven = c.before in
-    let six = seven.before.before in
-    let five = six.before.before in
-    let four = five.before.before in
-    let three = four.before.before in
-    let two = three.before.before in
-    let words = two.before.before.args.words.now in
+    let words = c.args.words.now in
     record {
-      long = two.before.if1.false;
-      some = two.if2.false;
-      flag0 = three.if3.false;
-      flag1 = four.if4.false;
-      flag2 = five.if5.false;
-      did = six.if6.false;
-      sdid = seven.if7.false;
+      long = c.if-n-gt-MAX_WORDS.false;
+      some = c.if-n-le-MIN_WORDS.false;
+      flag0 = c.if-words-ne0.false;
+      flag1 = c.if-words-ne1023.false;
+      flag2 = c.if-words-ne1023-2.false;
+      did = c.if-words-ne323.false;
+      sdid = c.if-words-ne515.false;
       dc = eqb-true (get_or words 5 0 % 256) (length words - 7) is;
     }
 
-pub frame-holds-spec : {M : Type 1} → statement M
-frame-holds-spec =
+pub frame_holds_spec : {M : Type 1} → statement M
+frame_holds_spec =
     tie.close
     (tie.spec
     (λ c is. absurd (false≢true is))

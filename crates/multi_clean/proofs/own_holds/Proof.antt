@@ -8,23 +8,19 @@ use Rattle.multi.specs.Order.{only_if, bytes_in, ncs_at}
 use Rattle.multi_clean.proofs.own_holds.Statement.{statement}
 use Rattle.multi_clean.proofs.own_holds.Tie as tie
 
-subtitles : tie.Need-returns
+subtitles : tie.Need-returns-then-is_subtitling
 subtitles c is at =
-    let then = c.before.before in
-    let call = then.before in
-    let start = call.before.before.before.before.before in
-    let u = start.args.rest.now in
-    let low : start.args.user % 256 ≡ sum (part 4 (ncs_at u) u) % 256 = omega (arith, start.requires.1) in
-    ap (λ (t : Bool). only_if t (user_verdict (at + 3) (bytes_in u))) (sym call.is-subtitling.ensures ∙ then.if1.true) ∙ c.holds.ensures low is (at + 3)
+    let u = c.args.rest.now in
+    let low : c.args.user % 256 ≡ sum (part 4 (ncs_at u) u) % 256 = omega (arith, c.requires.1) in
+    ap (λ (t : Bool). only_if t (user_verdict (at + 3) (bytes_in u))) (sym c.is_subtitling.ensures ∙ c.if-is_subtitling.true) ∙ c.holds.ensures low is (at + 3)
 
-carried : tie.Need-returns-2
+carried : tie.Need-returns
 carried c is at =
-    let call = c.before in
-    let u = call.before.before.before.before.before.args.rest.now in
-    ap (λ (t : Bool). only_if t (user_verdict (at + 3) (bytes_in u))) (sym call.is-subtitling.ensures ∙ c.if1.false)
+    let u = c.args.rest.now in
+    ap (λ (t : Bool). only_if t (user_verdict (at + 3) (bytes_in u))) (sym c.is_subtitling.ensures ∙ c.if-is_subtitling.false)
 
-pub own-holds-spec : {M : Type 1} → statement M
-own-holds-spec =
+pub own_holds_spec : {M : Type 1} → statement M
+own_holds_spec =
     tie.close
     (tie.spec
     (λ c. search rules)

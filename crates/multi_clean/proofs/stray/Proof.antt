@@ -8,21 +8,21 @@ use Rattle.multi_clean.proofs.stray.Statement.{statement}
 use Rattle.multi_clean.proofs.stray.Tie as tie
 
 -- b15 to b8 and a bit fit 16 bits
-add-fits : tie.Need-overflow-add-if1
-add-fits c = let w = c.before.args.w in omega (arith, c.parity.ensures, parity-low (byte_of w))
+add-fits : tie.Need-overflow_add-w
+add-fits c = let w = c.args.w in omega (arith, c.parity.ensures, parity-low (byte_of w))
 
-right : tie.Need-returns
+right : tie.Need-returns-then-w-parity-eq2
 unfolding stray
 right c =
-    let w = c.before.before.args.w in
-    let two : w / 256 + parity_of (byte_of w) ≡ 2 = omega (arith, c.if1.true, c.before.parity.ensures) in
+    let w = c.args.w in
+    let two : w / 256 + parity_of (byte_of w) ≡ 2 = omega (arith, c.if-w-parity-eq2.true, c.parity.ensures) in
     sym (ap mark (eq-eqb (w / 256 + parity_of (byte_of w)) 2 two))
 
-wrong : tie.Need-returns-2
+wrong : tie.Need-returns
 unfolding stray
 wrong c =
-    let w = c.before.before.args.w in
-    sym (ap mark (ne_eqb (w / 256 + parity_of (byte_of w)) 2 (λ e. c.if1.false (ap (λ k. w / 256 + k) c.before.parity.ensures ∙ e))))
+    let w = c.args.w in
+    sym (ap mark (ne_eqb (w / 256 + parity_of (byte_of w)) 2 (λ e. c.if-w-parity-eq2.false (ap (λ k. w / 256 + k) c.parity.ensures ∙ e))))
 
-pub stray-spec : {M : Type 1} → statement M
-stray-spec = tie.close (tie.spec (λ c κs. search rules) add-fits right wrong)
+pub stray_spec : {M : Type 1} → statement M
+stray_spec = tie.close (tie.spec (λ c κs. search rules) add-fits right wrong)
