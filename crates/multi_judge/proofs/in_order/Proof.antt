@@ -26,84 +26,82 @@ split s =
     ∙ ap (λ (v : Verdict). and_then v (and_then (inners_verdict 7 (inners_in s)) (sum_check s))) (outer-halves s)
     ∙ and_then-assoc (outer_form s) (outer_header s) (and_then (inners_verdict 7 (inners_in s)) (sum_check s))
 
-form : tie.Need-returns
+form : tie.Need-returns-in-Refused
 form c =
-    let call = c.before.before in
-    let s = call.before.before.args.words.now in
-    refused-first _ call.judge-form.ensures c.enum_told.given.1 ∙ sym (split s)
+    let s = c.args.words.now in
+    refused-first _ c.judge_form-form.ensures c.in-Refused.is ∙ sym (split s)
 
-judge-header-requires : tie.Need-judge-header-requires
+judge-header-requires : tie.Need-judge_header-header-requires
 judge-header-requires c κs =
-    let call = c.before.before in
-    form-short call.before.before.args.words.now (sym call.judge-form.ensures ∙ c.enum-told2.given.1)
+    form-short c.args.words.now (sym c.judge_form-form.ensures ∙ c.in_default.is)
 
 -- the form is accepted, and the header is judged
-module _ (c : tie.After-judge-header) where
-  abbrev past : tie.After-enum-told2
+module _ (c : tie.After-judge_header-header) where
+  abbrev past : tie.In_default
   past = c.before
 
   abbrev s : List ℕ
-  s = past.before.before.before.before.args.words.now
+  s = past.args.words.now
 
   abbrev formed : outer_form s ≡ Accepted
-  formed = sym past.before.before.judge-form.ensures ∙ past.enum-told2.given.1
+  formed = sym past.judge_form-form.ensures ∙ past.in_default.is
 
   headed : multi_verdict s ≡ and_then (outer_header s) (and_then (inners_verdict 7 (inners_in s)) (sum_check s))
-  headed = split s ∙ accepted-first _ past.before.before.judge-form.ensures past.enum-told2.given.1
+  headed = split s ∙ accepted-first _ past.judge_form-form.ensures past.in_default.is
 
-header : tie.Need-returns-2
-header c = let call = c.before.before in refused-first _ call.judge-header.ensures c.enum-told3.given.1 ∙ sym (headed call)
+header : tie.Need-returns-in-Refused-header
+header c = let call = c.before in refused-first _ call.judge_header-header.ensures c.in-Refused-header.is ∙ sym (headed call)
 
 -- both are accepted
-module _ (c : tie.After-enum-told4) where
-  abbrev call : tie.After-judge-header
-  call = c.before.before
+module _ (c : tie.In_default-header) where
+  abbrev call : tie.After-judge_header-header
+  call = c.before
 
   outer : Outer (s call)
   outer =
       accepted-outer (s call)
-      (outer-halves (s call) ∙ and_then-accepted (outer_form (s call)) (outer_header (s call)) (formed call) (sym call.judge-header.ensures ∙ c.enum-told4.given.1))
+      (outer-halves (s call) ∙ and_then-accepted (outer_form (s call)) (outer_header (s call)) (formed call) (sym call.judge_header-header.ensures ∙ c.in_default-header.is))
 
   left : multi_verdict (s call) ≡ and_then (inners_verdict 7 (inners_in (s call))) (sum_check (s call))
-  left = headed call ∙ accepted-first _ call.judge-header.ensures c.enum-told4.given.1
+  left = headed call ∙ accepted-first _ call.judge_header-header.ensures c.in_default-header.is
 
-inners : tie.Need-returns-3
+inners : tie.Need-returns-in-Refused-inners
 inners c =
-    let run = c.before.before in
+    let run = c.before in
     let past = run.before.before in
-    refused-first _ run.judge-inners.ensures c.enum-told5.given.1 ∙ sym (left past)
+    refused-first _ run.judge_inners-inners.ensures c.in-Refused-inners.is ∙ sym (left past)
 
 -- and so are the inner packets: CS decides
-last : (c : tie.After-enum-told6)
-    → let past = c.before.before.before.before in
+last : (c : tie.In_default-inners)
+    → let past = c.before.before.before in
     multi_verdict (s (call past)) ≡ sum_check (s (call past))
 last c =
-    let run = c.before.before in
+    let run = c.before in
     let past = run.before.before in
-    left past ∙ accepted-first _ run.judge-inners.ensures c.enum-told6.given.1
+    left past ∙ accepted-first _ run.judge_inners-inners.ensures c.in_default-inners.is
 
-wrong : tie.Need-returns-4
+wrong : tie.Need-returns-then-words-n
 wrong c =
     let sum = c.before in
-    sym (last sum.before.before.before ∙ simp (ne_eqb _ _ (λ e. c.if1.true (e ∙ sym sum.checksum.ensures))))
+    sym (last sum.before.before.before ∙ simp (ne_eqb _ _ (λ e. c.if-words-n.true (e ∙ sym sum.checksum.ensures))))
 
-accepted : tie.Need-returns-5
+accepted : tie.Need-returns
 accepted c =
     let sum = c.before in
-    sym (last sum.before.before.before ∙ simp (eq-eqb _ _ (c.if1.false ∙ sum.checksum.ensures)))
+    sym (last sum.before.before.before ∙ simp (eq-eqb _ _ (c.if-words-n.false ∙ sum.checksum.ensures)))
 
-long : (c : tie.After-enum-told4) → 8 ≤ length (s (call c))
+long : (c : tie.In_default-header) → 8 ≤ length (s (call c))
 long c = (outer c).short
 
-judge-inners-requires : tie.Need-judge-inners-requires
+judge-inners-requires : tie.Need-judge_inners-inners-requires
 judge-inners-requires c κs =
     let past = c.before in
     let words = s (call past) in
     let count = length_part words 7 (length words - 1) (omega (arith, long past)) in
     omega (arith, count, (outer past).long)
 
-pub in-order-spec : {M : Type 1} → statement M
-in-order-spec =
+pub in_order_spec : {M : Type 1} → statement M
+in_order_spec =
     tie.close
     (tie.spec
     (λ c κs. search rules)
@@ -123,14 +121,14 @@ in-order-spec =
     (λ c. search rules)
     inners
     (λ c. search rules)
+    (λ c. omega (arith, long c.before.before.before))
+    (λ c. omega (arith, long c.before.before.before))
     (λ c. omega (arith, long c.before.before.before.before))
     (λ c. omega (arith, long c.before.before.before.before))
-    (λ c. omega (arith, long c.before.before.before.before.before))
-    (λ c. omega (arith, long c.before.before.before.before.before))
-    (λ c. omega (arith, long c.before.before.before.before.before))
-    (λ c. omega (arith, long c.before.before.before.before.before))
-    (λ c. omega (arith, long c.before.before.before.before.before))
+    (λ c. omega (arith, long c.before.before.before.before))
+    (λ c. omega (arith, long c.before.before.before.before))
+    (λ c. omega (arith, long c.before.before.before.before))
     (λ c κs. search rules)
-    (λ c. omega (arith, long c.before.before.before.before.before.before.before.before))
+    (λ c. omega (arith, long c.before.before.before.before.before.before.before))
     wrong
     accepted)

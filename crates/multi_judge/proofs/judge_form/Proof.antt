@@ -15,72 +15,67 @@ use Rattle.multi.specs.Inside.{outer_form}
 use Rattle.multi_judge.proofs.judge_form.Statement.{statement}
 use Rattle.multi_judge.proofs.judge_form.Tie as tie
 
-long : tie.Need-returns
+long : tie.Need-returns-then-n-gt-MAX_WORDS
 unfolding outer_form
-long c = simp (lt-ltb _ _ c.if1.true)
+long c = simp (lt-ltb _ _ c.if-n-gt-MAX_WORDS.true)
 
-short : tie.Need-returns-2
+short : tie.Need-returns-then-n-lt-MIN_WORDS
 unfolding outer_form
-short c = simp (le-ltb _ _ c.before.if1.false, lt-ltb _ _ c.if2.true)
+short c = simp (le-ltb _ _ c.if-n-gt-MAX_WORDS.false, lt-ltb _ _ c.if-n-lt-MIN_WORDS.true)
 
-flag0 : tie.Need-returns-3
+flag0 : tie.Need-returns-then-words-ne0
 unfolding outer_form
-flag0 c = simp (le-ltb _ _ c.before.before.before.if1.false, le-ltb _ _ c.before.before.if2.false, ne_eqb _ _ c.if3.true)
+flag0 c = simp (le-ltb _ _ c.if-n-gt-MAX_WORDS.false, le-ltb _ _ c.if-n-lt-MIN_WORDS.false, ne_eqb _ _ c.if-words-ne0.true)
 
-flag1 : tie.Need-returns-4
+flag1 : tie.Need-returns-then-words-ne1023
 unfolding outer_form
 flag1 c =
-    let three = c.before.before in
     simp (
-      le-ltb _ _ three.before.before.before.if1.false,
-      le-ltb _ _ three.before.before.if2.false,
-      eq-eqb _ _ three.if3.false,
-      ne_eqb _ _ c.if4.true,
+      le-ltb _ _ c.if-n-gt-MAX_WORDS.false,
+      le-ltb _ _ c.if-n-lt-MIN_WORDS.false,
+      eq-eqb _ _ c.if-words-ne0.false,
+      ne_eqb _ _ c.if-words-ne1023.true,
     )
 
-flag2 : tie.Need-returns-5
+flag2 : tie.Need-returns-then-words-ne1023-2
 unfolding outer_form
 flag2 c =
-    let four = c.before.before in
-    let three = four.before.before in
     simp (
-      le-ltb _ _ three.before.before.before.if1.false,
-      le-ltb _ _ three.before.before.if2.false,
-      eq-eqb _ _ three.if3.false,
-      eq-eqb _ _ four.if4.false,
-      ne_eqb _ _ c.if5.true,
+      le-ltb _ _ c.if-n-gt-MAX_WORDS.false,
+      le-ltb _ _ c.if-n-lt-MIN_WORDS.false,
+      eq-eqb _ _ c.if-words-ne0.false,
+      eq-eqb _ _ c.if-words-ne1023.false,
+      ne_eqb _ _ c.if-words-ne1023-2.true,
     )
 
 -- past the flag, the words decide, then CS
-passed : (c : tie.Else5)
-    → let s = c.before.before.before.before.before.before.before.before.before.args.words.now in
+passed : (c : tie.Else-words-ne1023-2)
+    → let s = c.args.words.now in
     outer_form s ≡ and_then (words_verdict 3 (part 3 7 s)) (and_then (sum_verdict (length s - 1) (last_word s)) Accepted)
 unfolding outer_form
 passed c =
-    let four = c.before.before in
-    let three = four.before.before in
     simp (
-      le-ltb _ _ three.before.before.before.if1.false,
-      le-ltb _ _ three.before.before.if2.false,
-      eq-eqb _ _ three.if3.false,
-      eq-eqb _ _ four.if4.false,
-      eq-eqb _ _ c.if5.false,
+      le-ltb _ _ c.if-n-gt-MAX_WORDS.false,
+      le-ltb _ _ c.if-n-lt-MIN_WORDS.false,
+      eq-eqb _ _ c.if-words-ne0.false,
+      eq-eqb _ _ c.if-words-ne1023.false,
+      eq-eqb _ _ c.if-words-ne1023-2.false,
     )
 
-word : tie.Need-returns-6
+word : tie.Need-returns-in-Refused
 word c =
-    let judged = c.before.before in
-    refused-first _ judged.judge-words.ensures c.enum_told.given.1 ∙ sym (passed judged.before)
+    let judged = c.before in
+    refused-first _ judged.judge_words-verdict.ensures c.in-Refused.is ∙ sym (passed judged.before)
 
-last : tie.Need-returns-7
+last : tie.Need-returns
 last c =
     let past = c.before.before in
-    let judged = past.before.before in
+    let judged = past.before in
     sym
-    (passed judged.before ∙ accepted-first _ judged.judge-words.ensures past.enum-told2.given.1 ∙ and_then-last _ ∙ sym c.judge-sum.ensures)
+    (passed judged.before ∙ accepted-first _ judged.judge_words-verdict.ensures past.in_default.is ∙ and_then-last _ ∙ sym c.judge_sum.ensures)
 
-pub judge-form-spec : {M : Type 1} → statement M
-judge-form-spec =
+pub judge_form_spec : {M : Type 1} → statement M
+judge_form_spec =
     tie.close
     (tie.spec
     long

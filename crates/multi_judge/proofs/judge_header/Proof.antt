@@ -6,34 +6,32 @@ use Rattle.multi.specs.Inside.{outer_header}
 use Rattle.multi_judge.proofs.judge_header.Statement.{statement}
 use Rattle.multi_judge.proofs.judge_header.Tie as tie
 
-did : tie.Need-returns
+did : tie.Need-returns-then-words-ne323
 unfolding outer_header
-did c = simp (ne_eqb _ _ c.if1.true)
+did c = simp (ne_eqb _ _ c.if-words-ne323.true)
 
-sdid : tie.Need-returns-2
+sdid : tie.Need-returns-then-words-ne515
 unfolding outer_header
-sdid c = simp (eq-eqb _ _ c.before.before.if1.false, ne_eqb _ _ c.if2.true)
+sdid c = simp (eq-eqb _ _ c.if-words-ne323.false, ne_eqb _ _ c.if-words-ne515.true)
 
-dc : tie.Need-returns-3
+dc : tie.Need-returns-then-words-n
 unfolding outer_header
-dc c = simp (eq-eqb _ _ c.before.before.before.before.if1.false, eq-eqb _ _ c.before.before.if2.false, ne_eqb _ _ c.if3.true)
+dc c = simp (eq-eqb _ _ c.if-words-ne323.false, eq-eqb _ _ c.if-words-ne515.false, ne_eqb _ _ c.if-words-n.true)
 
-none : tie.Need-returns-4
+none : tie.Need-returns-then-n-eq-MIN_WORDS
 unfolding outer_header
 none c =
-    let count = c.before in
     simp
-    (eq-eqb _ _ count.before.before.before.before.if1.false, eq-eqb _ _ count.before.before.if2.false, eq-eqb _ _ count.if3.false, eq-eqb _ _ c.if4.true)
+    (eq-eqb _ _ c.if-words-ne323.false, eq-eqb _ _ c.if-words-ne515.false, eq-eqb _ _ c.if-words-n.false, eq-eqb _ _ c.if-n-eq-MIN_WORDS.true)
 
-accepted : tie.Need-returns-5
+accepted : tie.Need-returns
 unfolding outer_header
 accepted c =
-    let count = c.before in
     simp
-    (eq-eqb _ _ count.before.before.before.before.if1.false, eq-eqb _ _ count.before.before.if2.false, eq-eqb _ _ count.if3.false, ne_eqb _ _ c.if4.false)
+    (eq-eqb _ _ c.if-words-ne323.false, eq-eqb _ _ c.if-words-ne515.false, eq-eqb _ _ c.if-words-n.false, ne_eqb _ _ c.if-n-eq-MIN_WORDS.false)
 
-pub judge-header-spec : {M : Type 1} → statement M
-judge-header-spec =
+pub judge_header_spec : {M : Type 1} → statement M
+judge_header_spec =
     tie.close
     (tie.spec
     (λ c. search rules)

@@ -7,25 +7,20 @@ use Rattle.multi.proofs.Inner.{inner-halves, form-long}
 use Rattle.multi_judge.proofs.judge_inner.Statement.{statement}
 use Rattle.multi_judge.proofs.judge_inner.Tie as tie
 
-form : tie.Need-returns
+form : tie.Need-returns-in-Refused
 form c =
-    let call = c.before.before in
-    let args = call.before.before.args in
-    refused-first _ call.judge-words.ensures c.enum_told.given.1 ∙ sym (inner-halves args.at args.rest.now)
+    let args = c.args in
+    refused-first _ c.judge_words-form.ensures c.in-Refused.is ∙ sym (inner-halves args.at args.rest.now)
 
-judge-rules-requires : tie.Need-judge-rules-requires
+judge-rules-requires : tie.Need-judge_rules-requires
 judge-rules-requires c κs =
-    let call = c.before.before in
-    let start = call.before.before in
-    let long = form-long start.args.at start.args.rest.now (sym call.judge-words.ensures ∙ c.enum-told2.given.1) in
-    (long.0, (long.1, start.requires))
+    let long = form-long c.args.at c.args.rest.now (sym c.judge_words-form.ensures ∙ c.in_default.is) in
+    (long.0, (long.1, c.requires))
 
-rules : tie.Need-returns-2
-rules c =
-    let past = c.before in
-    let call = past.before.before in
-    let args = call.before.before.args in
-    c.judge-rules.ensures ∙ sym (inner-halves args.at args.rest.now ∙ accepted-first _ call.judge-words.ensures past.enum-told2.given.1)
+ruled : tie.Need-returns
+ruled c =
+    let args = c.args in
+    c.judge_rules.ensures ∙ sym (inner-halves args.at args.rest.now ∙ accepted-first _ c.judge_words-form.ensures c.in_default.is)
 
-pub judge-inner-spec : {M : Type 1} → statement M
-judge-inner-spec = tie.close (tie.spec (λ c κs. search rules) (λ c. search rules) form (λ c. search rules) judge-rules-requires rules)
+pub judge_inner_spec : {M : Type 1} → statement M
+judge_inner_spec = tie.close (tie.spec (λ c κs. search rules) (λ c. search rules) form (λ c. search rules) judge-rules-requires ruled)

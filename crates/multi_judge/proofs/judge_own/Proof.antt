@@ -9,22 +9,19 @@ use Rattle.multi.specs.Order.{only_if, bytes_in}
 use Rattle.multi_judge.proofs.judge_own.Statement.{statement}
 use Rattle.multi_judge.proofs.judge_own.Tie as tie
 
-subtitles : tie.Need-returns
+subtitles : tie.Need-returns-then-is_subtitling
 subtitles c =
-    let then = c.before.before in
-    let call = then.before in
-    let args = call.before.before.before.before.before.args in
-    c.judge-user.ensures
-    ∙ sym (ap (λ (t : Bool). only_if t (user_verdict (args.at + 3) (bytes_in args.rest.now))) (sym call.is-subtitling.ensures ∙ then.if1.true))
+    let args = c.args in
+    c.judge_user.ensures
+    ∙ sym (ap (λ (t : Bool). only_if t (user_verdict (args.at + 3) (bytes_in args.rest.now))) (sym c.is_subtitling.ensures ∙ c.if-is_subtitling.true))
 
-carried : tie.Need-returns-2
+carried : tie.Need-returns
 carried c =
-    let call = c.before in
-    let args = call.before.before.before.before.before.args in
-    sym (ap (λ (t : Bool). only_if t (user_verdict (args.at + 3) (bytes_in args.rest.now))) (sym call.is-subtitling.ensures ∙ c.if1.false))
+    let args = c.args in
+    sym (ap (λ (t : Bool). only_if t (user_verdict (args.at + 3) (bytes_in args.rest.now))) (sym c.is_subtitling.ensures ∙ c.if-is_subtitling.false))
 
-pub judge-own-spec : {M : Type 1} → statement M
-judge-own-spec =
+pub judge_own_spec : {M : Type 1} → statement M
+judge_own_spec =
     tie.close
     (tie.spec
     (λ c. search rules)

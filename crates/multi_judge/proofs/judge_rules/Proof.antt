@@ -12,11 +12,11 @@ use Rattle.multi.proofs.Judged.{rules-line, ncs_check, rules-own}
 use Rattle.multi_judge.proofs.judge_rules.Statement.{statement}
 use Rattle.multi_judge.proofs.judge_rules.Tie as tie
 
-line : tie.Need-returns
-line c = let args = c.before.before.before.before.args in sym (rules-line args.at args.rest.now c.if1.true)
+line : tie.Need-returns-then-rest-ne0
+line c = let args = c.args in sym (rules-line args.at args.rest.now c.if-rest-ne0.true)
 
 -- the rules of subtitles are asked
-module _ (c : tie.After-judge-own) where
+module _ (c : tie.After-judge_own-own) where
   abbrev start : tie.Start
   start = c.before.before.before.before.before
 
@@ -27,29 +27,29 @@ module _ (c : tie.After-judge-own) where
   at = start.args.at
 
   here : inner_rules at u ≡ and_then (own_verdict at u) (ncs_check at u)
-  here = rules-own at u c.before.if1.false
+  here = rules-own at u c.if-rest-ne0.false
 
-refused : tie.Need-returns-2
-refused c = let call = c.before.before in refused-first _ call.judge-own.ensures c.enum_told.given.1 ∙ sym (here call)
+refused : tie.Need-returns-in-Refused
+refused c = let call = c.before in refused-first _ call.judge_own-own.ensures c.in-Refused.is ∙ sym (here call)
 
 -- and let through, so that NCS decides
-left : (c : tie.After-enum-told2) → inner_rules (at c.before.before) (u c.before.before) ≡ ncs_check (at c.before.before) (u c.before.before)
-left c = let call = c.before.before in here call ∙ accepted-first _ call.judge-own.ensures c.enum-told2.given.1
+left : (c : tie.In_default) → inner_rules (at c.before) (u c.before) ≡ ncs_check (at c.before) (u c.before)
+left c = let call = c.before in here call ∙ accepted-first _ call.judge_own-own.ensures c.in_default.is
 
-wrong : tie.Need-returns-3
+wrong : tie.Need-returns-then-rest-ncs
 wrong c =
     let sum = c.before in
     let past = sum.before.before.before in
-    sym (left past ∙ simp (ne_eqb _ _ (λ e. c.if2.true (e ∙ sym sum.checksum.ensures))))
+    sym (left past ∙ simp (ne_eqb _ _ (λ e. c.if-rest-ncs.true (e ∙ sym sum.checksum.ensures))))
 
-accepted : tie.Need-returns-4
+accepted : tie.Need-returns
 accepted c =
     let sum = c.before in
     let past = sum.before.before.before in
-    sym (left past ∙ simp (eq-eqb _ _ (c.if2.false ∙ sum.checksum.ensures)))
+    sym (left past ∙ simp (eq-eqb _ _ (c.if-rest-ncs.false ∙ sum.checksum.ensures)))
 
-pub judge-rules-spec : {M : Type 1} → statement M
-judge-rules-spec =
+pub judge_rules_spec : {M : Type 1} → statement M
+judge_rules_spec =
     tie.close
     (tie.spec
     (λ c. search rules)

@@ -15,46 +15,45 @@ use Rattle.multi.proofs.Judged.{form-short, form-overrun, form-words}
 use Rattle.multi_judge.proofs.judge_words.Statement.{statement}
 use Rattle.multi_judge.proofs.judge_words.Tie as tie
 
-short : tie.Need-returns
-short c = let args = c.before.before.args in sym (form-short args.at args.rest.now c.if1.true)
+short : tie.Need-returns-then-n-lt-HEADER_WORDS
+short c = let args = c.args in sym (form-short args.at args.rest.now c.if-n-lt-HEADER_WORDS.true)
 
-overrun : tie.Need-returns-2
+overrun : tie.Need-returns-then-n-ncs
 overrun c =
-    let four = c.before.before in
-    let args = four.before.before.args in
-    sym (form-overrun args.at args.rest.now four.if1.false c.if2.true)
+    let args = c.args in
+    sym (form-overrun args.at args.rest.now c.if-n-lt-HEADER_WORDS.false c.if-n-ncs.true)
 
 -- all its words are there, and those before NCS are judged
-module _ (c : tie.After-judge-part) where
-  abbrev long : tie.Else2
+module _ (c : tie.After-judge_part-verdict) where
+  abbrev long : tie.Else-n-ncs
   long = c.before.before
 
-  abbrev four : tie.Else1
+  abbrev four : tie.Else-n-lt-HEADER_WORDS
   four = long.before.before
 
   abbrev u : List ℕ
-  u = four.before.before.args.rest.now
+  u = four.args.rest.now
 
   abbrev at : ℕ
-  at = four.before.before.args.at
+  at = four.args.at
 
-  judged : c.judge-part.result ≡ words_verdict at (take (ncs_at u) u)
-  judged = c.judge-part.ensures ∙ (let same : ncs_at u - 0 ≡ ncs_at u = omega arith in ap (λ (k : ℕ). words_verdict at (take k u)) same)
+  judged : c.judge_part-verdict.result ≡ words_verdict at (take (ncs_at u) u)
+  judged = c.judge_part-verdict.ensures ∙ (let same : ncs_at u - 0 ≡ ncs_at u = omega arith in ap (λ (k : ℕ). words_verdict at (take k u)) same)
 
   here : inner_form at u ≡ and_then (words_verdict at (take (ncs_at u) u)) (sum_verdict (at + ncs_at u) (get_or u (ncs_at u) 0))
-  here = form-words at u four.if1.left long.if2.left
+  here = form-words at u four.if-n-lt-HEADER_WORDS.false long.if-n-ncs.false
 
-wrong : tie.Need-returns-3
-wrong c = let call = c.before.before in refused-first _ (judged call) c.enum_told.given.1 ∙ sym (here call)
+wrong : tie.Need-returns-in-Refused
+wrong c = let call = c.before in refused-first _ (judged call) c.in-Refused.is ∙ sym (here call)
 
-last : tie.Need-returns-4
+last : tie.Need-returns
 last c =
     let past = c.before.before in
-    let call = past.before.before in
-    c.judge-sum.ensures ∙ sym (here call ∙ accepted-first _ (judged call) past.enum-told2.given.1)
+    let call = past.before in
+    c.judge_sum.ensures ∙ sym (here call ∙ accepted-first _ (judged call) past.in_default.is)
 
-pub judge-words-spec : {M : Type 1} → statement M
-judge-words-spec =
+pub judge_words_spec : {M : Type 1} → statement M
+judge_words_spec =
     tie.close
     (tie.spec
     short
