@@ -14,21 +14,21 @@ use line21::AccessUnit;
 use refusal::{Refusal, Verdict};
 
 // What one display field brings to its side of a frame: two data bytes, or nothing, which goes out invalid and zero.
-#[derive(Drop)]
+#[derive(Clone, Copy)]
 pub enum Slot {
     Invalid,
     Pair(u8, u8),
 }
 
 // What is kept from call to call: an odd slot that waits for the even one after it.
-#[derive(Drop)]
+#[derive(Clone, Copy)]
 pub enum State {
     Nothing,
     Waiting(Slot),
 }
 
 // How a picture is shown, and the line whose records are carried, which the caller sets.
-#[derive(Drop)]
+#[derive(Clone, Copy)]
 pub struct Shown {
     pub top_field_first: bool,
     pub repeat_first_field: bool,
@@ -36,7 +36,7 @@ pub struct Shown {
 }
 
 // The access units that a call sends, in order.
-#[derive(Drop)]
+#[derive(Clone, Copy)]
 pub enum Sent {
     None,
     One(AccessUnit),
@@ -44,7 +44,7 @@ pub enum Sent {
 }
 
 // What a call answers: a refusal, which sends nothing and keeps the state, or what is sent, and the new state.
-#[derive(Drop)]
+#[derive(Clone, Copy)]
 pub struct Answer {
     pub refusal: Refusal,
     pub sent: Sent,
@@ -52,21 +52,21 @@ pub struct Answer {
 }
 
 // What one slot sends.
-#[derive(Drop)]
+#[derive(Clone, Copy)]
 pub enum Gone {
     Nothing,
     Unit(AccessUnit),
 }
 
 // What one slot sends, and what then waits.
-#[derive(Drop)]
+#[derive(Clone, Copy)]
 pub struct Passing {
     pub gone: Gone,
     pub state: State,
 }
 
 // What a slot is in an access unit.
-#[derive(Drop)]
+#[derive(Clone, Copy)]
 pub struct Half {
     pub cc_valid: u8,
     pub data_1: u8,

@@ -21,7 +21,7 @@ use Rattle.ga94_reader.proofs.judge_closing.Statement.{statement}
 use Rattle.ga94_reader.proofs.judge_closing.Tie as tie
 
 -- the input is a list of bytes by its type
-module _ (c : tie.After-shared-slice-known) where
+module _ (c : tie.After-shared_slice_known-1) where
   abbrev body_of : List ℕ
   body_of = c.before.args.body.now
 
@@ -29,50 +29,50 @@ module _ (c : tie.After-shared-slice-known) where
   at_of = c.before.args.at
 
   bytes : Bytes body_of
-  bytes = each-of (λ (b : ℕ). b < 256) 0 body_of (λ i h. omega (arith, c.shared-slice-known.given i))
+  bytes = each-of (λ (b : ℕ). b < 256) 0 body_of (λ i h. omega (arith, c.shared_slice_known-1.given i))
 
-ends : tie.Need-returns
+ends : tie.Need-returns-then-body-at
 unfolding closing_verdict
-ends c = let known = c.before in simp (missing-some (at_of known) 1 (body_of known) c.if1.true)
+ends c = let known = c.before in simp (missing-some (at_of known) 1 (body_of known) c.if-body-at.true)
 
-other : tie.Need-returns-2
+other : tie.Need-returns-then-body-at-2
 unfolding closing_verdict
 other c =
     let there = c.before.before in
     let known = there.before in
-    simp (missing-none (at_of known) 1 (body_of known) there.if1.false, ne_eqb (get_or (body_of known) (at_of known) 0) 0xFF c.if2.true)
+    simp (missing-none (at_of known) 1 (body_of known) there.if-body-at.false, ne_eqb (get_or (body_of known) (at_of known) 0) 0xFF c.if-body-at-2.true)
 
 -- past the ones the stuffing decides
-module _ (c : tie.After-first-set) where
-  abbrev known : tie.After-shared-slice-known
+module _ (c : tie.After-first_set-wrong) where
+  abbrev known : tie.After-shared_slice_known-1
   known = c.before.before.before.before
 
   there : at_of known + 1 ≤ length (body_of known)
-  there = c.before.before.before.if1.false
+  there = c.before.before.before.if-body-at.false
 
-stuffed : tie.Need-returns-3
+stuffed : tie.Need-returns-then-wrong-body
 unfolding closing_verdict
 stuffed c =
     let found = c.before.before.before in
     let body = body_of (known found) in
     let at = at_of (known found) in
-    let wrong = found.first-set.result in
-    let some : first_set body (at + 1) < length body = subst (λ (k : ℕ). k < length body) found.first-set.ensures c.before.before.if3.true in
-    ap (λ (k : ℕ). Refused (Unfixed Stuffing) (Bit (8 * wrong + k))) c.leading.ensures
-    ∙ ap (λ (k : ℕ). Refused (Unfixed Stuffing) (Bit (8 * k + leading_of (get_or body k 0)))) found.first-set.ensures
-    ∙ sym (simp (missing-none at 1 body (there found), eq-eqb (get_or body at 0) 0xFF found.before.if2.false, stuffing-some body (at + 1) (bytes (known found)) some))
+    let wrong = found.first_set-wrong.result in
+    let some : first_set body (at + 1) < length body = subst (λ (k : ℕ). k < length body) found.first_set-wrong.ensures c.before.before.if-wrong-body.true in
+    ap (λ (k : ℕ). Refused (Unfixed Stuffing) (Bit (8 * wrong + k))) c.leading-zeros.ensures
+    ∙ ap (λ (k : ℕ). Refused (Unfixed Stuffing) (Bit (8 * k + leading_of (get_or body k 0)))) found.first_set-wrong.ensures
+    ∙ sym (simp (missing-none at 1 body (there found), eq-eqb (get_or body at 0) 0xFF found.before.if-body-at-2.false, stuffing-some body (at + 1) (bytes (known found)) some))
 
-right : tie.Need-returns-4
+right : tie.Need-returns
 unfolding closing_verdict
 right c =
     let found = c.before in
     let body = body_of (known found) in
     let at = at_of (known found) in
-    let none : length body ≤ first_set body (at + 1) = subst (λ (k : ℕ). length body ≤ k) found.first-set.ensures c.if3.false in
-    sym (simp (missing-none at 1 body (there found), eq-eqb (get_or body at 0) 0xFF found.before.if2.false, stuffing-none body (at + 1) none))
+    let none : length body ≤ first_set body (at + 1) = subst (λ (k : ℕ). length body ≤ k) found.first_set-wrong.ensures c.if-wrong-body.false in
+    sym (simp (missing-none at 1 body (there found), eq-eqb (get_or body at 0) 0xFF found.before.if-body-at-2.false, stuffing-none body (at + 1) none))
 
-pub judge-closing-spec : {M : Type 1} → statement M
-judge-closing-spec =
+pub judge_closing_spec : {M : Type 1} → statement M
+judge_closing_spec =
     tie.close
     (tie.spec
     (λ c. omega arith)

@@ -8,18 +8,18 @@ use Rattle.line21.proofs.Numbers.{accepted-unit}
 use Rattle.line21_writer.proofs.put_unit.Statement.{statement}
 use Rattle.line21_writer.proofs.put_unit.Tie as tie
 
-mul-out : tie.Need-overflow-mul-out
+mul-out : tie.Need-overflow_mul-out
 mul-out c = omega (arith, (accepted-unit c.before.args.u c.before.requires.0).valid_1)
 
-mul-out-2 : tie.Need-overflow-mul-out-2
+mul-out-2 : tie.Need-overflow_mul-out-2
 mul-out-2 c = omega (arith, (accepted-unit c.before.before.args.u c.before.before.requires.0).valid_2)
 
-add-out : tie.Need-overflow-add-out
+add-out : tie.Need-overflow_add-out
 add-out c =
     let unit = accepted-unit c.before.before.args.u c.before.before.requires.0 in
     omega arith
 
-add-out-2 : tie.Need-overflow-add-out-2
+add-out-2 : tie.Need-overflow_add-out-2
 add-out-2 c =
     let unit = accepted-unit c.before.before.before.args.u c.before.before.before.requires.0 in
     omega arith
@@ -29,8 +29,8 @@ returns c =
     let start = c.before.before.before in
     sets-eq (layout_access_unit start.args.u) start.args.out.now 0 start.requires.1
 
-pub put-unit-spec : {M : Type 1} → statement M
-put-unit-spec =
+pub put_unit_spec : {M : Type 1} → statement M
+put_unit_spec =
     tie.close
     (tie.spec
     mul-out

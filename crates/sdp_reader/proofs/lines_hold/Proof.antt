@@ -5,7 +5,6 @@ use native.Mathlib.Omega.{arith}
 use mathlib.Core.Path.{◌≡◌, ◌∙◌, ap}
 use mathlib.Core.Bool.{false≢true}
 use mathlib.Core.List.{map}
-use borrow.Author.Tests.{not-false}
 use Rattle.refusal.specs.declared.Verdict.{Verdict}
 use Rattle.refusal.specs.Checks.{and_then}
 use Rattle.anc.specs.Words.{byte_of}
@@ -14,31 +13,31 @@ use Rattle.sdp_reader.proofs.Judged.{lines, lines-first, lines_next, lines_none}
 use Rattle.sdp_reader.proofs.lines_hold.Statement.{statement}
 use Rattle.sdp_reader.proofs.lines_hold.Tie as tie
 
-abbrev invariant-loop : tie.invariant-loop
+abbrev invariant-loop : tie.invariant-loop-i
 invariant-loop user i₀ i = (i ≤ 9) × ((dc : ℕ) → descriptors_verdict (dc + 5) (descriptors_in (map byte_of user)) ≡ lines user dc i)
 
-abbrev decreases-loop : tie.decreases-loop
+abbrev decreases-loop : tie.decreases-loop-i
 decreases-loop user i₀ i = 9 - i
 
-loop-again : tie.Need-loop-preserved invariant-loop decreases-loop
+loop-again : tie.Need-loop-i-preserved invariant-loop decreases-loop
 loop-again c =
     let turn = c.before.before.before in
     let start = turn.before.before.before in
     let user = start.args.user.now in
-    let i = turn.before.loop.i in (
+    let i = turn.before.loop-i.i in (
       omega arith,
-      λ dc. turn.before.loop.invariant.1 dc
-          ∙ lines_next user dc i turn.loop-test.true start.requires
-          ∙ ap (λ (v : Verdict). and_then v (lines user dc (i + 1))) (c.before.line-holds.ensures (not-false _ c.if1.false) (dc + 1 + i)),
+      λ dc. turn.before.loop-i.invariant.1 dc
+          ∙ lines_next user dc i turn.loop-i-test.true start.requires
+          ∙ ap (λ (v : Verdict). and_then v (lines user dc (i + 1))) (c.before.line_holds.ensures c.if-not-line_holds.false (dc + 1 + i)),
     )
 
-returns-2 : tie.Need-returns-2 invariant-loop decreases-loop
+returns-2 : tie.Need-returns invariant-loop decreases-loop
 returns-2 c is dc =
     let user = c.before.before.before.args.user.now in
-    c.before.loop.invariant.1 dc ∙ lines_none user dc c.before.loop.i c.loop-test.false
+    c.before.loop-i.invariant.1 dc ∙ lines_none user dc c.before.loop-i.i c.loop-i-test.false
 
-pub lines-hold-spec : {M : Type 1} → statement M
-lines-hold-spec =
+pub lines_hold_spec : {M : Type 1} → statement M
+lines_hold_spec =
     tie.close
     (tie.spec
     invariant-loop
