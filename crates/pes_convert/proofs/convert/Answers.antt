@@ -1,7 +1,5 @@
 -- `pes_convert::convert` meets its contract: it writes the slots where the refusal's number is 0, which is where the packet is accepted.
-use Prim.Native.Nat.{ℕ}
 use mathlib.Core.Path.{◌≡◌, ◌∙◌, ap, sym, subst₂}
-use mathlib.Core.List.{List}
 use lib.ListN.{length}
 use Rattle.refusal.specs.declared.Refusal.{Refusal}
 use Rattle.refusal.specs.declared.Verdict.{Verdict}

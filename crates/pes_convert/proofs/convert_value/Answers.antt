@@ -8,7 +8,7 @@ use Rattle.refusal.specs.Numbers.{refusal_of}
 use Rattle.refusal.specs.Answers.{Wrote}
 use Rattle.refusal.proofs.Acceptance.{told-accepted}
 use Rattle.refusal.proofs.Outputs.{wrote_nothing}
-use Rattle.sdp.specs.Value.{Sdp, held}
+use Rattle.sdp.specs.Value.{held}
 use Rattle.pes.specs.Layout.{layout}
 use Rattle.pes_convert.specs.Converting.{converted, convert_verdict, own_verdict}
 use Rattle.pes_convert.proofs.Packets.{packet-decides}

@@ -1,8 +1,8 @@
 -- `pes_convert::lines_hold` meets its contract. A turn passes an empty slot, and a full one whose line is let through.
-use Prim.Native.Nat.{ℕ, ◌+◌, ◌-◌, ◌≤◌, ◌<◌}
+use Prim.Native.Nat.{ℕ, ◌+◌, ◌≤◌, ◌<◌}
 use native.Mathlib.Omega.{arith}
 use native.Mathlib.Numerals.{add-one}
-use mathlib.Core.Path.{◌≡◌, ◌∙◌, ap, ap₂, sym, refl}
+use mathlib.Core.Path.{◌≡◌, ◌∙◌, ap, ap₂, sym}
 use mathlib.Core.List.{List, [], ◌∷◌}
 use lib.ListN.{length, drop, get_or, drop_of_length-le}
 use lib.Seq.{drop-cons}
@@ -50,8 +50,8 @@ loop-i-preserved c =
     let i = c.loop-i.i in
     let more = c.loop-i-test.true in
     elim c.if-slot-ne0.branch [
-      then-slot-ne0+in_default w ↦ (omega arith, c.loop-i.invariant.1 ∙ full-next p rows c.requires i more w.if-slot-ne0.true (sym w.judge_line.ensures ∙ w.in_default.is))
-    | else-slot-ne0 w ↦ (omega arith, c.loop-i.invariant.1 ∙ empty-next p rows c.requires i more w.if-slot-ne0.false)
+      | then-slot-ne0+in_default w ↦ (omega arith, c.loop-i.invariant.1 ∙ full-next p rows c.requires i more w.if-slot-ne0.true (sym w.judge_line.ensures ∙ w.in_default.is))
+      | else-slot-ne0 w ↦ (omega arith, c.loop-i.invariant.1 ∙ empty-next p rows c.requires i more w.if-slot-ne0.false)
     ]
 
 pub returns : goal.returns

@@ -1,14 +1,14 @@
 -- `pes_convert::put_row` meets its contract. Each turn lays one byte more of the row, turned round.
-use Prim.Native.Nat.{ℕ, ◌+◌, ◌-◌, ◌*◌, ◌≤◌, ◌<◌}
+use Prim.Native.Nat.{ℕ, ◌+◌, ◌*◌, ◌≤◌, ◌<◌}
 use native.Mathlib.Omega.{arith}
 use native.Mathlib.Numerals.{add-one}
-use mathlib.Core.Path.{◌≡◌, ◌∙◌, ap, ap₂, sym, refl}
-use mathlib.Core.List.{List, [], ◌∷◌, ◌++◌, map, map-append}
+use mathlib.Core.Path.{◌≡◌, ◌∙◌, ap, ap₂, sym}
+use mathlib.Core.List.{List, [], ◌∷◌, ◌++◌, map-append}
 use lib.ListN.{length, take, get_or, set, length-set, length-map}
 use lib.Seq.{sets-eq, take-suc, take_all, length-take-le}
 use Rattle.lists.specs.Room.{over}
 use Rattle.lists.proofs.Each.{each_at}
-use Rattle.lists.proofs.Lay.{length_over, store-next, over-store}
+use Rattle.lists.proofs.Lay.{store-next, over-store}
 use Rattle.bits.specs.Bits.{reversed}
 use Rattle.pes_convert.proofs.put_row.Invariants.{words}
 use Rattle.pes_convert.proofs.put_row.Goals as goal

@@ -1,5 +1,5 @@
 -- `pes_convert::put_slot` meets its contract: id, field and line, and then the row, byte by byte.
-use Prim.Native.Nat.{ℕ, ◌+◌, ◌-◌, ◌≤◌, ◌<◌}
+use Prim.Native.Nat.{ℕ, ◌+◌, ◌≤◌, ◌<◌}
 use native.Mathlib.Omega.{arith}
 use native.Mathlib.Numerals.{unary_clauses, add-one}
 use mathlib.Core.Path.{◌≡◌, ◌∙◌, ap, sym}

@@ -1,19 +1,19 @@
 -- `pes_convert::put_slots` meets its contract. A turn lays the unit of a full slot, and nothing for an empty one.
-use Prim.Native.Nat.{ℕ, ◌+◌, ◌-◌, ◌*◌, ◌≤◌, ◌<◌}
+use Prim.Native.Nat.{ℕ, ◌+◌, ◌≤◌, ◌<◌}
 use native.Mathlib.Omega.{arith}
-use mathlib.Core.Path.{◌≡◌, ◌∙◌, ap, sym, subst, refl}
+use mathlib.Core.Path.{◌≡◌, ◌∙◌, ap, sym, subst}
 use mathlib.Core.Logic.{⊎_elim}
-use mathlib.Core.List.{List, [], ◌∷◌, ◌++◌, append-nil}
+use mathlib.Core.List.{List, [], ◌++◌, append-nil}
 use lib.ListN.{length, take, get_or, length-map, length-append}
 use lib.Seq.{take_all}
 use Rattle.lists.specs.Each.{Each}
 use Rattle.lists.specs.Room.{over}
 use Rattle.lists.proofs.Each.{each_at}
 use Rattle.lists.proofs.FlatOf.{flat-more}
-use Rattle.lists.proofs.Lay.{length_over, laid_more, length_rest}
+use Rattle.lists.proofs.Lay.{laid_more, length_rest}
 use Rattle.bits.specs.Bits.{reversed}
 use Rattle.sdp.specs.declared.Packet.{Packet}
-use Rattle.sdp.specs.Value.{SlotRow, FullSlot, LegalSlot, Row, Typed, empty_slot, together, held}
+use Rattle.sdp.specs.Value.{SlotRow, LegalSlot, Row, Typed, empty_slot, together, held}
 use Rattle.sdp.proofs.Numbers.{length-held}
 use Rattle.sdp.proofs.Slots.{legal-below}
 use Rattle.subtitling.proofs.Held.{beyond, held_at}
@@ -63,11 +63,11 @@ loop-i-preserved c =
     let more = c.loop-i-test.true in
     let types = c.requires.typed in
     elim c.if-s-ne0.branch [
-      then-s-ne0 w ↦
+      | then-s-ne0 w ↦
           let new = layout_unit (slot_unit (x p rows types i more)) in
           let grown = bytes-some p rows types i more w.if-s-ne0.true in
           let long : length (bytes xs (i + 1)) ≡ c.loop-i.at + 46 =
-              omega (arith, ap length grown, length-append (bytes xs i) new, length-unit p rows types i more, c.loop-i.invariant.2) in (
+          omega (arith, ap length grown, length-append (bytes xs i) new, length-unit p rows types i more, c.loop-i.invariant.2) in (
             omega arith,
             omega (arith, w.at-is, c.loop-i.invariant.1),
             long ∙ sym w.at-is,
@@ -75,7 +75,7 @@ loop-i-preserved c =
                 ∙ laid_more (bytes xs i) new out c.loop-i.out w.put_row.new.out c.loop-i.at c.loop-i.invariant.3 c.loop-i.invariant.2 w.put_row.ensures
                 ∙ ap (λ (front : List ℕ). over front out) (sym grown),
           )
-    | else-s-ne0 w ↦
+      | else-s-ne0 w ↦
           let same = bytes-none p rows types i more w.if-s-ne0.false in (
             omega arith,
             omega (arith, w.at-is, c.loop-i.invariant.1),

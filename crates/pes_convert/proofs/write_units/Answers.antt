@@ -1,8 +1,8 @@
 -- `pes_convert::write_units` meets its contract: a turn adds the unit of a full slot, and what the writer then judges of the units is their
 -- lines and the room.
-use Prim.Native.Nat.{ℕ, ◌+◌, ◌-◌, ◌*◌, ◌≤◌, ◌<◌}
+use Prim.Native.Nat.{ℕ, ◌+◌, ◌*◌, ◌≤◌, ◌<◌}
 use native.Mathlib.Omega.{arith}
-use mathlib.Core.Path.{◌≡◌, ◌∙◌, ap, ap₂, sym, subst₂, refl}
+use mathlib.Core.Path.{◌≡◌, ◌∙◌, ap, ap₂, sym, subst₂}
 use mathlib.Core.List.{List, [], ◌∷◌, ◌++◌, append-nil}
 use lib.ListN.{length, take, get_or, length-append}
 use lib.Seq.{take_all, length-take-le}
@@ -64,12 +64,12 @@ loop-i-preserved c =
     let few : n ≤ 5 = small p rows types i n c.loop-i.invariant.0 c.loop-i.invariant.2 in
     let more = full-more p rows types i below in
     elim c.if-slot-ne0.branch [
-      then-slot-ne0 w ↦
+      | then-slot-ne0 w ↦
           let unit = slot-typed x (row_at p rows types i below) in
           let grown : units_of p rows types (i + 1) ≡ us ++ (slot_unit x ∷ []) = more ∙ ap (λ (one : List DataUnit). us ++ one) (full-one x w.if-slot-ne0.true) in
           let stored : c.if-slot-ne0.units ≡ over_at (45 * n) (unit_bytes (slot_unit x)) c.loop-i.units = w.units-is ∙ w.put_slot.ensures in
           let fits : 45 * n + length (unit_bytes (slot_unit x)) ≤ length c.loop-i.units =
-              omega (arith, length-lent (slot_unit x) (typed-sized (slot_unit x) unit), few, c.loop-i.invariant.1) in
+          omega (arith, length-lent (slot_unit x) (typed-sized (slot_unit x) unit), few, c.loop-i.invariant.1) in
           let within : 45 * n ≤ length c.loop-i.units = omega arith in (
             omega arith,
             ap length stored ∙ length-over_at (45 * n) (unit_bytes (slot_unit x)) c.loop-i.units fits ∙ c.loop-i.invariant.1,
@@ -78,7 +78,7 @@ loop-i-preserved c =
                 ∙ front-more us (slot_unit x) c.loop-i.units n unit within c.loop-i.invariant.3
                 ∙ ap units_bytes (sym grown),
           )
-    | else-slot-ne0 w ↦
+      | else-slot-ne0 w ↦
           let same : units_of p rows types (i + 1) ≡ us = more ∙ ap (λ (one : List DataUnit). us ++ one) (full-none x w.if-slot-ne0.false) ∙ append-nil us in (
             omega arith,
             ap length w.units-is ∙ c.loop-i.invariant.1,
@@ -108,10 +108,10 @@ returns c =
     let n = c.loop-i.n in
     let few : n ≤ 31 = omega (arith, small p rows types i n c.loop-i.invariant.0 c.loop-i.invariant.2) in
     let all : units_of p rows types i ≡ full_units v.slots =
-        ap full_units (take_all i v.slots (omega (arith, length-held p rows types, c.loop-i-test.false))) in
+    ap full_units (take_all i v.slots (omega (arith, length-held p rows types, c.loop-i-test.false))) in
     let told : take n (units_in c.loop-i.units) ≡ full_units v.slots =
-        front-told (full_units v.slots) c.loop-i.units n (full_typed v.slots (beside-each p.slots rows types.each)) (ap length (sym all) ∙ c.loop-i.invariant.2) few
-        (c.loop-i.invariant.3 ∙ ap units_bytes all) in
+    front-told (full_units v.slots) c.loop-i.units n (full_typed v.slots (beside-each p.slots rows types.each)) (ap length (sym all) ∙ c.loop-i.invariant.2) few
+    (c.loop-i.invariant.3 ∙ ap units_bytes all) in
     subst₂ (λ (verdict : Verdict) (laid : List ℕ). Wrote verdict laid out c.write_from.result c.write_from.new.out)
     (value-judged n (length out) (units_in c.loop-i.units) v (legal p rows types c.requires) few told)
     (ap (λ (us : List DataUnit). layout (record { data_identifier = 0x10; units = us })) told)
