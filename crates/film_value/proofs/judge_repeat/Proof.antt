@@ -14,73 +14,73 @@ use Rattle.film.proofs.Records.{records_of, record-here, records-over, repeated,
 use Rattle.film_value.proofs.judge_repeat.Statement.{statement}
 use Rattle.film_value.proofs.judge_repeat.Tie as tie
 
-abbrev invariant-loop : tie.invariant-loop
+abbrev invariant-loop : tie.invariant-loop-i
 invariant-loop repeat-first-field v records i₀ i = Left repeat_from (records_of v records) i
 
-abbrev decreases-loop : tie.decreases-loop
+abbrev decreases-loop : tie.decreases-loop-i
 decreases-loop repeat-first-field v records i₀ i = v.n - i
 
 -- all records
-module _ (c : tie.At-loop invariant-loop decreases-loop) where
+module _ (c : tie.At-loop-i invariant-loop decreases-loop) where
   abbrev all : List Record
   all = records_of c.before.before.args.v c.before.before.args.records.now
 
 -- a turn of the loop
-module _ (c : tie.After-record-in invariant-loop decreases-loop) where
-  abbrev head : tie.At-loop invariant-loop decreases-loop
+module _ (c : tie.After-record_in-record invariant-loop decreases-loop) where
+  abbrev head : tie.At-loop-i invariant-loop decreases-loop
   head = c.before.before.before
 
   abbrev r : Record
-  r = c.record-in.result
+  r = c.record_in-record.result
 
-  here : drop head.loop.i (all head) ≡ r ∷ drop (head.loop.i + 1) (all head)
+  here : drop head.loop-i.i (all head) ≡ r ∷ drop (head.loop-i.i + 1) (all head)
   here =
       let start = head.before.before in
-      record-here start.args.v start.args.records.now head.loop.i r start.pre c.before.if2.true c.record-in.ensures
+      record-here start.args.v start.args.records.now head.loop-i.i r start.requires c.before.loop-i-test.true c.record_in-record.ensures
 
-over : (c : tie.Else2 invariant-loop decreases-loop) → drop c.before.before.loop.i (all c.before.before) ≡ []
+over : (c : tie.After-loop-i invariant-loop decreases-loop) → drop c.before.before.loop-i.i (all c.before.before) ≡ []
 over c =
     let head = c.before.before in
     let start = head.before.before in
-    records-over start.args.v start.args.records.now head.loop.i start.requires c.if2.false
+    records-over start.args.v start.args.records.now head.loop-i.i start.requires c.loop-i-test.false
 
 -- the flag is as it was asked
-flagged : tie.Need-returns invariant-loop decreases-loop
+flagged : tie.Need-returns-then-repeat_first_field invariant-loop decreases-loop
 flagged c =
     let rs = records_of c.before.args.v c.before.args.records.now in
-    sym (ap (λ (t : Bool). repeat_verdict t 21 rs) c.if1.true ∙ repeated 21 rs)
+    sym (ap (λ (t : Bool). repeat_verdict t 21 rs) c.if-repeat_first_field.true ∙ repeated 21 rs)
 
-loop-holds : tie.Need-loop-init invariant-loop decreases-loop
+loop-holds : tie.Need-loop-i-init invariant-loop decreases-loop
 loop-holds c = left-first repeat_from (records_of c.before.args.v c.before.args.records.now)
 
 -- it is not set
-module _ (c : tie.At-loop invariant-loop decreases-loop) where
-  two_fields : repeat_verdict c.before.before.args.repeat-first-field 21 (all c) ≡ repeat_verdict false 21 (all c)
-  two_fields = ap (λ (t : Bool). repeat_verdict t 21 (all c)) c.before.if1.false
+module _ (c : tie.At-loop-i invariant-loop decreases-loop) where
+  two_fields : repeat_verdict c.before.before.args.repeat_first_field 21 (all c) ≡ repeat_verdict false 21 (all c)
+  two_fields = ap (λ (t : Bool). repeat_verdict t 21 (all c)) c.before.if-repeat_first_field.false
 
-not-shown : tie.Need-returns-2 invariant-loop decreases-loop
+not-shown : tie.Need-returns-then-record-eq3 invariant-loop decreases-loop
 not-shown c =
     let turn = c.before.before in
-    let loop = (head turn).loop in
+    let loop = (head turn).loop-i in
     let rest = drop (loop.i + 1) (all (head turn)) in
     sym
     (two_fields (head turn)
-    ∙ left_here repeat_from (all (head turn)) loop.i (r turn) rest _ loop.inv (here turn) (repeat-refused loop.i (r turn) rest c.if3.true))
+    ∙ left_here repeat_from (all (head turn)) loop.i (r turn) rest _ loop.invariant (here turn) (repeat-refused loop.i (r turn) rest c.if-record-eq3.true))
 
-loop-again : tie.Need-loop-preserved invariant-loop decreases-loop
+loop-again : tie.Need-loop-i-preserved invariant-loop decreases-loop
 loop-again c =
     let turn = c.before.before in
-    let loop = (head turn).loop in
+    let loop = (head turn).loop-i in
     let rest = drop (loop.i + 1) (all (head turn)) in
-    left-next repeat_from (all (head turn)) loop.i (r turn) loop.inv (here turn) (repeat-next loop.i (r turn) rest c.if3.false)
+    left-next repeat_from (all (head turn)) loop.i (r turn) loop.invariant (here turn) (repeat-next loop.i (r turn) rest c.if-record-eq3.false)
 
-done : tie.Need-returns-3 invariant-loop decreases-loop
+done : tie.Need-returns invariant-loop decreases-loop
 done c =
     let head = c.before.before in
-    sym (two_fields head ∙ left_end repeat_from (all head) head.loop.i head.loop.invariant (over c))
+    sym (two_fields head ∙ left_end repeat_from (all head) head.loop-i.i head.loop-i.invariant (over c))
 
-pub judge-repeat-spec : {M : Type 1} → statement M
-judge-repeat-spec =
+pub judge_repeat_spec : {M : Type 1} → statement M
+judge_repeat_spec =
     tie.close
     (tie.spec
     invariant-loop
@@ -88,11 +88,11 @@ judge-repeat-spec =
     flagged
     loop-holds
     (λ c κs. search rules)
-    (λ c. omega (arith, c.before.before.before.if2.true))
-    (λ c. omega (arith, c.before.before.before.if2.true))
-    (λ c. omega (arith, c.before.before.before.if2.true))
+    (λ c. omega (arith, c.before.before.before.loop-i-test.true))
+    (λ c. omega (arith, c.before.before.before.loop-i-test.true))
+    (λ c. omega (arith, c.before.before.before.loop-i-test.true))
     not-shown
-    (λ c. omega (arith, c.before.before.before.if2.true))
-    (λ c. omega (arith, c.before.before.before.if2.true))
+    (λ c. omega (arith, c.before.before.before.loop-i-test.true))
+    (λ c. omega (arith, c.before.before.before.loop-i-test.true))
     loop-again
     done)

@@ -1,5 +1,4 @@
 -- `film_value::is_whole` meets its contract: at the two returns that may say yes, no check of the whole value refuses.
--- Assumes nothing.
 use Prim.Native.Nat.{◌≤◌}
 use native.Mathlib.Omega.{arith}
 use mathlib.Core.Path.{◌≡◌, sym}
@@ -8,13 +7,12 @@ use mathlib.Core.List.{[]}
 use borrow.Author.Tests.{eqb-false, not-true}
 use Rattle.scte20.specs.Lent.{unit_in}
 use Rattle.scte20.proofs.Holding.{no_group, whole-accepted}
-use Rattle.film_value.proofs.is_whole.Statement.{statement}
-use Rattle.film_value.proofs.is_whole.Tie as tie
+use Rattle.film_value.proofs.is_whole.Goals as goal
 
-flag-1 : tie.Need-returns-4
-flag-1 c is =
-    let v = c.before.before.before.before.before.before.before.before.before.args.v in
-    let flag : v.vbi_data_flag ≡ 1 = c.before.if4.true in
+pub returns-then-v-eq1 : goal.returns-then-v-eq1
+returns-then-v-eq1 c is =
+    let v = c.args.v in
+    let flag : v.vbi_data_flag ≡ 1 = c.if-v-eq1.true in
     whole-accepted (unit_in v [])
     (record {
       few = omega arith;
@@ -25,9 +23,9 @@ flag-1 c is =
       no_group = no_group v.reserved v.vbi_data_flag (omega arith) (λ e f. eqb-false _ _ (not-true _ is) e) (λ e f. omega (arith, flag, f));
     })
 
-flag-0 : tie.Need-returns-7
-flag-0 c is =
-    let v = c.before.before.before.before.before.before.before.before.before.before.before.before.before.args.v in
+pub returns : goal.returns
+returns c is =
+    let v = c.args.v in
     whole-accepted (unit_in v [])
     (record {
       few = omega arith;
@@ -38,14 +36,22 @@ flag-0 c is =
       no_group = no_group v.reserved v.vbi_data_flag (omega arith) (λ e f. omega (arith, f)) (λ e f. eqb-false _ _ (not-true _ is) e);
     })
 
-pub is-whole-spec : {M : Type 1} → statement M
-is-whole-spec =
-    tie.close
-    (tie.spec
-    (λ c is. absurd (false≢true is))
-    (λ c is. absurd (false≢true is))
-    (λ c is. absurd (false≢true is))
-    flag-1
-    (λ c is. absurd (false≢true is))
-    (λ c is. absurd (false≢true is))
-    flag-0)
+pub returns-then-v-gt3 : goal.returns-then-v-gt3
+returns-then-v-gt3 c is =
+    absurd (false≢true is)
+
+pub returns-then-v-gt-MAX_BYTES : goal.returns-then-v-gt-MAX_BYTES
+returns-then-v-gt-MAX_BYTES c is =
+    absurd (false≢true is)
+
+pub returns-then-v-gt127 : goal.returns-then-v-gt127
+returns-then-v-gt127 c is =
+    absurd (false≢true is)
+
+pub returns-then-v-ne0 : goal.returns-then-v-ne0
+returns-then-v-ne0 c is =
+    absurd (false≢true is)
+
+pub returns-then-v-ne0-2 : goal.returns-then-v-ne0-2
+returns-then-v-ne0-2 c is =
+    absurd (false≢true is)
