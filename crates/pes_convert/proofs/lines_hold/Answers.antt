@@ -1,13 +1,9 @@
--- `pes_convert::lines_hold` meets its contract. The loop's invariant: the lines of the slots from i on decide as all of them do.
--- Assumes nothing.
-use Prim.Native.Nat.{ℕ, ◌+◌, ◌-◌, ◌≤◌, ◌<◌}
+-- `pes_convert::lines_hold` meets its contract. A turn passes an empty slot, and a full one whose line is let through.
+use Prim.Native.Nat.{ℕ, ◌+◌, ◌≤◌, ◌<◌}
 use native.Mathlib.Omega.{arith}
 use native.Mathlib.Numerals.{add-one}
-use mathlib.Core.Path.{◌≡◌, ◌∙◌, ap, ap₂, sym, refl}
-use mathlib.Core.Logic.{⊎_elim}
-use mathlib.Core.Bool.{false≢true}
+use mathlib.Core.Path.{◌≡◌, ◌∙◌, ap, ap₂, sym}
 use mathlib.Core.List.{List, [], ◌∷◌}
-use borrow.Author.Rules.{rules}
 use lib.ListN.{length, drop, get_or, drop_of_length-le}
 use lib.Seq.{drop-cons}
 use Rattle.refusal.specs.declared.Verdict.{Verdict}
@@ -22,14 +18,8 @@ use Rattle.pes.specs.Order.{line_check}
 use Rattle.pes.specs.Reading.{line_verdict}
 use Rattle.pes_convert.specs.Converting.{lines_checks}
 use Rattle.pes_convert.proofs.Full.{if-empty, if-full}
-use Rattle.pes_convert.proofs.lines_hold.Statement.{statement}
-use Rattle.pes_convert.proofs.lines_hold.Tie as tie
-
-abbrev invariant-loop : tie.invariant-loop
-invariant-loop rows p i₀ i = (i ≤ 5) × (first (lines_checks (held p rows).slots) ≡ first (lines_checks (drop i (held p rows).slots)))
-
-abbrev decreases-loop : tie.decreases-loop
-decreases-loop rows p i₀ i = 5 - i
+use Rattle.pes_convert.proofs.lines_hold.Goals as goal
+use Rattle.pes_convert.proofs.lines_hold.Goals.{then-slot-ne0+in_default, else-slot-ne0}
 
 -- slot i, then those behind it
 module _ (p : Packet) (rows : List (List ℕ)) (t : Typed p rows) (i : ℕ) (h : i < 5) where
@@ -53,40 +43,19 @@ module _ (p : Packet) (rows : List (List ℕ)) (t : Typed p rows) (i : ℕ) (h :
       ∙ ap first (if-full x.slot.full (line_check Whole x.slot.line) (lines_checks (drop (i + 1) (held p rows).slots)) some)
       ∙ ap (λ (v : Verdict). and_then v (first (lines_checks (drop (i + 1) (held p rows).slots)))) right
 
-loop-again : tie.Need-loop-preserved invariant-loop decreases-loop
-loop-again c =
-    let turn = c.before.before.before in
-    let start = turn.before.before in
-    let p = start.args.t1 in
-    let rows = start.args.rows.now in
-    let i = turn.before.loop.i in
-    let more = turn.loop-test.true in
-    ⊎_elim
-    (λ w. (omega arith, turn.before.loop.invariant.1 ∙ full-next p rows start.requires i more w.0.taken (sym w.1.ensures ∙ w.3.given.1)))
-    (λ w. (omega arith, turn.before.loop.invariant.1 ∙ empty-next p rows start.requires i more w.left))
-    c.if1.branch
+pub loop-i-preserved : goal.loop-i-preserved
+loop-i-preserved c =
+    let p = c.args.p in
+    let rows = c.args.rows.now in
+    let i = c.loop-i.i in
+    let more = c.loop-i-test.true in
+    elim c.if-slot-ne0.branch [
+      | then-slot-ne0+in_default w ↦ (omega arith, c.loop-i.invariant.1 ∙ full-next p rows c.requires i more w.if-slot-ne0.true (sym w.judge_line.ensures ∙ w.in_default.is))
+      | else-slot-ne0 w ↦ (omega arith, c.loop-i.invariant.1 ∙ empty-next p rows c.requires i more w.if-slot-ne0.false)
+    ]
 
-right : tie.Need-returns-2 invariant-loop decreases-loop
-right c is =
-    let start = c.before.before in
-    let xs = (held start.args.t1 start.args.rows.now).slots in
-    let past : length xs ≤ c.before.loop.i = omega (arith, length-held start.args.t1 start.args.rows.now start.requires) in
-    c.before.loop.invariant.1 ∙ ap (λ (ys : List SlotRow). first (lines_checks ys)) (drop_of_length-le xs past)
-
-pub lines-hold-spec : {M : Type 1} → statement M
-lines-hold-spec =
-    tie.close
-    (tie.spec
-    invariant-loop
-    decreases-loop
-    (λ c. (omega arith, refl))
-    (λ c. omega arith)
-    (λ c. omega arith)
-    (λ c κs. search rules)
-    (λ c. search rules)
-    (λ c is. absurd (false≢true is))
-    (λ c. search rules)
-    (λ c. omega arith)
-    (λ c. omega arith)
-    loop-again
-    right)
+pub returns : goal.returns
+returns c is =
+    let xs = (held c.args.p c.args.rows.now).slots in
+    let past : length xs ≤ c.loop-i.i = omega (arith, length-held c.args.p c.args.rows.now c.requires) in
+    c.loop-i.invariant.1 ∙ ap (λ (ys : List SlotRow). first (lines_checks ys)) (drop_of_length-le xs past)
