@@ -1,6 +1,5 @@
 -- `film_picture::show` meets its contract: the side is what `odd_even` says, and the slot what `slot_of` finds.
 use mathlib.Core.Path.{◌∙◌, ap₂}
-use borrow.Author.Rules.{rules}
 use Rattle.fields.specs.declared.OddEven.{OddEven}
 use Rattle.film.specs.declared.Slot.{Slot}
 use Rattle.film.specs.Inside.{passed}
@@ -8,7 +7,6 @@ use Rattle.film_picture.proofs.show.Goals as goal
 
 pub returns : goal.returns
 returns c =
-    let found = c in
-    let args = found.args in
+    let args = c.args in
     c.pass.ensures
-    ∙ ap₂ (λ (side : OddEven) (slot : Slot). passed args.state side.0 slot) found.odd_even-side.ensures found.slot_of-slot.ensures
+    ∙ ap₂ (λ (side : OddEven) (slot : Slot). passed args.state side.0 slot) c.odd_even-side.ensures c.slot_of-slot.ensures
