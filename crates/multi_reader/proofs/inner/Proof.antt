@@ -1,6 +1,5 @@
 -- `multi_reader::inner` meets its contract: of what is refused nothing is handed out, and of what is accepted the part that `hand` finds.
 -- Assumes nothing.
-use Prim.Native.Nat.{◌-◌}
 use native.Mathlib.Omega.{arith}
 use mathlib.Core.Path.{◌∙◌, ap, sym}
 use borrow.Author.Rules.{rules}
@@ -10,30 +9,25 @@ use Rattle.multi.proofs.Whole.{Passed, passed}
 use Rattle.multi_reader.proofs.inner.Statement.{statement}
 use Rattle.multi_reader.proofs.inner.Tie as tie
 
-refused : tie.Need-returns
+refused : tie.Need-returns-in-Refused
 refused c =
-    let past = c.before in
-    let call = past.before.before in
-    let args = call.before.before.args in
-    ap (λ (v : Verdict). handed_of v args.i args.words.now) (sym past.enum_told.given.1 ∙ call.judge.ensures)
+    let args = c.args in
+    ap (λ (v : Verdict). handed_of v args.i args.words.now) (sym c.in-Refused.is ∙ c.judge.ensures)
 
-parts : (c : tie.After-enum-told2) → Passed c.before.before.before.before.args.words.now
+parts : (c : tie.In_default) → Passed c.args.words.now
 parts c =
-    let call = c.before.before in
-    passed call.before.before.args.words.now (sym call.judge.ensures ∙ c.enum-told2.given.1)
+    passed c.args.words.now (sym c.judge.ensures ∙ c.in_default.is)
 
 hand-requires : tie.Need-hand-requires
 hand-requires c κs = (7, (parts c.before).own)
 
-handed : tie.Need-returns-2
+handed : tie.Need-returns
 handed c =
-    let past = c.before.before in
-    let call = past.before.before in
-    let args = call.before.before.args in
-    c.hand.ensures ∙ ap (λ (v : Verdict). handed_of v args.i args.words.now) (sym past.enum-told2.given.1 ∙ call.judge.ensures)
+    let args = c.args in
+    c.hand.ensures ∙ ap (λ (v : Verdict). handed_of v args.i args.words.now) (sym c.in_default.is ∙ c.judge.ensures)
 
-pub inner-spec : {M : Type 1} → statement M
-inner-spec =
+pub inner_spec : {M : Type 1} → statement M
+inner_spec =
     tie.close
     (tie.spec
     (λ c κs. search rules)
