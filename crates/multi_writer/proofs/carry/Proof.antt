@@ -10,38 +10,38 @@ use Rattle.lists.proofs.Sum.{sum_more}
 use Rattle.multi_writer.proofs.carry.Statement.{statement}
 use Rattle.multi_writer.proofs.carry.Tie as tie
 
-abbrev invariant-loop : tie.invariant-loop
+abbrev invariant-loop : tie.invariant-loop-i
 invariant-loop user out₀ total₀ i₀ out total i = (i ≤ length out₀) × ((out ≡ over (take i user) out₀) × (total ≡ sum (take i user) % 65536))
 
-abbrev decreases-loop : tie.decreases-loop
+abbrev decreases-loop : tie.decreases-loop-i
 decreases-loop user out₀ total₀ i₀ out total i = length out₀ - i
 
 -- at the loop's head
-module _ (c : tie.At-loop invariant-loop decreases-loop) where
+module _ (c : tie.At-loop-i invariant-loop decreases-loop) where
   abbrev user : List ℕ
-  user = c.before.before.before.args.user.now
+  user = c.args.user.now
 
   abbrev out : List ℕ
-  out = c.before.before.before.args.out.now
+  out = c.args.out.now
 
   same : length user ≡ length out
-  same = c.before.before.before.requires
+  same = c.requires
 
   -- the output keeps its length
-  kept : length c.loop.out ≡ length out
-  kept = ap length c.loop.invariant.1.0 ∙ front_length user out c.loop.i (omega (arith, same, c.loop.invariant.0)) c.loop.invariant.0
+  kept : length c.loop-i.out ≡ length out
+  kept = ap length c.loop-i.invariant.1.0 ∙ front_length user out c.loop-i.i (omega (arith, same, c.loop-i.invariant.0)) c.loop-i.invariant.0
 
-loop-again : tie.Need-loop-preserved invariant-loop decreases-loop
+loop-again : tie.Need-loop-i-preserved invariant-loop decreases-loop
 loop-again c =
     let turn = c.before.before in
     let at = turn.before in
-    let i = at.loop.i in
-    let inside : i < length (out at) = omega (arith, turn.loop-test.true, kept at) in
+    let i = at.loop-i.i in
+    let inside : i < length (out at) = omega (arith, turn.loop-i-test.true, kept at) in
     let there : i < length (user at) = omega (arith, inside, same at) in (
       omega arith,
       (
-        ap (λ (xs : List ℕ). set xs i (get_or (user at) i 0)) at.loop.invariant.1.0 ∙ front-next (user at) (out at) i 0 there inside,
-        omega (arith, c.wrapping-add-u16.ensures, at.loop.invariant.1.1, sum_more (user at) i there),
+        ap (λ (xs : List ℕ). set xs i (get_or (user at) i 0)) at.loop-i.invariant.1.0 ∙ front-next (user at) (out at) i 0 there inside,
+        omega (arith, c.wrapping_add_u16-total.ensures, at.loop-i.invariant.1.1, sum_more (user at) i there),
       ),
     )
 
@@ -52,14 +52,14 @@ whole xs out e = ap (λ (k : ℕ). xs ++ drop k out) e ∙ ap (λ (r : List ℕ)
 returns : tie.Need-returns invariant-loop decreases-loop
 returns c =
     let at = c.before in
-    let all : length (user at) ≤ at.loop.i = omega (arith, kept at, same at, c.loop-test.false) in
-    let taken = take_all at.loop.i (user at) all in (
-      at.loop.invariant.1.0 ∙ ap (λ (xs : List ℕ). over xs (out at)) taken ∙ whole (user at) (out at) (same at),
-      at.loop.invariant.1.1 ∙ ap (λ (xs : List ℕ). sum xs % 65536) taken,
+    let all : length (user at) ≤ at.loop-i.i = omega (arith, kept at, same at, c.loop-i-test.false) in
+    let taken = take_all at.loop-i.i (user at) all in (
+      at.loop-i.invariant.1.0 ∙ ap (λ (xs : List ℕ). over xs (out at)) taken ∙ whole (user at) (out at) (same at),
+      at.loop-i.invariant.1.1 ∙ ap (λ (xs : List ℕ). sum xs % 65536) taken,
     )
 
-pub carry-spec : {M : Type 1} → statement M
-carry-spec =
+pub carry_spec : {M : Type 1} → statement M
+carry_spec =
     tie.close
     (tie.spec
     invariant-loop

@@ -4,8 +4,8 @@ use Rattle.multi.proofs.Types.{head-number}
 use Rattle.multi_writer.proofs.inner_words.Statement.{statement}
 use Rattle.multi_writer.proofs.inner_words.Tie as tie
 
-count : (c : tie.Start) → get_or c.args.t1 5 0 < 65536
-count c = head-number c.args.t1 _ c.well-formed.0 5 (omega arith)
+count : (c : tie.Start) → get_or c.args.head 5 0 < 65536
+count c = head-number c.args.head _ c.well_formed.0 5 (omega arith)
 
-pub inner-words-spec : {M : Type 1} → statement M
-inner-words-spec = tie.close (tie.spec (λ c. search rules) (λ c. search rules) (λ c. omega (arith, count c)) (λ c. (omega arith, omega (arith, count c))))
+pub inner_words_spec : {M : Type 1} → statement M
+inner_words_spec = tie.close (tie.spec (λ c. search rules) (λ c. search rules) (λ c. omega (arith, count c)) (λ c. (omega arith, omega (arith, count c))))

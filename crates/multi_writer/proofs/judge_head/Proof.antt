@@ -14,108 +14,102 @@ use Rattle.multi.proofs.Types.{head-number}
 use Rattle.multi_writer.proofs.judge_head.Statement.{statement}
 use Rattle.multi_writer.proofs.judge_head.Tie as tie
 
-line : tie.Need-returns
-line c = let args = c.before.before.args in sym (head-line args.words.now args.t1 c.if1.true)
+line : tie.Need-returns-then-head-gt31
+line c = let args = c.args in sym (head-line args.words.now args.head c.if-head-gt31.true)
 
-field : tie.Need-returns-2
+field : tie.Need-returns-then-head-gt1
 field c =
-    let one = c.before in
-    let args = one.before.before.args in
-    sym (head-field args.words.now args.t1 one.if1.false c.if2.true)
+    let args = c.args in
+    sym (head-field args.words.now args.head c.if-head-gt31.false c.if-head-gt1.true)
 
-did : tie.Need-returns-3
+did : tie.Need-returns-then-head-gt255
 did c =
-    let two = c.before in
-    let one = two.before in
-    let args = one.before.before.args in
-    sym (head-did args.words.now args.t1 one.if1.false two.if2.false c.if3.true)
+    let args = c.args in
+    sym (head-did args.words.now args.head c.if-head-gt31.false c.if-head-gt1.false c.if-head-gt255.true)
 
-sdid : tie.Need-returns-4
+sdid : tie.Need-returns-then-head-gt255-2
 sdid c =
-    let three = c.before in
-    let two = three.before in
-    let one = two.before in
-    let args = one.before.before.args in
-    sym (head-sdid args.words.now args.t1 one.if1.false two.if2.false three.if3.false c.if4.true)
+    let args = c.args in
+    sym (head-sdid args.words.now args.head c.if-head-gt31.false c.if-head-gt1.false c.if-head-gt255.false c.if-head-gt255-2.true)
 
 -- its numbers can be held
-module _ (c : tie.Else4) where
-  abbrev three : tie.Else3
+module _ (c : tie.Else-head-gt255-2) where
+  abbrev three : tie.Else-head-gt255
   three = c.before
 
-  abbrev two : tie.Else2
+  abbrev two : tie.Else-head-gt1
   two = three.before
 
-  abbrev one : tie.Else1
+  abbrev one : tie.Else-head-gt31
   one = two.before
 
   abbrev start : tie.Start
   start = one.before.before
 
   abbrev h : List ℕ
-  h = start.args.t1
+  h = start.args.head
 
   abbrev words : List ℕ
   words = start.args.words.now
 
   small : (i : ℕ) → i < 6 → get_or h i 0 < 65536
-  small = head-number h _ start.good.0
+  small = head-number h _ start.well_formed.0
 
-part : tie.Need-returns-5
+part : tie.Need-returns-then-words-end
 part c =
     let four = c.before in
-    sym (head-part (words four) (h four) (one four).if1.false (two four).if2.false (three four).if3.false four.if4.false c.if5.true)
+    sym (head-part (words four) (h four) (one four).if-head-gt31.false (two four).if-head-gt1.false (three four).if-head-gt255.false four.if-head-gt255-2.false c.if-words-end.true)
 
 -- and its user words are among those that are lent
-module _ (c : tie.After-unplaced) where
-  abbrev five : tie.Else5
+module _ (c : tie.After-unplaced-form) where
+  abbrev five : tie.Else-words-end
   five = c.before.before.before
 
-  abbrev four : tie.Else4
+  abbrev four : tie.Else-head-gt255-2
   four = five.before
 
   abbrev own : Verdict
   own = only_if (subtitling_id (get_or (h four) 2 0) (get_or (h four) 3 0)) (user_verdict 0 (map byte_of (user_of (words four) (h four))))
 
-  judged : c.unplaced.result ≡ unplaced (words_verdict 0 (user_of (words four) (h four)))
-  judged = c.unplaced.ensures ∙ ap unplaced c.before.judge-part.ensures
+  judged : c.unplaced-form.result ≡ unplaced (words_verdict 0 (user_of (words four) (h four)))
+  judged = c.unplaced-form.ensures ∙ ap unplaced c.judge_part.ensures
 
   here : head_verdict (words four) (h four) ≡ and_then (unplaced (words_verdict 0 (user_of (words four) (h four)))) (unplaced own)
-  here = head-user (words four) (h four) (one four).if1.left (two four).if2.left (three four).if3.left four.if4.left five.if5.left
+  here = head-user (words four) (h four) (one four).if-head-gt31.false (two four).if-head-gt1.false (three four).if-head-gt255.false four.if-head-gt255-2.false five.if-words-end.false
 
-wrong : tie.Need-returns-6
-wrong c = let call = c.before.before in refused-first _ (judged call) c.enum_told.given.1 ∙ sym (here call)
+wrong : tie.Need-returns-in-Refused
+wrong c = let call = c.before in refused-first _ (judged call) c.in-Refused.is ∙ sym (here call)
 
 -- words of bytes: the rules of subtitles decide
-left : (c : tie.After-enum-told2)
-    → let call = c.before.before in
+left : (c : tie.In_default)
+    → let call = c.before in
     head_verdict (words (four call)) (h (four call)) ≡ unplaced (own call)
-left c = let call = c.before.before in here call ∙ accepted-first _ (judged call) c.enum-told2.given.1
+left c = let call = c.before in here call ∙ accepted-first _ (judged call) c.in_default.is
 
-subtitles : tie.Need-returns-7
+subtitles : tie.Need-returns-then-is_subtitling
 subtitles c =
     let user = c.before in
     let then = user.before.before in
     let ids = then.before in
     let past = ids.before in
-    let f = four past.before.before in
-    c.unplaced2.ensures
+    let f = four past.before in
+    c.unplaced.ensures
     ∙ ap unplaced
-    (user.judge-user.ensures
-    ∙ sym (ap (λ (t : Bool). only_if t (user_verdict 0 (map byte_of (user_of (words f) (h f))))) (sym ids.is-subtitling.ensures ∙ then.if6.true)))
+    (user.judge_user.ensures
+    ∙ sym (ap (λ (t : Bool). only_if t (user_verdict 0 (map byte_of (user_of (words f) (h f))))) (sym ids.is_subtitling.ensures ∙ then.if-is_subtitling.true)))
     ∙ sym (left past)
 
-carried : tie.Need-returns-8
+carried : tie.Need-returns
 carried c =
     let ids = c.before in
     let past = ids.before in
-    let f = four past.before.before in
+    let f = four past.before in
     sym
     (left past
-    ∙ ap (λ (t : Bool). unplaced (only_if t (user_verdict 0 (map byte_of (user_of (words f) (h f)))))) (sym ids.is-subtitling.ensures ∙ c.if6.false))
+    ∙ ap (λ (t : Bool). unplaced (only_if t (user_verdict 0 (map byte_of (user_of (words f) (h f)))))) (sym ids.is_subtitling.ensures ∙ c.if-is_subtitling.false))
 
-pub judge-head-spec : {M : Type 1} → statement M
-judge-head-spec =
+pub judge_head_spec : {M : Type 1} → statement M
+judge_head_spec =
     tie.close
     (tie.spec
     (λ c. search rules)

@@ -13,10 +13,10 @@ use Rattle.multi.proofs.Laid.{heads-words}
 use Rattle.multi_writer.proofs.judge_value.Statement.{statement}
 use Rattle.multi_writer.proofs.judge_value.Tie as tie
 
-abbrev invariant-loop : tie.invariant-loop
+abbrev invariant-loop : tie.invariant-loop-i
 invariant-loop priority heads words room i₀ i = (i ≤ length heads) × (heads_verdict words heads ≡ heads_verdict words (drop i heads))
 
-abbrev decreases-loop : tie.decreases-loop
+abbrev decreases-loop : tie.decreases-loop-i
 decreases-loop priority heads words room i₀ i = length heads - i
 
 -- what is told
@@ -30,61 +30,60 @@ module _ (c : tie.Start invariant-loop decreases-loop) where
   abbrev told : Told
   told = record { priority = c.args.priority; heads = heads; words = words }
 
-priority : tie.Need-returns invariant-loop decreases-loop
-priority c = let s = c.before.before in sym (value-priority (told s) s.args.room c.if1.true)
+priority : tie.Need-returns-then-priority-gt255 invariant-loop decreases-loop
+priority c = let s = c.before.before in sym (value-priority (told s) s.args.room c.if-priority-gt255.true)
 
-none : tie.Need-returns-2 invariant-loop decreases-loop
+none : tie.Need-returns-then-heads-eq0 invariant-loop decreases-loop
 none c =
     let small = c.before in
     let s = small.before.before in
-    sym (value_none (told s) s.args.room small.if1.false c.if2.true)
+    sym (value_none (told s) s.args.room small.if-priority-gt255.false c.if-heads-eq0.true)
 
 -- a turn of the loop: the head at i decides first
-module _ (c : tie.After-judge-head invariant-loop decreases-loop) where
-  abbrev turn : tie.In-loop invariant-loop decreases-loop
+module _ (c : tie.After-judge_head-verdict invariant-loop decreases-loop) where
+  abbrev turn : tie.In-loop-i invariant-loop decreases-loop
   turn = c.before.before
 
-  abbrev at : tie.At-loop invariant-loop decreases-loop
+  abbrev at : tie.At-loop-i invariant-loop decreases-loop
   at = turn.before
 
   abbrev s : tie.Start invariant-loop decreases-loop
   s = at.before.before.before.before
 
   abbrev i : ℕ
-  i = at.loop.i
+  i = at.loop-i.i
 
   decided : heads_verdict (words s) (heads s) ≡ and_then (head_verdict (words s) (get_or (heads s) i [])) (heads_verdict (words s) (drop (i + 1) (heads s)))
-  decided = at.loop.inv.1 ∙ heads-from (words s) (heads s) i turn.loop-test.taken
+  decided = at.loop-i.invariant.1 ∙ heads-from (words s) (heads s) i turn.loop-i-test.true
 
-refused : tie.Need-returns-3 invariant-loop decreases-loop
+refused : tie.Need-returns-in-Refused invariant-loop decreases-loop
 refused c =
-    let call = c.before.before in
+    let call = c.before in
     let some = (at call).before in
-    let small = some.before in
-    refused-first _ (refused-first _ call.judge-head.ensures c.enum_told.given.1 ∙ sym (decided call)) c.enum_told.given.1
-    ∙ sym (value-heads (told (s call)) (s call).args.room small.if1.left some.if2.left)
+    refused-first _ (refused-first _ call.judge_head-verdict.ensures c.in-Refused.is ∙ sym (decided call)) c.in-Refused.is
+    ∙ sym (value-heads (told (s call)) (s call).args.room some.if-priority-gt255.false some.if-heads-eq0.false)
 
-loop-again : tie.Need-loop-preserved invariant-loop decreases-loop
+loop-again : tie.Need-loop-i-preserved invariant-loop decreases-loop
 loop-again c =
-    let call = c.before.before in
-    (omega arith, decided call ∙ accepted-first _ call.judge-head.ensures c.enum-told2.given.1)
+    let call = c.before in
+    (omega arith, decided call ∙ accepted-first _ call.judge_head-verdict.ensures c.in_default.is)
 
 -- all heads are accepted, and the words counted
-module _ (c : tie.After-user-words invariant-loop decreases-loop) where
-  abbrev end : tie.After-loop invariant-loop decreases-loop
+module _ (c : tie.After-user_words-user invariant-loop decreases-loop) where
+  abbrev end : tie.After-loop-i invariant-loop decreases-loop
   end = c.before
 
-  abbrev some : tie.Else2 invariant-loop decreases-loop
+  abbrev some : tie.Else-heads-eq0 invariant-loop decreases-loop
   some = end.before.before
 
-  abbrev small : tie.Else1 invariant-loop decreases-loop
+  abbrev small : tie.Else-priority-gt255 invariant-loop decreases-loop
   small = some.before
 
   abbrev t : tie.Start invariant-loop decreases-loop
   t = small.before.before
 
   accepted : heads_verdict (words t) (heads t) ≡ Accepted
-  accepted = end.before.loop.inv.1 ∙ ap (heads_verdict (words t)) (drop_of_length-le (heads t) end.loop-test.left)
+  accepted = end.loop-i.invariant.1 ∙ ap (heads_verdict (words t)) (drop_of_length-le (heads t) end.loop-i-test.false)
 
   counted : user-count (told t) t.args.room ≡ 1 + heads_words (heads t)
   counted = length-user (held (told t)) ∙ ap (λ (n : ℕ). 1 + n) (heads-words (words t) (heads t) accepted)
@@ -93,37 +92,37 @@ module _ (c : tie.After-user-words invariant-loop decreases-loop) where
   sized = length-multi (held (told t)) ∙ ap (λ (n : ℕ). 7 + (1 + n)) (heads-words (words t) (heads t) accepted)
 
   -- where the count is not above 255, it is that
-  exact : c.user-words.result ≤ 255 → c.user-words.result ≡ 1 + heads_words (heads t)
-  exact h = ⊎_elim (λ e. e) (λ w. let f : ⊥ = omega (arith, h, w.0) in absurd f) c.user-words.ensures
+  exact : c.user_words-user.result ≤ 255 → c.user_words-user.result ≡ 1 + heads_words (heads t)
+  exact h = ⊎_elim (λ e. e) (λ w. let f : ⊥ = omega (arith, h, w.0) in absurd f) c.user_words-user.ensures
 
-  above : 255 < c.user-words.result → 255 < user-count (told t) t.args.room
-  above h = ⊎_elim (λ e. omega (arith, h, e, counted)) (λ w. omega (arith, w.1, counted)) c.user-words.ensures
+  above : 255 < c.user_words-user.result → 255 < user-count (told t) t.args.room
+  above h = ⊎_elim (λ e. omega (arith, h, e, counted)) (λ w. omega (arith, w.1, counted)) c.user_words-user.ensures
 
-many : tie.Need-returns-4 invariant-loop decreases-loop
+many : tie.Need-returns-then-user-gt-MAX_USER_WORDS invariant-loop decreases-loop
 many c =
     let call = c.before in
-    sym (value-many (told (t call)) (t call).args.room (small call).if1.false (some call).if2.false (accepted call) (above call c.if3.true))
+    sym (value-many (told (t call)) (t call).args.room (small call).if-priority-gt255.false (some call).if-heads-eq0.false (accepted call) (above call c.if-user-gt-MAX_USER_WORDS.true))
 
-no_room : tie.Need-returns-5 invariant-loop decreases-loop
+no_room : tie.Need-returns-then-room-user invariant-loop decreases-loop
 no_room c =
     let few = c.before in
     let call = few.before in
-    let n = exact call few.if3.false in
+    let n = exact call few.if-user-gt-MAX_USER_WORDS.false in
     sym
-    (value-no-room (told (t call)) (t call).args.room (small call).if1.false (some call).if2.false (accepted call) (omega (arith, counted call, n, few.if3.false))
-    (omega (arith, sized call, n, c.if4.true)))
+    (value-no-room (told (t call)) (t call).args.room (small call).if-priority-gt255.false (some call).if-heads-eq0.false (accepted call) (omega (arith, counted call, n, few.if-user-gt-MAX_USER_WORDS.false))
+    (omega (arith, sized call, n, c.if-room-user.true)))
 
-fits : tie.Need-returns-6 invariant-loop decreases-loop
+fits : tie.Need-returns invariant-loop decreases-loop
 fits c =
     let few = c.before in
     let call = few.before in
-    let n = exact call few.if3.false in
+    let n = exact call few.if-user-gt-MAX_USER_WORDS.false in
     sym
-    (value-fits (told (t call)) (t call).args.room (small call).if1.false (some call).if2.false (accepted call) (omega (arith, counted call, n, few.if3.false))
-    (omega (arith, sized call, n, c.if4.false)))
+    (value-fits (told (t call)) (t call).args.room (small call).if-priority-gt255.false (some call).if-heads-eq0.false (accepted call) (omega (arith, counted call, n, few.if-user-gt-MAX_USER_WORDS.false))
+    (omega (arith, sized call, n, c.if-room-user.false)))
 
-pub judge-value-spec : {M : Type 1} → statement M
-judge-value-spec =
+pub judge_value_spec : {M : Type 1} → statement M
+judge_value_spec =
     tie.close
     (tie.spec
     invariant-loop

@@ -11,46 +11,46 @@ use Rattle.multi_writer.proofs.put_head.Tie as tie
 abbrev four : ℕ → ℕ → ℕ → ℕ → List ℕ
 four a b c d = a ∷ b ∷ c ∷ d ∷ []
 
-module _ (c : tie.After-word4) where
-  abbrev third : tie.After-word3
+module _ (c : tie.After-word) where
+  abbrev third : tie.After-word-ndc
   third = c.before
 
-  abbrev second : tie.After-word2
+  abbrev second : tie.After-word-nsdid
   second = third.before
 
-  abbrev one : tie.After-word
+  abbrev one : tie.After-word-ndid
   one = second.before
 
   abbrev start : tie.Start
   start = one.before.before
 
   abbrev h : List ℕ
-  h = start.args.t1
+  h = start.args.head
 
-  low-1 : one.word.result ≤ 1023
-  low-1 = omega (arith, one.word.ensures, word_low (get_or h 2 0) start.pre.1.0.0)
+  low-1 : one.word-ndid.result ≤ 1023
+  low-1 = omega (arith, one.word-ndid.ensures, word_low (get_or h 2 0) start.requires.1.0.0)
 
-  low-2 : second.word2.result ≤ 1023
-  low-2 = omega (arith, second.word2.ensures, word_low (get_or h 3 0) start.pre.1.0.1)
+  low-2 : second.word-nsdid.result ≤ 1023
+  low-2 = omega (arith, second.word-nsdid.ensures, word_low (get_or h 3 0) start.requires.1.0.1)
 
-  low-3 : third.word3.result ≤ 1023
-  low-3 = omega (arith, third.word3.ensures, word_low (get_or h 5 0) start.pre.1.0.2)
+  low-3 : third.word-ndc.result ≤ 1023
+  low-3 = omega (arith, third.word-ndc.ensures, word_low (get_or h 5 0) start.requires.1.0.2)
 
 returns : tie.Need-returns
 returns c =
     let h = h c in
     let out = (start c).args.out.now in
-    let a = (one c).word in
-    let b = (second c).word2 in
-    let d = (third c).word3 in (
-      sets-eq (four c.word4.result a.result b.result d.result) out 0 (start c).requires.1.1
-          ∙ ap₂ (λ (x y : ℕ). over (four x y b.result d.result) out) c.word4.ensures a.ensures
+    let a = (one c).word-ndid in
+    let b = (second c).word-nsdid in
+    let d = (third c).word-ndc in (
+      sets-eq (four c.word.result a.result b.result d.result) out 0 (start c).requires.1.1
+          ∙ ap₂ (λ (x y : ℕ). over (four x y b.result d.result) out) c.word.ensures a.ensures
           ∙ ap₂ (λ (x y : ℕ). over (four (word_of (get_or h 0 0 + 32 * get_or h 1 0)) (word_of (get_or h 2 0)) x y) out) b.ensures d.ensures,
       omega (arith, a.ensures, b.ensures, d.ensures),
     )
 
-pub put-head-spec : {M : Type 1} → statement M
-put-head-spec =
+pub put_head_spec : {M : Type 1} → statement M
+put_head_spec =
     tie.close
     (tie.spec
     (λ c. search rules)

@@ -13,11 +13,11 @@ use Rattle.multi_writer.proofs.put_header.Tie as tie
 abbrev header : ℕ → ℕ → List ℕ
 header dc priority = 0x000 ∷ 0x3FF ∷ 0x3FF ∷ 0x143 ∷ 0x203 ∷ dc ∷ priority ∷ []
 
-low-dc : (c : tie.After-word2) → c.before.word.result ≤ 1023
-low-dc c = omega (arith, c.before.word.ensures, word_low c.before.before.before.args.dc (omega arith))
+low-dc : (c : tie.After-word-rank) → c.word-count.result ≤ 1023
+low-dc c = omega (arith, c.word-count.ensures, word_low c.args.dc (omega arith))
 
-low-priority : (c : tie.After-word2) → c.word2.result ≤ 1023
-low-priority c = omega (arith, c.word2.ensures, word_low c.before.before.before.args.priority (omega arith))
+low-priority : (c : tie.After-word-rank) → c.word-rank.result ≤ 1023
+low-priority c = omega (arith, c.word-rank.ensures, word_low c.args.priority (omega arith))
 
 covers : (dc priority a b : ℕ) → a ≡ word_of dc → b ≡ word_of priority → 0x143 + 0x203 + a + b ≡ sum (map word_of (0x43 ∷ 0x03 ∷ dc ∷ priority ∷ []))
 covers dc priority a b e f = omega (arith, did-word, sdid-word)
@@ -25,15 +25,14 @@ covers dc priority a b e f = omega (arith, did-word, sdid-word)
 returns : tie.Need-returns
 unfolding word_of parity_of
 returns c =
-    let start = c.before.before.before in
-    let out = start.args.out.now in (
-      sets-eq (header c.before.word.result c.word2.result) out 0 start.requires
-          ∙ ap₂ (λ (a b : ℕ). over (header a b) out) c.before.word.ensures c.word2.ensures,
-      covers start.args.dc start.args.priority c.before.word.result c.word2.result c.before.word.ensures c.word2.ensures,
+    let out = c.args.out.now in (
+      sets-eq (header c.word-count.result c.word-rank.result) out 0 c.requires
+          ∙ ap₂ (λ (a b : ℕ). over (header a b) out) c.word-count.ensures c.word-rank.ensures,
+      covers c.args.dc c.args.priority c.word-count.result c.word-rank.result c.word-count.ensures c.word-rank.ensures,
     )
 
-pub put-header-spec : {M : Type 1} → statement M
-put-header-spec =
+pub put_header_spec : {M : Type 1} → statement M
+put_header_spec =
     tie.close
     (tie.spec
     (λ c κs. search rules)

@@ -6,36 +6,31 @@ use Rattle.multi.proofs.Laid.{heads-more, heads-front}
 use Rattle.multi_writer.proofs.user_words.Statement.{statement}
 use Rattle.multi_writer.proofs.user_words.Tie as tie
 
-abbrev invariant-loop : tie.invariant-loop
+abbrev invariant-loop : tie.invariant-loop-i
 invariant-loop heads user₀ i₀ user i = (user ≡ 1 + heads_words (take i heads)) × (user ≤ 65795)
 
-abbrev decreases-loop : tie.decreases-loop
+abbrev decreases-loop : tie.decreases-loop-i
 decreases-loop heads user₀ i₀ user i = length heads - i
 
-many : tie.Need-returns invariant-loop decreases-loop
+many : tie.Need-returns-then-user-gt-MAX_USER_WORDS invariant-loop decreases-loop
 many c =
-    let at = c.before.before in
-    let heads = at.before.args.heads.now in
-    inr (c.if1.true, omega (arith, c.if1.true, at.loop.invariant.0, heads-front heads at.loop.i))
+    let heads = c.args.heads.now in
+    inr (c.if-user-gt-MAX_USER_WORDS.true, omega (arith, c.if-user-gt-MAX_USER_WORDS.true, c.loop-i.invariant.0, heads-front heads c.loop-i.i))
 
-loop-again : tie.Need-loop-preserved invariant-loop decreases-loop
+loop-again : tie.Need-loop-i-preserved invariant-loop decreases-loop
 loop-again c =
-    let few = c.before.before in
-    let turn = few.before in
-    let at = turn.before in
-    let heads = at.before.args.heads.now in (
-      omega (arith, at.loop.invariant.0, c.inner-words.ensures.0, heads-more heads at.loop.i turn.loop-test.true),
-      omega (arith, few.if1.false, c.inner-words.ensures.1),
+    let heads = c.args.heads.now in (
+      omega (arith, c.loop-i.invariant.0, c.inner_words-user.ensures.0, heads-more heads c.loop-i.i c.loop-i-test.true),
+      omega (arith, c.if-user-gt-MAX_USER_WORDS.false, c.inner_words-user.ensures.1),
     )
 
-all : tie.Need-returns-2 invariant-loop decreases-loop
+all : tie.Need-returns invariant-loop decreases-loop
 all c =
-    let at = c.before in
-    let heads = at.before.args.heads.now in
-    inl (at.loop.invariant.0 ∙ ap (λ (hs : List (List ℕ)). 1 + heads_words hs) (take_all at.loop.i heads c.loop-test.false))
+    let heads = c.args.heads.now in
+    inl (c.loop-i.invariant.0 ∙ ap (λ (hs : List (List ℕ)). 1 + heads_words hs) (take_all c.loop-i.i heads c.loop-i-test.false))
 
-pub user-words-spec : {M : Type 1} → statement M
-user-words-spec =
+pub user_words_spec : {M : Type 1} → statement M
+user_words_spec =
     tie.close
     (tie.spec
     invariant-loop
@@ -45,7 +40,7 @@ user-words-spec =
     (λ c. search rules)
     (λ c. search rules)
     (λ c κs. search rules)
-    (λ c. omega (arith, c.inner-words.ensures.1))
+    (λ c. omega (arith, c.inner_words-user.ensures.1))
     (λ c. omega arith)
     (λ c. omega arith)
     loop-again

@@ -36,20 +36,20 @@ module _ (c : tie.Start) where
   verdict = value_verdict told (length out)
 
 -- the verdict is told
-answer : (c : tie.After-told) → c.told.result ≡ refusal_of (verdict c.before.before.before.before)
-answer c = c.told.ensures ∙ ap refusal_of c.before.judge-value.ensures
+answer : (c : tie.After-told-refusal) → c.told-refusal.result ≡ refusal_of (verdict c.before.before.before.before)
+answer c = c.told-refusal.ensures ∙ ap refusal_of c.judge_value.ensures
 
-refused : tie.Need-returns
+refused : tie.Need-returns-then-refusal-ne0
 refused c =
     let said = c.before.before in
     let s = said.before.before.before.before in
     let laid = layout (held (told s)) in
     subst (λ (r : Refusal). Wrote (verdict s) laid (out s) (record { refusal = r; len = 0 }) (out s)) (sym (answer said))
-    (wrote_nothing (verdict s) laid (out s) (λ e. c.if1.true (ap (λ (r : Refusal). r.number) (answer said) ∙ e)))
+    (wrote_nothing (verdict s) laid (out s) (λ e. c.if-refusal-ne0.true (ap (λ (r : Refusal). r.number) (answer said) ∙ e)))
 
 -- past the test the value is accepted, and its words are counted
-module _ (c : tie.After-user-words) where
-  abbrev past : tie.Else1
+module _ (c : tie.After-user_words-user) where
+  abbrev past : tie.Else-refusal-ne0
   past = c.before
 
   abbrev s : tie.Start
@@ -62,7 +62,7 @@ module _ (c : tie.After-user-words) where
   inner = layout_inners (held (told s)).inners
 
   zero : (refusal_of (verdict s)).number ≡ 0
-  zero = sym (ap (λ (r : Refusal). r.number) (answer past.before.before)) ∙ past.if1.left
+  zero = sym (ap (λ (r : Refusal). r.number) (answer past.before.before)) ∙ past.if-refusal-ne0.false
 
   both : Holds (told s) (length (out s)) × (length (layout (held (told s))) ≤ length (out s))
   both = accepted-value (told s) (length (out s)) (told-accepted (verdict s) zero)
@@ -71,10 +71,10 @@ module _ (c : tie.After-user-words) where
   counted = length-user (held (told s)) ∙ ap (λ (n : ℕ). 1 + n) (heads-words s.args.words.now heads both.0.heads)
 
   abbrev user : ℕ
-  user = c.user-words.result
+  user = c.user_words-user.result
 
   exact : user ≡ length (user_words (held (told s)))
-  exact = ⊎_elim (λ e. e ∙ sym counted) (λ w. let f : ⊥ = omega (arith, w.1, counted, both.0.few) in absurd f) c.user-words.ensures
+  exact = ⊎_elim (λ e. e ∙ sym counted) (λ w. let f : ⊥ = omega (arith, w.1, counted, both.0.few) in absurd f) c.user_words-user.ensures
 
   few : user ≤ 255
   few = omega (arith, exact, both.0.few)
@@ -92,17 +92,17 @@ module _ (c : tie.After-user-words) where
   header = 0x000 ∷ 0x3FF ∷ 0x3FF ∷ map word_of (0x43 ∷ 0x03 ∷ user ∷ s.args.priority ∷ [])
 
 -- the header is laid over the output
-module _ (c : tie.After-put-header) where
-  abbrev count : tie.After-user-words
+module _ (c : tie.After-put_header-front) where
+  abbrev count : tie.After-user_words-user
   count = c.before.before
 
   abbrev headed : List ℕ
-  headed = c.put-header.new.1.1.0
+  headed = c.put_header-front.new.out
 
   kept : length headed ≡ length (out (s count))
-  kept = ap length c.put-header.ensures.0 ∙ length_over (header count) (out (s count)) (omega (arith, room count))
+  kept = ap length c.put_header-front.ensures.0 ∙ length_over (header count) (out (s count)) (omega (arith, room count))
 
-put-inners-requires : tie.Need-put-inners-requires
+put-inners-requires : tie.Need-put_inners-inners-requires
 put-inners-requires c κs =
     let first = c.before.before.before in
     let n = count first in (
@@ -111,21 +111,21 @@ put-inners-requires c κs =
     )
 
 -- and the inner packets behind it
-module _ (c : tie.After-put-inners) where
-  abbrev first : tie.After-put-header
+module _ (c : tie.After-put_inners-inners) where
+  abbrev first : tie.After-put_header-front
   first = c.before.before.before.before
 
-  abbrev n : tie.After-user-words
+  abbrev n : tie.After-user_words-user
   n = count first
 
   abbrev all : List ℕ
   all = front (s n).args.priority (user n) (inner n)
 
   abbrev stored : List ℕ
-  stored = put_mid 7 (length (headed first) - 7) (headed first) c.put-inners.new.1.1.0
+  stored = put_mid 7 (length (headed first) - 7) (headed first) c.put_inners-inners.new.out
 
   laid : stored ≡ over all (out (s n))
-  laid = laid_more (header n) (inner n) (out (s n)) (headed first) c.put-inners.new.1.1.0 7 first.put-header.ensures.0 refl c.put-inners.ensures.0
+  laid = laid_more (header n) (inner n) (out (s n)) (headed first) c.put_inners-inners.new.out 7 first.put_header-front.ensures.0 refl c.put_inners-inners.ensures.0
 
   sized : length all ≡ 6 + user n
   sized = omega (arith, size n)
@@ -135,20 +135,20 @@ module _ (c : tie.After-put-inners) where
 
 -- CS is made from their sums
 module _ (c : tie.After-cs) where
-  abbrev call : tie.After-put-inners
+  abbrev call : tie.After-put_inners-inners
   call = c.before.before.before.before
 
-  abbrev m : tie.After-user-words
+  abbrev m : tie.After-user_words-user
   m = n call
 
   abbrev total : ℕ
-  total = c.before.wrapping-add-u16.result
+  total = c.wrapping_add_u16.result
 
-  small : (first call).put-header.result < 65536
+  small : (first call).put_header-front.result < 65536
   small =
       omega (
         arith,
-        (first call).put-header.ensures.1,
+        (first call).put_header-front.ensures.1,
         word_low 0x43 (omega arith),
         word_low 0x03 (omega arith),
         word_low (user m) (omega (arith, few m)),
@@ -158,11 +158,11 @@ module _ (c : tie.After-cs) where
   cs : c.cs.result ≡ checksum_of (drop 3 (all call))
   cs =
       cs-sum (drop 3 (all call)) total c.cs.result
-      (all-total (map word_of (0x43 ∷ 0x03 ∷ user m ∷ (s m).args.priority ∷ [])) (inner m) (first call).put-header.result call.put-inners.result total
-      (first call).put-header.ensures.1 small call.put-inners.ensures.1 c.before.wrapping-add-u16.ensures)
+      (all-total (map word_of (0x43 ∷ 0x03 ∷ user m ∷ (s m).args.priority ∷ [])) (inner m) (first call).put_header-front.result call.put_inners-inners.result total
+      (first call).put_header-front.ensures.1 small call.put_inners-inners.ensures.1 c.wrapping_add_u16.ensures)
       c.cs.ensures
 
-accepted : tie.Need-returns-2
+accepted : tie.Need-returns
 accepted c =
     let call = call c in
     let m = m c in
@@ -178,8 +178,8 @@ accepted c =
     (sym exit)
     (wrote-laid (verdict (s m)) (layout (held t)) o (zero m))
 
-pub write-from-spec : {M : Type 1} → statement M
-write-from-spec =
+pub write_from_spec : {M : Type 1} → statement M
+write_from_spec =
     tie.close
     (tie.spec
     (λ c κs. search rules)
