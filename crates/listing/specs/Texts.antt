@@ -1,5 +1,5 @@
 -- What `cclist` prints for an answer, as bytes. RULES, "Programs". Each line ends with one line feed.
-use Rattle.std.specs.Prelude.{ℕ, zero, suc, ◌+◌, ◌/◌, ◌%◌, ◌≡◌, Bool, true, false, List, [], ◌∷◌, ◌++◌, eqb, ltb, length, get_or}
+use Rattle.std.specs.Prelude.{ℕ, zero, suc, ◌/◌, ◌%◌, ◌≡◌, Bool, true, false, List, [], ◌∷◌, ◌++◌, eqb, ltb, length, get_or}
 use Rattle.lists.specs.Room.{filled}
 use Rattle.refusal.specs.declared.Refusal.{Refusal}
 use Rattle.scte20.specs.declared.Record.{Record}
