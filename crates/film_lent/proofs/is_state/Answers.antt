@@ -1,4 +1,4 @@
--- `film_lent::is-state` meets its contract: a state was told.
+-- `film_lent::is_state` meets its contract: a state was told.
 use mathlib.Core.Path.{◌∙◌, sym}
 use Rattle.film_lent.proofs.is_state.Goals as goal
 

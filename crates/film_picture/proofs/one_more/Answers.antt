@@ -1,4 +1,4 @@
--- `film_picture::one-more` meets its contract: each arm is a case of `one_more`.
+-- `film_picture::one_more` meets its contract: each arm is a case of `one_more`.
 use mathlib.Core.Path.{ap, sym}
 use Rattle.film.specs.declared.Sent.{Sent}
 use Rattle.film.specs.Inside.{one_more}
