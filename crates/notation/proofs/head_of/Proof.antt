@@ -11,12 +11,12 @@ returns c =
     let second = third.before in
     let first = second.before in
     let text = first.before.before.args.text.now in
-    takes-head text first.decimal-at.result second.decimal-at2.result third.decimal-at3.result
-    first.decimal-at.ensures second.decimal-at2.ensures third.decimal-at3.ensures
-    c.before.narrow.result c.narrow2.result c.before.narrow.ensures c.narrow2.ensures
+    takes-head text first.decimal_at-reserved.result second.decimal_at-flag.result third.decimal_at-z.result
+    first.decimal_at-reserved.ensures second.decimal_at-flag.ensures third.decimal_at-z.ensures
+    c.before.narrow.result c.narrow-2.result c.before.narrow.ensures c.narrow-2.ensures
 
-pub head-of-spec : {M : Type 1} → statement M
-head-of-spec =
+pub head_of_spec : {M : Type 1} → statement M
+head_of_spec =
     tie.close
     (tie.spec
     (λ c κs. search rules)

@@ -14,63 +14,63 @@ use Rattle.notation.proofs.Digits.{Read, between-bounds, decimal-empty, read_all
 use Rattle.notation.proofs.numbers.decimal.Statement.{statement}
 use Rattle.notation.proofs.numbers.decimal.Tie as tie
 
-abbrev invariant-loop : tie.invariant-loop
+abbrev invariant-loop : tie.invariant-loop-i
 invariant-loop word value₀ i₀ value i = Read word value i
 
-abbrev decreases-loop : tie.decreases-loop
+abbrev decreases-loop : tie.decreases-loop-i
 decreases-loop word value₀ i₀ value i = length word - i
 
-too_short : tie.Need-returns invariant-loop decreases-loop
+too_short : tie.Need-returns-then-word-lt1 invariant-loop decreases-loop
 too_short c =
     let word = c.before.before.before.args.word.now in
-    unread-reads (is_decimal word) (capped_of word) c.unread.result c.unread.ensures (decimal-empty word c.before.if1.true)
+    unread-reads (is_decimal word) (capped_of word) c.unread.result c.unread.ensures (decimal-empty word c.before.if-word-lt1.true)
 
 -- at the loop's head
-abbrev word_of : tie.At-loop invariant-loop decreases-loop → List ℕ
+abbrev word_of : tie.At-loop-i invariant-loop decreases-loop → List ℕ
 word_of c = c.before.before.before.args.word.now
 
-no_digit : tie.Need-returns-2 invariant-loop decreases-loop
+no_digit : tie.Need-returns-then-not-between invariant-loop decreases-loop
 no_digit c =
     let tested = c.before.before in
     let turn = tested.before.before in
     let here = turn.before in
     let word = word_of here in
-    unread-reads (is_decimal word) (capped_of word) c.unread2.result c.unread2.ensures
-    (read-other word here.loop.value here.loop.i here.loop.invariant turn.loop-test.true (sym tested.between.ensures ∙ not-true _ c.before.if2.true))
+    unread-reads (is_decimal word) (capped_of word) c.unread-then-not-between.result c.unread-then-not-between.ensures
+    (read-other word here.loop-i.value here.loop-i.i here.loop-i.invariant turn.loop-i-test.true (sym tested.between.ensures ∙ c.before.if-not-between.true))
 
 -- the character is a digit
-module _ (c : tie.Else2 invariant-loop decreases-loop) where
-  abbrev here : tie.At-loop invariant-loop decreases-loop
+module _ (c : tie.Else-not-between invariant-loop decreases-loop) where
+  abbrev here : tie.At-loop-i invariant-loop decreases-loop
   here = c.before.before.before.before
 
-  is-digit : is_digit (get_or (word_of here) here.loop.i 0) ≡ true
-  is-digit = sym c.before.between.ensures ∙ not-false _ c.if2.false
+  is-digit : is_digit (get_or (word_of here) here.loop-i.i 0) ≡ true
+  is-digit = sym c.before.between.ensures ∙ c.if-not-between.false
 
-  bounds : let x = get_or (word_of here) here.loop.i 0 in (48 ≤ x) × (x ≤ 57)
-  bounds = between-bounds 0x30 0x39 (get_or (word_of here) here.loop.i 0) is-digit
+  bounds : let x = get_or (word_of here) here.loop-i.i 0 in (48 ≤ x) × (x ≤ 57)
+  bounds = between-bounds 0x30 0x39 (get_or (word_of here) here.loop-i.i 0) is-digit
 
-  small : here.loop.value ≤ 999999999
-  small = here.loop.inv.small
+  small : here.loop-i.value ≤ 999999999
+  small = here.loop-i.invariant.small
 
-loop-again : tie.Need-loop-preserved invariant-loop decreases-loop
+loop-again : tie.Need-loop-i-preserved invariant-loop decreases-loop
 loop-again c =
     let digit = c.before in
     let at = here digit in
     let word = word_of at in
-    subst (λ (v : ℕ). Read word v (at.loop.i + 1)) (sym c.capped.ensures)
-    (read_more word at.loop.value at.loop.i at.loop.inv digit.before.before.before.loop-test.true (is-digit digit))
+    subst (λ (v : ℕ). Read word v (at.loop-i.i + 1)) (sym c.capped-value.ensures)
+    (read_more word at.loop-i.value at.loop-i.i at.loop-i.invariant digit.before.before.before.loop-i-test.true (is-digit digit))
 
-all_read : tie.Need-returns-3 invariant-loop decreases-loop
+all_read : tie.Need-returns invariant-loop decreases-loop
 all_read c =
     let at = c.before in
     let word = word_of at in
     record {
-      told = sym (read_all word at.loop.value at.loop.i at.loop.invariant c.loop-test.false at.before.if1.false);
-      value = λ is. read-value word at.loop.value at.loop.i at.loop.invariant c.loop-test.false;
+      told = sym (read_all word at.loop-i.value at.loop-i.i at.loop-i.invariant c.loop-i-test.false at.before.if-word-lt1.false);
+      value = λ is. read-value word at.loop-i.value at.loop-i.i at.loop-i.invariant c.loop-i-test.false;
     }
 
-pub decimal-spec : {M : Type 1} → statement M
-decimal-spec =
+pub decimal_spec : {M : Type 1} → statement M
+decimal_spec =
     tie.close
     (tie.spec
     invariant-loop

@@ -11,9 +11,9 @@ returns : tie.Need-returns
 returns c =
     let found = c.before.before in
     let args = found.before.before.args in
-    takes args.text.now args.at found.next.result found.next.ensures is_decimal capped_of c.decimal.result c.decimal.ensures decimal-none
+    takes args.text.now args.at found.next-word.result found.next-word.ensures is_decimal capped_of c.decimal-number.result c.decimal-number.ensures decimal-none
 
-pub decimal-at-spec : {M : Type 1} → statement M
-decimal-at-spec =
+pub decimal_at_spec : {M : Type 1} → statement M
+decimal_at_spec =
     tie.close
     (tie.spec (λ c κs. search rules) (λ c. search rules) (λ c. search rules) (λ c. search rules) (λ c κs. search rules) returns)

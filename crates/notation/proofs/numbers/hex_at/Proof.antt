@@ -12,11 +12,11 @@ returns c =
     let found = c.before.before in
     let args = found.before.before.args in
     record {
-      takes = takes args.text.now args.at found.next.result found.next.ensures is_hex hex_of c.hex.result c.hex.ensures.reads refl;
-      small = c.hex.ensures.small;
+      takes = takes args.text.now args.at found.next-word.result found.next-word.ensures is_hex hex_of c.hex-number.result c.hex-number.ensures.reads refl;
+      small = c.hex-number.ensures.small;
     }
 
-pub hex-at-spec : {M : Type 1} → statement M
-hex-at-spec =
+pub hex_at_spec : {M : Type 1} → statement M
+hex_at_spec =
     tie.close
     (tie.spec (λ c κs. search rules) (λ c. search rules) (λ c. search rules) (λ c. search rules) (λ c κs. search rules) returns)

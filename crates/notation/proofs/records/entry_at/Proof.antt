@@ -7,7 +7,7 @@ use Rattle.notation.proofs.records.entry_at.Statement.{statement}
 use Rattle.notation.proofs.records.entry_at.Tie as tie
 
 -- all five words are taken
-abbrev taken : tie.After-struct-known6 → tie.After-hex-at2
+abbrev taken : tie.After-struct_known-6-1 → tie.After-hex_at-data_2
 taken c = c.before.before.before.before.before.before.before.before.before
 
 returns : tie.Need-returns
@@ -20,13 +20,13 @@ returns c =
     let first = second.before in
     let args = first.before.before.args in
     takes-entry args.text.now args.at
-    first.decimal-at.result second.decimal-at2.result third.decimal-at3.result fourth.hex-at.result fifth.hex-at2.result
-    first.decimal-at.ensures second.decimal-at2.ensures third.decimal-at3.ensures fourth.hex-at.ensures.takes fifth.hex-at2.ensures.takes
-    bytes.before.before.narrow.result bytes.before.narrow2.result bytes.narrow3.result
-    bytes.before.before.narrow.ensures bytes.before.narrow2.ensures bytes.narrow3.ensures
+    first.decimal_at-priority.result second.decimal_at-field.result third.decimal_at-line.result fourth.hex_at-data_1.result fifth.hex_at-data_2.result
+    first.decimal_at-priority.ensures second.decimal_at-field.ensures third.decimal_at-line.ensures fourth.hex_at-data_1.ensures.takes fifth.hex_at-data_2.ensures.takes
+    bytes.before.before.narrow.result bytes.before.narrow-2.result bytes.narrow-3.result
+    bytes.before.before.narrow.ensures bytes.before.narrow-2.ensures bytes.narrow-3.ensures
 
-pub entry-at-spec : {M : Type 1} → statement M
-entry-at-spec =
+pub entry_at_spec : {M : Type 1} → statement M
+entry_at_spec =
     tie.close
     (tie.spec
     (λ c κs. search rules)
@@ -37,6 +37,6 @@ entry-at-spec =
     (λ c κs. search rules)
     (λ c κs. search rules)
     (λ c κs. search rules)
-    (λ c. omega (arith, (taken c).before.hex-at.ensures.small))
-    (λ c. omega (arith, (taken c.before).hex-at2.ensures.small))
+    (λ c. omega (arith, (taken c).before.hex_at-data_1.ensures.small))
+    (λ c. omega (arith, (taken c.before).hex_at-data_2.ensures.small))
     returns)

@@ -20,13 +20,13 @@ record Passed (text : List ℕ) (at i : ℕ) : Type 0 where
   inside : i ≤ length text
   word : (k : ℕ) → at ≤ k → k < i → is_space (get_or text k 0) ≡ false
 
-abbrev invariant-loop : tie.invariant-loop
+abbrev invariant-loop : tie.invariant-loop-i
 invariant-loop text at i₀ i = Passed text at i
 
-abbrev decreases-loop : tie.decreases-loop
+abbrev decreases-loop : tie.decreases-loop-i
 decreases-loop text at i₀ i = length text - i
 
-loop-holds : tie.Need-loop-init invariant-loop decreases-loop
+loop-holds : tie.Need-loop-i-init invariant-loop decreases-loop
 loop-holds c = record { from = search rules; inside = search rules; word = λ k from below. let f : ⊥ = omega arith in absurd f }
 
 ends : (text : List ℕ) (at i : ℕ) → Passed text at i → (i < length text → is_space (get_or text i 0) ≡ true) → EndsWord text at i
@@ -41,27 +41,27 @@ further text at i h below other = record { from = omega (arith, h.from); inside 
     go k from before true e = subst (λ (j : ℕ). is_space (get_or text j 0) ≡ false) (sym (eqb-true k i e)) other
     go k from before false e = h.word k from (omega (arith, eqb-false k i e))
 
-found : tie.Need-returns invariant-loop decreases-loop
+found : tie.Need-returns-then-is_space invariant-loop decreases-loop
 found c =
     let here = c.before.before.before.before in
     let args = here.before.before.args in
-    ends args.text.now args.at here.loop.i here.loop.invariant (λ h. sym c.before.is-space.ensures ∙ c.if1.true)
+    ends args.text.now args.at here.loop-i.i here.loop-i.invariant (λ h. sym c.before.is_space.ensures ∙ c.if-is_space.true)
 
-loop-again : tie.Need-loop-preserved invariant-loop decreases-loop
+loop-again : tie.Need-loop-i-preserved invariant-loop decreases-loop
 loop-again c =
     let turn = c.before.before.before in
     let here = turn.before in
     let args = here.before.before.args in
-    further args.text.now args.at here.loop.i here.loop.invariant turn.loop-test.true (sym c.before.is-space.ensures ∙ c.if1.false)
+    further args.text.now args.at here.loop-i.i here.loop-i.invariant turn.loop-i-test.true (sym c.before.is_space.ensures ∙ c.if-is_space.false)
 
-at-end : tie.Need-returns-2 invariant-loop decreases-loop
+at-end : tie.Need-returns invariant-loop decreases-loop
 at-end c =
     let here = c.before in
     let args = here.before.before.args in
-    ends args.text.now args.at here.loop.i here.loop.invariant (λ h. let f : ⊥ = omega arith in absurd f)
+    ends args.text.now args.at here.loop-i.i here.loop-i.invariant (λ h. let f : ⊥ = omega arith in absurd f)
 
-pub ended-spec : {M : Type 1} → statement M
-ended-spec =
+pub ended_spec : {M : Type 1} → statement M
+ended_spec =
     tie.close
     (tie.spec
     invariant-loop
