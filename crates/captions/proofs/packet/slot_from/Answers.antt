@@ -3,33 +3,17 @@ use Prim.Native.Nat.{ℕ, ◌+◌, ◌*◌}
 use native.Mathlib.Nat.{add-zero}
 use mathlib.Core.Path.{◌≡◌, sym}
 use mathlib.Core.List.{List}
-use borrow.Author.Rules.{rules}
 use lib.ListN.{get_or, drop}
 use lib.Seq.{get_or-drop}
 use Rattle.captions.specs.Calls.{slot_in}
-use Rattle.captions.proofs.packet.slot_from.Statement.{statement}
-use Rattle.captions.proofs.packet.slot_from.Tie as tie
+use Rattle.captions.proofs.packet.slot_from.Goals as goal
 
 slot_at : (s : List ℕ) (at : ℕ)
     → slot_in (drop at s) ≡ record { full = get_or s at 0; line = get_or s (at + 1) 0; reserved = get_or s (at + 2) 0; field = record { 0 = get_or s (at + 3) 0 } }
 unfolding slot_in
 slot_at s at = rw (get_or-drop at s 0 0, get_or-drop at s 1 0, get_or-drop at s 2 0, get_or-drop at s 3 0, add-zero at)
 
-returns : tie.Need-returns
+pub returns : goal.returns
 returns c =
-    let start = c.before.before.before.before in
+    let start = c in
     sym (slot_at start.args.bytes.now (4 * start.args.i))
-
-pub slot-from-spec : {M : Type 1} → statement M
-slot-from-spec =
-    tie.close
-    (tie.spec
-    (λ c. search rules)
-    (λ c. search rules)
-    (λ c. search rules)
-    (λ c. search rules)
-    (λ c. search rules)
-    (λ c. search rules)
-    (λ c. search rules)
-    (λ c. search rules)
-    returns)
