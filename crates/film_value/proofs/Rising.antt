@@ -13,8 +13,7 @@ use Rattle.lists.proofs.Each.{each_take}
 use Rattle.refusal.specs.declared.Verdict.TheVariants.{Accepted}
 use Rattle.scte20.specs.declared.Record.{Record}
 use Rattle.scte20.specs.declared.Numbers.{Numbers}
-use Rattle.scte20.specs.declared.CaptionUnit.{CaptionUnit}
-use Rattle.scte20.specs.Value.{blank, field_of, held, ByteRecord, LegalRecord, LegalCaptionUnit, InOrder, count_if, urgent, Typed}
+use Rattle.scte20.specs.Value.{blank, field_of, ByteRecord, LegalRecord, InOrder, count_if, urgent, Typed}
 use Rattle.scte20.specs.Lent.{lent_records, unit_in}
 use Rattle.scte20.proofs.Holding.{Whole, length-held}
 use Rattle.film.specs.declared.Slot.TheVariants.{Invalid}

@@ -18,7 +18,7 @@ use refusal::{Excess, Item, Reason, Verdict};
 use scte20::{CONSTRUCT_BITS, CONSTRUCTS, LENT_RECORDS, MAX_BYTES, Numbers};
 
 // What `gather` answers: whether the picture is carried, and if so what each display field brings to its side of a frame.
-#[derive(Drop)]
+#[derive(Clone, Copy)]
 pub struct Gathered {
     pub carried: bool,
     pub one: Half,

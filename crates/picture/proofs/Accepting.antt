@@ -11,7 +11,7 @@ use Rattle.refusal.specs.Numbers.{refusal_of}
 use Rattle.refusal.specs.Checks.{first}
 use Rattle.refusal.proofs.Acceptance.{told-accepted}
 use Rattle.kind.specs.declared.Kind.{Kind}
-use Rattle.picture.specs.Kinds.{Content, none}
+use Rattle.picture.specs.Kinds.{Content}
 use Rattle.picture.specs.Value.{Area, uncaptioned, captioned, layout, Legal}
 use Rattle.picture.specs.Reading.{captions_in, area_verdict, found_content, Answer, answer_of, shown, Reads}
 use Rattle.picture.specs.Order.{reading_checks}

@@ -32,7 +32,7 @@ use Rattle.units.specs.Split.{bodies_of, put_if, of_kind}
 use Rattle.units.proofs.Splits.{layout-bodies, layout-accepted}
 use Rattle.units.proofs.Spans.{nowhere-exactly, at-found, part_body, second-many}
 use Rattle.picture.specs.Kinds.{Content, LegalContent, body_of, content_verdict, value_of, CaptionUnit, held, numbers_of, bytes_of}
-use Rattle.picture.specs.Value.{Area, uncaptioned, captioned, bodies, layout, Foreign, LegalBodies, Legal, replaced}
+use Rattle.picture.specs.Value.{Area, uncaptioned, captioned, bodies, layout, Foreign, LegalBodies, replaced}
 use Rattle.picture.specs.Reading.{placed, captions_in, found_verdict, area_verdict, found_content, Answer, answer_of, read_of, Reads, Alike}
 use Rattle.picture.specs.Lent.{Head, ReadsInto}
 use Rattle.picture.specs.Writing.{Replaces}

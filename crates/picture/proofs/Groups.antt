@@ -1,6 +1,6 @@
 -- Data groups, units whose bodies begin 03 09 or 03 0A, in an area: foreign, wherever they stand.
 -- Assumes nothing.
-use Prim.Native.Nat.{ℕ, zero, suc, ◌+◌, ◌≤◌, ◌<◌}
+use Prim.Native.Nat.{ℕ, zero, suc, ◌≤◌, ◌<◌}
 use native.Mathlib.Omega.{arith}
 use mathlib.Core.Path.{◌≡◌, ◌∙◌, ap, sym, subst, refl}
 use mathlib.Core.Bool.{Bool, true, false, true≢false}

@@ -27,8 +27,7 @@ use Rattle.units.proofs.Splits.{split-short, split-layout, split-clean, layout-p
 use Rattle.units.proofs.Spans.{length-put_if, Alone, nowhere-exactly, found_at, many-second, refused-split}
 use Rattle.kind.specs.declared.Kind.{Kind}
 use Rattle.kind.specs.Ours.{ours}
-use Rattle.picture.specs.Kinds.{none, content_verdict, body_checks, CaptionUnit, held, write_verdict, value_checks}
-use Rattle.picture.specs.Value.{bodies, layout}
+use Rattle.picture.specs.Kinds.{content_verdict, body_checks, CaptionUnit, held, write_verdict, value_checks}
 use Rattle.picture.specs.Reading.{placed, captions_in, found_verdict, area_verdict}
 use Rattle.picture.specs.Writing.{unit_bytes, replaced_of, replace_verdict}
 use Rattle.picture.specs.Order.{Caption, captions_of, caption_checks, reading_checks, writing_checks, replacing_checks}

@@ -23,8 +23,7 @@ use Rattle.units.proofs.Spans.{nowhere-exactly}
 use Rattle.kind.specs.declared.Kind.{Kind}
 use Rattle.picture.specs.declared.Spot.{Spot}
 use Rattle.kind.specs.Ours.{ours}
-use Rattle.picture.specs.Kinds.{CaptionUnit, stored, held, write_verdict}
-use Rattle.picture.specs.Value.{replaced}
+use Rattle.picture.specs.Kinds.{CaptionUnit, held, write_verdict}
 use Rattle.picture.specs.Reading.{captions_in, found_verdict, area_verdict}
 use Rattle.picture.specs.Inside.{spot_of}
 use Rattle.around.specs.Around.{exchanged}

@@ -41,7 +41,6 @@ use Rattle.scte20.specs.Value.{flag_byte}
 use Rattle.picture.specs.Kinds.{Content, LegalContent, none, body_of, content_verdict, Stands}
 use Rattle.picture.specs.Kinds.{CaptionUnit, stored, held, LegalCaptionUnit, stuffing, whole_verdict, write_verdict}
 use Rattle.picture.specs.Kinds.{ForValue, Numbers, count, width, places, unit_in, bytes_of}
-use Rattle.picture.specs.declared.Spot.{Spot}
 use Rattle.picture.specs.Value.{Area, uncaptioned, captioned, bodies, layout, Foreign, Legal, replaced, foreign_of}
 use Rattle.picture.specs.Reading.{area_verdict, Answer, shown, Reads, Alike}
 use Rattle.picture.specs.Lent.{Head, head_of, ReadsInto}

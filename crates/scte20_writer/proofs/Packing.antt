@@ -1,10 +1,10 @@
 -- Bits packed into words and bytes: the number of a construct, and the word that a construct and the bits before it make.
 -- Assumes nothing.
-use Prim.Native.Nat.{ℕ, ◌+◌, ◌-◌, ◌*◌, ◌/◌, ◌%◌, ◌^◌, ◌≤◌, ◌<◌}
+use Prim.Native.Nat.{ℕ, ◌+◌, ◌-◌, ◌*◌, ◌/◌, ◌%◌, ◌^◌, ◌<◌}
 use native.Mathlib.Omega.{arith}
 use mathlib.Core.Path.{◌≡◌, ◌∙◌, ap, ap₂, sym, refl}
 use mathlib.Core.List.{List, [], ◌∷◌, ◌++◌, append_assoc}
-use lib.ListN.{length, drop, replicate}
+use lib.ListN.{drop, replicate}
 use lib.Seq.{drop_at}
 use Rattle.bits.specs.Bits.{bits, num, bytes_of, reversed}
 use Rattle.bits.proofs.Numbers.{length-bits, bits_are, num-lt, num-bits-small, num-front, bits-mod, bits-add}

@@ -5,7 +5,7 @@ use native.Mathlib.Omega.{arith}
 use native.Mathlib.Numerals.{add-one}
 use mathlib.Core.Path.{◌≡◌, ◌∙◌, ap, ap₂, sym, subst, refl}
 use mathlib.Core.List.{List, [], ◌∷◌, ◌++◌, append_assoc, append-nil}
-use lib.ListN.{length, get_or, take, drop, set, replicate, length-append, length-drop, length-set}
+use lib.ListN.{length, get_or, take, drop, set, replicate, length-append, length-drop}
 use lib.Pow.{mod-mod-pow}
 use lib.Seq.{length-take-le, take_at, take-suc, take-append-le, take-append-add, take-suc-set, drop_at, drop-append-le, drop-append-add}
 use Rattle.lists.specs.Room.{over_at}

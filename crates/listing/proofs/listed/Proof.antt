@@ -21,17 +21,17 @@ use Rattle.listing.proofs.Types.{typed}
 use Rattle.listing.proofs.listed.Statement.{statement}
 use Rattle.listing.proofs.listed.Tie as tie
 
-abbrev invariant-loop : tie.invariant-loop
+abbrev invariant-loop : tie.invariant-loop-i
 invariant-loop unit n t₀ i₀ t i = (i ≤ n) × Appends (records_text (take i unit.records)) t₀ t
 
-abbrev decreases-loop : tie.decreases-loop
+abbrev decreases-loop : tie.decreases-loop-i
 decreases-loop unit n t₀ i₀ t i = 31 - i
 
-loop-holds : tie.Need-loop-init invariant-loop decreases-loop
-loop-holds c = (search rules, appends-none c.with.result)
+loop-holds : tie.Need-loop-i-init invariant-loop decreases-loop
+loop-holds c = (search rules, appends-none c.with-t.result)
 
 -- at the loop's head
-module _ (c : tie.At-loop invariant-loop decreases-loop) where
+module _ (c : tie.At-loop-i invariant-loop decreases-loop) where
   abbrev unit : CaptionUnit
   unit = c.before.before.before.before.args.t1
 
@@ -39,39 +39,39 @@ module _ (c : tie.At-loop invariant-loop decreases-loop) where
   types = typed unit _ c.before.before.before.before.well-formed.0
 
   -- where the records passed are the first n
-  whole : (n : ℕ) → take c.loop.i unit.records ≡ take n unit.records → HoldsText (head_text ++ records_text (take n unit.records)) c.loop.t
+  whole : (n : ℕ) → take c.loop-i.i unit.records ≡ take n unit.records → HoldsText (head_text ++ records_text (take n unit.records)) c.loop-i.t
   whole n e =
-      let passed = take c.loop.i unit.records in
-      let head : HoldsText head_text c.before.with.result = appends-first c.before.before.before.empty.ensures c.before.with.ensures (omega arith) in
-      let bytes = each_take ByteRecord c.loop.i unit.records types.1 in
-      let few : length passed ≤ 31 = omega (arith, length-take c.loop.i unit.records, types.0) in
-      subst (λ (rs : List Record). HoldsText (head_text ++ records_text rs) c.loop.t) e
-      (c.loop.invariant.1.behind head_text head (listed-fits passed bytes few))
+      let passed = take c.loop-i.i unit.records in
+      let head : HoldsText head_text c.before.with-t.result = appends-first c.before.before.before.empty.ensures c.before.with-t.ensures (omega arith) in
+      let bytes = each_take ByteRecord c.loop-i.i unit.records types.1 in
+      let few : length passed ≤ 31 = omega (arith, length-take c.loop-i.i unit.records, types.0) in
+      subst (λ (rs : List Record). HoldsText (head_text ++ records_text rs) c.loop-i.t) e
+      (c.loop-i.invariant.1.behind head_text head (listed-fits passed bytes few))
 
-returns : tie.Need-returns invariant-loop decreases-loop
+returns : tie.Need-returns-then-i-n invariant-loop decreases-loop
 returns c =
     let here = c.before.before in
-    whole here (unit here).n (ap (λ (k : ℕ). take k (unit here).records) c.if1.true)
+    whole here (unit here).n (ap (λ (k : ℕ). take k (unit here).records) c.if-i-n.true)
 
-loop-again : tie.Need-loop-preserved invariant-loop decreases-loop
+loop-again : tie.Need-loop-i-preserved invariant-loop decreases-loop
 loop-again c =
     let here = c.before.before.before.before in (
       search rules,
       appends-same
-          (sym (records-next (unit here).records here.loop.i blank (omega (arith, (types here).0))))
-          (appends-both here.loop.invariant.1 c.with-record.ensures),
+          (sym (records-next (unit here).records here.loop-i.i blank (omega (arith, (types here).0))))
+          (appends-both here.loop-i.invariant.1 c.with_record-t.ensures),
     )
 
-returns-2 : tie.Need-returns-2 invariant-loop decreases-loop
+returns-2 : tie.Need-returns invariant-loop decreases-loop
 returns-2 c =
     let here = c.before in
     let n = (unit here).n in
     whole here n
-    (take_all here.loop.i (unit here).records (omega (arith, (types here).0))
+    (take_all here.loop-i.i (unit here).records (omega (arith, (types here).0))
     ∙ sym (take_all n (unit here).records (omega (arith, (types here).0))))
 
-pub listed-spec : {M : Type 1} → statement M
-listed-spec =
+pub listed_spec : {M : Type 1} → statement M
+listed_spec =
     tie.close
     (tie.spec
     invariant-loop

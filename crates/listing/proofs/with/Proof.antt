@@ -8,26 +8,26 @@ use Rattle.listing.proofs.Building.{appends-none, appends-next, appends-all}
 use Rattle.listing.proofs.with.Statement.{statement}
 use Rattle.listing.proofs.with.Tie as tie
 
-abbrev invariant-loop : tie.invariant-loop
+abbrev invariant-loop : tie.invariant-loop-i
 invariant-loop bytes r₀ i₀ r i = (i ≤ length bytes) × Appends (take i bytes) r₀ r
 
-abbrev decreases-loop : tie.decreases-loop
+abbrev decreases-loop : tie.decreases-loop-i
 decreases-loop bytes r₀ i₀ r i = length bytes - i
 
-loop-holds : tie.Need-loop-init invariant-loop decreases-loop
+loop-holds : tie.Need-loop-i-init invariant-loop decreases-loop
 loop-holds c = (search rules, appends-none c.before.args.t)
 
-loop-again : tie.Need-loop-preserved invariant-loop decreases-loop
+loop-again : tie.Need-loop-i-preserved invariant-loop decreases-loop
 loop-again c =
     let bytes = c.before.before.before.before.before.args.bytes.now in
-    let turn = c.before.before.before.loop in
-    (search rules, appends-next bytes turn.i c.before.before.loop-test.true turn.invariant.1 c.with_byte.ensures)
+    let turn = c.before.before.before.loop-i in
+    (search rules, appends-next bytes turn.i c.before.before.loop-i-test.true turn.invariant.1 c.with_byte-r.ensures)
 
 returns : tie.Need-returns invariant-loop decreases-loop
-returns c = appends-all c.before.before.before.args.bytes.now c.before.loop.i c.loop-test.false c.before.loop.invariant.1
+returns c = appends-all c.before.before.before.args.bytes.now c.before.loop-i.i c.loop-i-test.false c.before.loop-i.invariant.1
 
-pub with-spec : {M : Type 1} → statement M
-with-spec =
+pub with_spec : {M : Type 1} → statement M
+with_spec =
     tie.close
     (tie.spec
     invariant-loop

@@ -13,7 +13,9 @@ use Rattle.multi_clean.proofs.inner_sum.Tie as tie
 
 own-holds-requires : tie.Need-own_holds-requires
 own-holds-requires c κs =
-    ((c.if-n-lt-HEADER_WORDS.false, omega (arith, c.if-n-ncs.false)), c.sum-user.ensures)
+    let two = c.before.before.before.before in
+    let one = two.before.before in
+    ((one.if-n-lt-HEADER_WORDS.false, omega (arith, two.if-n-ncs.false)), c.sum-user.ensures)
 
 -- a sum modulo 65,536 to which more is added
 more : (a b x y : ℕ) → x ≡ a % 65536 → y ≡ (x + b) % 65536 → y ≡ (a + b) % 65536
@@ -49,7 +51,7 @@ module _ (c : tie.Else-rest-ncs) where
   one = two.before.before
 
   abbrev u : List ℕ
-  u = one.args.rest.now
+  u = one.before.before.args.rest.now
 
   abbrev covered : ℕ
   covered = third.wrapping_add_u16-covered.result
@@ -60,13 +62,15 @@ module _ (c : tie.Else-rest-ncs) where
   covers : covered ≡ sum (part 1 (ncs_at u) u) % 65536
   covers =
       let user = sum (part 4 (ncs_at u) u) in
-      let ids = more (get_or u 1 0 + get_or u 2 0) (get_or u 3 0) third.wrapping_add_u16-ids.result third.wrapping_add_u16.result third.wrapping_add_u16-ids.ensures third.wrapping_add_u16.ensures in
-      let all = both (get_or u 1 0 + get_or u 2 0 + get_or u 3 0) user third.wrapping_add_u16.result summed.sum-user.result covered ids summed.sum-user.ensures third.wrapping_add_u16-covered.ensures in
+      let second = third.before in
+      let first = second.before.before in
+      let ids = more (get_or u 1 0 + get_or u 2 0) (get_or u 3 0) first.wrapping_add_u16-ids.result second.wrapping_add_u16.result first.wrapping_add_u16-ids.ensures second.wrapping_add_u16.ensures in
+      let all = both (get_or u 1 0 + get_or u 2 0 + get_or u 3 0) user second.wrapping_add_u16.result summed.sum-user.result covered ids summed.sum-user.ensures third.wrapping_add_u16-covered.ensures in
       let same : get_or u 1 0 + get_or u 2 0 + get_or u 3 0 + user ≡ sum (part 1 (ncs_at u) u) = regrouped (get_or u 1 0) (get_or u 2 0) (get_or u 3 0) user ∙ sym (sum-covered u one.if-n-lt-HEADER_WORDS.false) in
       all ∙ ap (λ (k : ℕ). k % 65536) same
 
   ncs : get_or u (ncs_at u) 0 ≡ checksum_of (part 1 (ncs_at u) u)
-  ncs = c.if-rest-ncs.false ∙ c.cs.ensures ∙ ap cs_of covers ∙ sym (checksum-sum (part 1 (ncs_at u) u))
+  ncs = c.if-rest-ncs.false ∙ c.before.cs.ensures ∙ ap cs_of covers ∙ sym (checksum-sum (part 1 (ncs_at u) u))
 
 sums : tie.Need-returns
 sums c low =
@@ -85,7 +89,7 @@ sums c low =
           ∙ ap (λ (k : ℕ). k % 65536) (turned s a x ∙ sym (sum-inner u (one five).if-n-lt-HEADER_WORDS.false (long five)));
       holds =
           inner-clean u (one five).if-n-lt-HEADER_WORDS.false (long five) (three five).if-rest-ne0.false
-          ((four five).own_holds.ensures (four five).if-not-own_holds.false) (ncs five);
+          ((four five).before.own_holds.ensures (four five).if-not-own_holds.false) (ncs five);
     }
 
 pub inner_sum_spec : {M : Type 1} → statement M

@@ -16,27 +16,30 @@ decreases-loop words from to n₀ i₀ n i = to - i
 
 loop-holds : tie.Need-loop-i-init invariant-loop decreases-loop
 loop-holds c =
-    let args = c.args in
+    let args = c.before.args in
     let none = part_none args.words.now args.from args.from (omega arith) in
     (omega arith, (omega arith, (omega arith, sym (ap strays none))))
 
 add-n : tie.Need-overflow_add-n invariant-loop decreases-loop
 add-n c =
-    let words = c.args.words.now in
-    omega (arith, c.stray-n.ensures, stray-low (get_or words c.loop-i.i 0))
+    let turn = c.before.before in
+    let words = turn.before.before.before.args.words.now in
+    omega (arith, c.stray-n.ensures, stray-low (get_or words turn.before.loop-i.i 0))
 
 loop-again : tie.Need-loop-i-preserved invariant-loop decreases-loop
 loop-again c =
-    let words = c.args.words.now in
-    let i = c.loop-i.i in
-    let more = strays-next words c.args.from i (omega arith) (omega arith) in
+    let turn = c.before.before in
+    let start = turn.before.before.before in
+    let words = start.args.words.now in
+    let i = turn.before.loop-i.i in
+    let more = strays-next words start.args.from i (omega arith) (omega arith) in
     (omega arith, (omega arith, (omega (arith, c.stray-n.ensures, stray-low (get_or words i 0)), omega (arith, c.stray-n.ensures, more))))
 
 returns : tie.Need-returns invariant-loop decreases-loop
 returns c =
-    let args = c.args in
-    let done : c.loop-i.i ≡ args.to = omega arith in
-    c.loop-i.invariant.1.1.1 ∙ ap (λ k. strays (part args.from k args.words.now)) done
+    let args = c.before.before.before.args in
+    let done : c.before.loop-i.i ≡ args.to = omega arith in
+    c.before.loop-i.invariant.1.1.1 ∙ ap (λ k. strays (part args.from k args.words.now)) done
 
 pub strays_spec : {M : Type 1} → statement M
 strays_spec =

@@ -1,3 +1,4 @@
+-- Where an inner packet is refused, that is the answer. One that is accepted is all there, and what is behind it decides.
 use Prim.Native.Nat.{ℕ, ◌+◌, ◌≤◌}
 use native.Mathlib.Nat.{pos_of_ne-zero}
 use native.Mathlib.Omega.{arith}
@@ -26,28 +27,22 @@ returns-in-Refused t c =
     refused-first _ c.judge_inner-verdict.ensures c.in-Refused.is ∙ sym (inners-next c.args.at c.args.rest.now (pos_of_ne-zero c.if-n-eq0.false))
 
 pub bounds-rest-3 : goal.bounds-rest-3
-bounds-rest-3 t c = let long = whole c.args.at c.args.rest.now c.judge_inner-verdict.ensures c.in_default.is in omega (arith, long.0)
+bounds-rest-3 t c = omega (arith, (whole c.args.at c.args.rest.now c.judge_inner-verdict.ensures c.in_default.is).0)
 
 pub slice_bounds-judge_inners-count : goal.slice_bounds-judge_inners-count
-slice_bounds-judge_inners-count t c =
-    let long = whole c.args.at c.args.rest.now c.judge_inner-verdict.ensures c.in_default.is in
-    omega (arith, long.1)
+slice_bounds-judge_inners-count t c = omega (arith, (whole c.args.at c.args.rest.now c.judge_inner-verdict.ensures c.in_default.is).1)
 
 pub slice_bounds-judge_inners-start : goal.slice_bounds-judge_inners-start
-slice_bounds-judge_inners-start t c =
-    let long = whole c.args.at c.args.rest.now c.judge_inner-verdict.ensures c.in_default.is in
-    omega (arith, long.1)
+slice_bounds-judge_inners-start t c = omega (arith, (whole c.args.at c.args.rest.now c.judge_inner-verdict.ensures c.in_default.is).1)
 
 pub overflow_add-at : goal.overflow_add-at
-overflow_add-at t c =
-    let long = whole c.args.at c.args.rest.now c.judge_inner-verdict.ensures c.in_default.is in
-    omega (arith, long.1, c.requires)
+overflow_add-at t c = omega (arith, (whole c.args.at c.args.rest.now c.judge_inner-verdict.ensures c.in_default.is).1, c.requires)
 
 pub judge_inners-requires : goal.judge_inners-requires
 judge_inners-requires t c =
     let u = c.args.rest.now in
     let long = whole c.args.at u c.judge_inner-verdict.ensures c.in_default.is in
-    (omega (arith, long.0, long.1, length_rest u (size_in u)), omega (arith, c.requires, long.1, length_rest u (size_in u)))
+    (omega (arith, c.decreases, long.0, long.1, length_rest u (size_in u)), omega (arith, c.requires, long.1, length_rest u (size_in u)))
 
 pub returns : goal.returns
 returns t c =

@@ -27,7 +27,7 @@ returns-then-field-lt1 c = simp (none (field_of c.args.r) c.if-field-lt1.true)
 
 pub returns-then-field-before : goal.returns-then-field-before
 unfolding last_verdict
-returns-then-field-before c = let args = c.args in simp (some (field_of args.r) c.if-field-lt1.false, lt-ltb _ _ c.if-field-before.true)
+returns-then-field-before c = let args = c.args in simp (some (field_of args.r) (omega arith), lt-ltb _ _ c.if-field-before.true)
 
 pub returns-then-before-field : goal.returns-then-before-field
 unfolding last_verdict

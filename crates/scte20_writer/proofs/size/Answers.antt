@@ -1,0 +1,45 @@
+-- `scte20_writer::size` meets its contract: the code counts as `size_in` does.
+use Prim.Native.Nat.{ℕ, zero, suc, ◌+◌, ◌*◌, ◌/◌}
+use native.Mathlib.Omega.{arith}
+use mathlib.Core.Path.{◌≡◌, ap, sym, refl}
+use Rattle.scte20.specs.Layout.{size_in}
+use Rattle.scte20_writer.proofs.size.Goals as goal
+
+-- behind a flag that is not 0
+size-flagged : (flag n : ℕ) → (flag ≡ 0 → ⊥) → size_in flag n ≡ (21 + 26 * n + 4 + 7) / 8
+size-flagged zero n h = absurd (h refl)
+size-flagged (suc flag) n h = omega arith
+
+pub returns-then-v-eq0 : goal.returns-then-v-eq0
+returns-then-v-eq0 c =
+    let v = c.args.v in
+    ap (λ (flag : ℕ). size_in flag v.n + v.z) (sym c.if-v-eq0.true)
+
+pub returns : goal.returns
+returns c =
+    let v = c.args.v in
+    ap (λ (k : ℕ). k + v.z) (sym (size-flagged v.vbi_data_flag v.n c.if-v-eq0.false))
+
+pub overflow_add-result : goal.overflow_add-result
+overflow_add-result c =
+    omega (arith, c.requires.z_bound)
+
+pub overflow_mul-result : goal.overflow_mul-result
+overflow_mul-result c =
+    omega (arith, c.requires.n_bound)
+
+pub overflow_add-result-2 : goal.overflow_add-result-2
+overflow_add-result-2 c =
+    omega (arith, c.requires.n_bound)
+
+pub overflow_add-result-3 : goal.overflow_add-result-3
+overflow_add-result-3 c =
+    omega (arith, c.requires.n_bound)
+
+pub overflow_add-result-4 : goal.overflow_add-result-4
+overflow_add-result-4 c =
+    omega (arith, c.requires.n_bound)
+
+pub overflow_add-result-5 : goal.overflow_add-result-5
+overflow_add-result-5 c =
+    omega (arith, c.requires.n_bound, c.requires.z_bound)
