@@ -1,3 +1,4 @@
+-- `subtitling::in_order` meets its contract: each part decides once those before it have accepted. The part lent to `judge_user` is the user words.
 use native.Mathlib.Omega.{arith}
 use mathlib.Core.Path.{◌≡◌, ◌∙◌, sym}
 use mathlib.Core.List.{[], ◌∷◌}

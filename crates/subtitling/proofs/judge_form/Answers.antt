@@ -1,3 +1,4 @@
+-- `subtitling::judge_form` meets its contract: at each return the tests that led there pick that check of `form_verdict`.
 use Prim.Native.Nat.{◌-◌}
 use mathlib.Core.Path.{◌≡◌, ◌∙◌, sym}
 use borrow.Author.Tests.{eq-eqb, ne_eqb, lt-ltb, le-ltb}

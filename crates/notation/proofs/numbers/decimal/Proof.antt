@@ -7,7 +7,6 @@ use mathlib.Core.Bool.{true}
 use mathlib.Core.List.{List}
 use mathlib.Core.Path.{◌≡◌, ◌∙◌, sym, subst}
 use borrow.Author.Rules.{rules}
-use borrow.Author.Tests.{not-true, not-false}
 use lib.ListN.{length, get_or}
 use Rattle.notation.specs.Value.{capped_of, is_decimal, is_digit}
 use Rattle.notation.proofs.Digits.{Read, between-bounds, decimal-empty, read_all, read_more, read_none, read-other, read-value, unread-reads}

@@ -5,7 +5,7 @@ use Prim.Native.Nat.{ℕ, ◌-◌}
 use native.Mathlib.Omega.{arith}
 use mathlib.Core.Bool.{true, false≢true}
 use mathlib.Core.List.{List}
-use mathlib.Core.Logic.{⊎_elim, inl, inr}
+use mathlib.Core.Logic.{inl, inr}
 use mathlib.Core.Path.{◌≡◌, ap, sym}
 use borrow.Author.Rules.{rules}
 use borrow.Author.Tests.{not-true, not-false}
@@ -14,6 +14,7 @@ use Rattle.scte20.specs.declared.CaptionUnit.{CaptionUnit}
 use Rattle.notation.specs.Words.{words_of}
 use Rattle.notation.proofs.Gathering.{Gathered, gathered-all, gathered-count, gathered-held, gathered-more, gathered_none, gathered-other}
 use Rattle.notation.proofs.records.entries_from.Statement.{statement}
+use Rattle.notation.proofs.records.entries_from.Lts.{then-n-lt-MAX_RECORDS, else-n-lt-MAX_RECORDS}
 use Rattle.notation.proofs.records.entries_from.Tie as tie
 
 abbrev invariant-loop : tie.invariant-loop-at
@@ -68,7 +69,11 @@ loop-again c =
     let here = turn.before in
     gathered-more (text_of here) (words_from here) here.loop-at.records here.loop-at.n here.loop-at.at here.loop-at.invariant
     entry.entry_at-entry.result entry.entry_at-entry.ensures turn.loop-at-test.true (readable stored) c.skipped-at-in-loop-at.result stored.if-n-lt-MAX_RECORDS.records
-    c.skipped-at-in-loop-at.ensures (⊎_elim (λ w. inl (w.0.taken, w.1)) (λ w. inr (w.0.left, w.1)) stored.if-n-lt-MAX_RECORDS.branch)
+    c.skipped-at-in-loop-at.ensures
+    (elim stored.if-n-lt-MAX_RECORDS.branch [
+      | then-n-lt-MAX_RECORDS w ↦ inl (w.if-n-lt-MAX_RECORDS.true, w.records-is)
+      | else-n-lt-MAX_RECORDS w ↦ inr (w.if-n-lt-MAX_RECORDS.false, w.records-is)
+    ])
 
 all_read : tie.Need-returns invariant-loop decreases-loop
 all_read c =
