@@ -18,11 +18,13 @@ if [ $# -gt 0 ]; then
     mkdir -p "$1/install"
     work=$(cd "$1/install" && pwd)
     find "$work" -mindepth 1 -delete
+    # `rt ci` takes no checkout in which another one stands.
+    trap 'rm -rf "$work/copy of it" "$work/hidden.git"' EXIT
 else
     work=$(mktemp -d)
     trap 'rm -rf "$work"' EXIT
-    trap 'exit 1' HUP INT TERM
 fi
+trap 'exit 1' HUP INT TERM
 if [ -z "$library" ]; then
     "$root/tools/prove-library" || exit
     library=$root/crates/captions/out/libcaptions.a
@@ -356,7 +358,7 @@ copied() {
     git_in "$work/copy of it" checkout -q --detach "$head" || return
     (cd "$root" && find . -mindepth 1 -maxdepth 1 ! -name .git ! -name target) | while IFS= read -r entry; do
         rm -rf "$work/copy of it/$entry"
-        cp -Rp "$root/$entry" "$work/copy of it/$entry"
+        (cd "$root" && tar -c --exclude='./crates/*/out' "$entry") | tar -xp -C "$work/copy of it"
     done
 }
 copy="$work/copy of it"

@@ -53,7 +53,7 @@ sources() {
         git clone -q --no-hardlinks "$root" "$work/sources" &&
             git -C "$work/sources" -c advice.detachedHead=false checkout -q "$(git -C "$root" rev-parse HEAD)"
     else
-        mkdir "$work/sources" && (cd "$root" && tar -c --exclude=./target --exclude='./crates/*/out' .) | tar -x -C "$work/sources"
+        mkdir "$work/sources" && (cd "$root" && tar -c --exclude=./target --exclude='./crates/*/out' .) | tar -xp -C "$work/sources"
     fi
 }
 

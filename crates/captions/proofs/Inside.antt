@@ -2,9 +2,9 @@
 -- Assumes nothing.
 use Prim.Native.Nat.{ℕ}
 use mathlib.Core.Path.{◌≡◌, ap, ap₂, ◌∙◌, sym}
-use mathlib.Core.List.{List, [], ◌∷◌, ◌++◌, map}
+use mathlib.Core.List.{◌∷◌, map}
 use lib.ListN.{length}
-use Rattle.anc.specs.Words.{word_of, checksum_of}
+use Rattle.anc.specs.Words.{word_of}
 use Rattle.sdp.specs.Value.{Sdp}
 use Rattle.sdp.specs.Value as sdp
 use Rattle.subtitling.specs.Layout as packet

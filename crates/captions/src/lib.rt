@@ -26,7 +26,7 @@ use refusal::Refusal;
 
 // What `captions_area_read` answers, in the layout of `captions_unit` in the header.
 #[repr(C)]
-#[derive(Drop)]
+#[derive(Clone, Copy)]
 pub struct UnitHead {
     pub refusal: Refusal,
     pub present: bool,
@@ -38,7 +38,7 @@ pub struct UnitHead {
 
 // What `captions_ga94_read` answers, in the layout of `captions_ga94_unit` in the header.
 #[repr(C)]
-#[derive(Drop)]
+#[derive(Clone, Copy)]
 pub struct Ga94Head {
     pub refusal: Refusal,
     pub present: bool,

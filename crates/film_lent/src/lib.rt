@@ -32,14 +32,14 @@ pub const LENT_SENT: usize = 14;
 
 // What a call answers: a refusal, or how many access units it sent.
 #[repr(C)]
-#[derive(Drop)]
+#[derive(Clone, Copy)]
 pub struct Head {
     pub refusal: Refusal,
     pub m: usize,
 }
 
 // The state that four bytes tell, where some state has them.
-#[derive(Drop)]
+#[derive(Clone, Copy)]
 pub enum Kept {
     State(State),
     None,

@@ -11,7 +11,6 @@ use Rattle.lists.specs.Room.{over_at}
 use Rattle.lists.proofs.Part.{length_part, part-front}
 use Rattle.lists.proofs.Lay.{sets-over_at, over_at-over_at}
 use Rattle.refusal.specs.declared.Verdict.TheVariants.{Accepted}
-use Rattle.multi.specs.Value.{Inner, inner_words}
 use Rattle.multi.specs.Order.{size_in}
 use Rattle.multi.specs.Reading.{inners_verdict, read_inner}
 use Rattle.multi.specs.Lent.{heads_of}

@@ -10,7 +10,7 @@ use Rattle.refusal.specs.declared.Fixed.TheVariants.{Identifier, LineField}
 use Rattle.refusal.specs.declared.Misfit.TheVariants.{DataCount, UserWords}
 use Rattle.refusal.specs.declared.Excess.TheVariants.{PriorityWord, InnerLine, InnerField, InnerIdentifier, InnerPart}
 use Rattle.refusal.specs.declared.Item.TheVariants.{Whole, Word, Length}
-use Rattle.refusal.specs.Checks.{refuse_if, first}
+use Rattle.refusal.specs.Checks.{refuse_if}
 use Rattle.refusal.specs.Order.{each_of}
 use Rattle.anc.specs.Words.{byte_of, words_verdict, sum_verdict, checksum_of}
 use Rattle.sdp.specs.User.{user_verdict}

@@ -29,7 +29,7 @@ pub const HEAD: usize = 6;
 
 // What `multi_reader::read_into` answers: the priority and how many inner packets there are, or a refusal and zeros.
 #[repr(C)]
-#[derive(Drop)]
+#[derive(Clone, Copy)]
 pub struct Answer {
     pub refusal: Refusal,
     pub priority: u8,

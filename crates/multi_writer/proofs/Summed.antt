@@ -1,13 +1,13 @@
 -- What is stored, and its sum modulo 65,536, from which NCS and CS are made.
 -- Assumes nothing.
-use Rattle.std.proofs.Common.{◌≡◌, ℕ, ◌+◌, ◌%◌, ◌<◌, ◌≤◌, List, [], ◌∷◌, ◌++◌, map, length, get_or, take, drop, sym, ap, ◌∙◌, arith}
+use Rattle.std.proofs.Common.{◌≡◌, ℕ, ◌+◌, ◌%◌, ◌<◌, List, [], ◌∷◌, ◌++◌, map, length, get_or, take, drop, sym, ap, ◌∙◌, arith}
 use Rattle.lists.specs.Sum.{sum}
 use Rattle.lists.proofs.Sum.{sum-append}
 use Rattle.refusal.specs.declared.Verdict.TheVariants.{Accepted}
-use Rattle.anc.specs.Words.{word_of, checksum_of}
+use Rattle.anc.specs.Words.{checksum_of}
 use Rattle.anc.specs.Inside.{cs_of}
 use Rattle.anc.proofs.Words.{checksum-sum}
-use Rattle.multi.specs.Layout.{line_field, layout_inner, layout_inners}
+use Rattle.multi.specs.Layout.{layout_inner, layout_inners}
 use Rattle.multi.specs.Lent.{user_of, inner_of}
 use Rattle.multi.specs.Writing.{head_verdict}
 use Rattle.multi.specs.Inside.{header_words}

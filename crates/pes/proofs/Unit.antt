@@ -92,11 +92,13 @@ Accepts checks = Each (λ (v : Verdict). v ≡ Accepted) checks
 body-accepted : (stuffed : Bool) (at : ℕ) (u : List ℕ) → 46 ≤ length u → Body stuffed u → Accepts (body_checks stuffed at u)
 body-accepted true at u long h = (refuse_if-accepted _ _ _ (le-ltb (length u) 46 long), tt)
 body-accepted false at u long h =
+    let three-there : 3 ≤ length u = omega arith in
+    let four-there : 4 ≤ length u = omega arith in
     let reserved = refuse_if-accepted _ _ _ (ap not (eq-eqb (get_or u 2 0 / 64) 3 h.reserved)) in
     let framing = refuse_if-accepted _ _ _ (ap not (eq-eqb (get_or u 3 0) 0xE4 h.framing)) in
     let row = refuse_if-accepted _ _ _ (le-ltb (length u) 46 long) in
-    let three = refuse_if-accepted _ _ _ (le-ltb (length u) 3 (omega arith)) in
-    let four = refuse_if-accepted _ _ _ (le-ltb (length u) 4 (omega arith)) in
+    let three = refuse_if-accepted _ _ _ (le-ltb (length u) 3 three-there) in
+    let four = refuse_if-accepted _ _ _ (le-ltb (length u) 4 four-there) in
     (three, (reserved, (refuse_if-accepted _ _ _ (among-inside 7 _ h.line), (four, (framing, (row, tt))))))
 
 pub whole-accepted : (at : ℕ) (u : List ℕ) → Whole u → unit_verdict at u ≡ Accepted

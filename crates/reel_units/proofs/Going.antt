@@ -2,7 +2,7 @@
 -- Then: something is refused, and the units that are left decide as all do; or all are accepted and the units before are
 -- laid over the output; or the call has ended and its answer stands.
 -- Assumes nothing.
-use Prim.Native.Nat.{ℕ, zero, suc, ◌+◌, ◌-◌, ◌*◌, ◌^◌, ◌≤◌, ◌<◌}
+use Prim.Native.Nat.{ℕ, zero, suc, ◌+◌, ◌*◌, ◌^◌, ◌≤◌, ◌<◌}
 use native.Mathlib.Omega.{arith}
 use native.Mathlib.Numerals.{add-one}
 use mathlib.Core.Path.{◌≡◌, ◌∙◌, ap, ap₂, sym, refl, subst}
@@ -38,7 +38,7 @@ use Rattle.line21_judge.proofs.Seen.{clear_none}
 use Rattle.reel.specs.Writing.{reel, reel_layout, reel_verdict, size_verdict}
 use Rattle.reel.proofs.Judging.{accepted-size}
 use Rattle.reel.proofs.Fitting.{fits-accepted}
-use Rattle.reel.proofs.UnitByUnit.{lay_from, judge_from, room_verdict, layout-unit-by-unit, verdict-unit-by-unit, accepted-passed}
+use Rattle.reel.proofs.UnitByUnit.{lay_from, judge_from, layout-unit-by-unit, verdict-unit-by-unit, accepted-passed}
 use Rattle.reel_units.specs.declared.State.{State}
 use Rattle.reel_units.specs.Inside.{stopped_at, begun_as, begin_verdict, begun, settled_to, Glances, Settles, onward, judged_to, judged_as, beside_verdict, judged_by, piece, stored_by, turned_as, turned, left_as, left_by, Steady, Storable, Ready, told_by, answer_of, rest_after}
 use Rattle.reel_units.proofs.Steps.{lay-next, length-piece, few_bytes, judge-next}

@@ -6,7 +6,6 @@ use mathlib.Core.Path.{◌≡◌, ◌∙◌, ap, ap₂, refl, sym}
 use mathlib.Core.Bool.{Bool}
 use mathlib.Core.List.{List, [], ◌∷◌, ◌++◌}
 use borrow.Author.Tests.{le-ltb}
-use lib.Dec.{ltb}
 use lib.ListN.{length, set, length-set}
 use Rattle.lists.specs.Room.{over_at}
 use Rattle.lists.proofs.Lay.{over_at-over_at, sets-over_at}

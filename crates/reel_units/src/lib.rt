@@ -4,8 +4,10 @@
 #![tactic(auto)]
 
 ghost use Rattle.std.specs.Prelude.{◌≡◌, ◌+◌, ◌^◌, ◌≤◌, ◌<◌, length};
+ghost use Rattle.lists.specs.Each.{Each};
 ghost use Rattle.lists.specs.Room.{over_at};
 ghost use Rattle.refusal.specs.declared.Verdict.TheVariants.{Accepted};
+ghost use Rattle.line21.specs.Value.{ByteUnit};
 ghost use Rattle.line21.specs.Layout.{layout_access_unit};
 ghost use Rattle.line21.specs.Writing.{unit_verdict};
 ghost use Rattle.reel_units.specs.Calls.{ReelWrites};
@@ -21,7 +23,7 @@ use refusal::{Excess, Item, Reason, Refusal, Verdict, Written};
 // No two fields of a byte stand side by side: the compiler takes such fields for one number, and then each turn asks again
 // whether it stores.
 #[repr(C)]
-#[derive(Drop)]
+#[derive(Clone, Copy)]
 struct State {
     // Whether all units are judged, and nothing is refused.
     storing: bool,
@@ -46,6 +48,7 @@ struct State {
 pub fn write_units(flags: u32, size: usize, units: &[AccessUnit], out: &mut [u8]) -> Written
     ensures { ReelWrites flags size units.now out.old result out.new }
 {
+    known(units);
     let mut s = begin(flags, size, units.len());
     while 0 < s.left {
         s = glance(s, units[s.i]);
@@ -56,6 +59,12 @@ pub fn write_units(flags: u32, size: usize, units: &[AccessUnit], out: &mut [u8]
     }
     told(s)
 }
+
+// A proof knows of a unit that its fields are bytes once it reads the unit. The call is where it is told so of all of them;
+// compiled, nothing is left.
+fn known(units: &[AccessUnit])
+    ensures { Each ByteUnit units.now }
+{}
 
 fn begin(flags: u32, size: usize, n: usize) -> State
     ensures { result ≡ begun flags size n }

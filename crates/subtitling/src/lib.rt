@@ -23,7 +23,7 @@ const SDID: u16 = 0x102;
 
 // What reading answers: the numbers, or a refusal and zeros.
 #[repr(C)]
-#[derive(Drop)]
+#[derive(Clone, Copy)]
 pub struct Answer {
     pub refusal: Refusal,
     pub packet: Packet,

@@ -1,4 +1,4 @@
--- a yes of the quick look vouches for the words wherever they stand, and after a no each is judged. The
+-- A yes of the quick look vouches for the words wherever they stand, and after a no each is judged. The
 -- loop's invariant: the words from i on decide as all of them do.
 use Rattle.std.proofs.Common.{◌≡◌, ◌-◌, length}
 use Rattle.anc.specs.Words.{words_verdict}

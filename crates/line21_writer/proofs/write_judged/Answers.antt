@@ -90,7 +90,7 @@ slice_bounds-put_unit-start c =
 pub put_unit-requires-clause-u_value : goal.put_unit-requires-clause-u_value
 put_unit-requires-clause-u_value c =
     let start = (goal.at.put_unit-requires-clause-u_value c).Start in
-    ap unit_verdict (c.unit_at.ensures ∙ same-unit start c.loop-k.k c.loop-k-test.true) ∙ passed start c.loop-k.k (omega (arith, c.loop-k-test.true))
+    ap unit_verdict (c.unit_at.ensures ∙ same-unit start c.loop-k.k (omega arith)) ∙ passed start c.loop-k.k (omega arith)
 
 pub put_unit-requires-clause-in_bounds : goal.put_unit-requires-clause-in_bounds
 put_unit-requires-clause-in_bounds c =
@@ -112,7 +112,7 @@ loop-k-preserved c =
     let laid =
     c.put_unit.ensures
     ∙ ap₂ (λ (u : AccessUnit) (xs : List ℕ). over (layout_access_unit u) (take (length xs - (1 + 5 * k)) (drop (1 + 5 * k) xs)))
-    (c.unit_at.ensures ∙ same-unit start k c.loop-k-test.true)
+    (c.unit_at.ensures ∙ same-unit start k (omega arith))
     c.loop-k.invariant.1
     in (
       omega arith,

@@ -21,4 +21,5 @@ pub returns-then-n-lt10 : goal.returns-then-n-lt10
 returns-then-n-lt10 t c = only c.character-last.ensures c.if-n-lt10.true c.with_byte.ensures
 
 pub returns : goal.returns
-returns t c = more c.character-last.ensures c.ranges.n.fits c.if-n-lt10.false c.with_decimal-t.ensures c.with_byte-2.ensures
+returns t c =
+    more c.character-last.ensures c.ranges.n.fits c.if-n-lt10.false c.with_decimal-t.ensures c.with_byte-2.ensures

@@ -1,4 +1,4 @@
--- `listing::with_decimal` calls itself with the digits before the last: the number gets smaller.
+-- `listing::with_decimal` calls itself with the digits before the last: the measure is the number.
 use Rattle.listing.proofs.+with_decimal.Given as goal
 
 abbrev pub decreases-with_decimal : goal.decreases-with_decimal

@@ -8,51 +8,48 @@ use lib.ListN.{length, take, length-take}
 use lib.Seq.{take_all}
 use Rattle.lists.specs.Each.{Each}
 use Rattle.lists.proofs.Each.{each_take}
-use Rattle.scte20.specs.declared.CaptionUnit.{CaptionUnit}
 use Rattle.scte20.specs.declared.Record.{Record}
 use Rattle.scte20.specs.Value.{blank}
+use Rattle.listing.specs.declared.Text.{Text}
 use Rattle.listing.specs.Texts.{HoldsText, head_text, records_text}
-use Rattle.listing.proofs.Building.{appends-both, appends-first, appends-same}
+use Rattle.listing.specs.Inside.{Appends}
+use Rattle.listing.proofs.Building.{appends-both, appends-first, appends-none, appends-same}
 use Rattle.listing.proofs.Lengths.{ByteRecord, listed-fits}
 use Rattle.listing.proofs.Lines.{records-next}
 use Rattle.listing.proofs.Types.{typed}
-use Rattle.listing.proofs.listed.Goals.{At-loop-i}
 use Rattle.listing.proofs.listed.Goals as goal
 
--- at the loop's head
-module _ (c : At-loop-i) where
-  abbrev unit : CaptionUnit
-  unit = c.args.unit
+-- where the first i records have been passed, and are the first n
+whole : (rs : List Record) (i n : ℕ) (start t : Text) → (length rs ≡ 31) × Each ByteRecord rs → HoldsText head_text start → Appends (records_text (take i rs)) start t
+    → take i rs ≡ take n rs → HoldsText (head_text ++ records_text (take n rs)) t
+whole rs i n start t types head behind e =
+    let few : length (take i rs) ≤ 31 = omega (arith, length-take i rs, types.0) in
+    subst (λ (passed : List Record). HoldsText (head_text ++ records_text passed) t) e
+    (behind.behind head_text head (listed-fits (take i rs) (each_take ByteRecord i rs types.1) few))
 
-  types : (length unit.records ≡ 31) × Each ByteRecord unit.records
-  types = typed unit _ c.well_formed.0
-
-  -- where the records passed are the first n
-  whole : (n : ℕ) → take c.loop-i.i unit.records ≡ take n unit.records → HoldsText (head_text ++ records_text (take n unit.records)) c.loop-i.t
-  whole n e =
-      let passed = take c.loop-i.i unit.records in
-      let head : HoldsText head_text c.with-t.result = appends-first c.empty.ensures c.with-t.ensures (omega arith) in
-      let bytes = each_take ByteRecord c.loop-i.i unit.records types.1 in
-      let few : length passed ≤ 31 = omega (arith, length-take c.loop-i.i unit.records, types.0) in
-      subst (λ (rs : List Record). HoldsText (head_text ++ records_text rs) c.loop-i.t) e
-      (c.loop-i.invariant.1.behind head_text head (listed-fits passed bytes few))
+pub loop-i-init : goal.loop-i-init
+loop-i-init c = (search rules, appends-none c.with-t.result)
 
 pub returns-then-i-n : goal.returns-then-i-n
 returns-then-i-n c =
-    let u = c.args.unit in
-    whole (goal.at.returns-then-i-n c).At-loop-i u.n (ap (λ (k : ℕ). take k u.records) c.if-i-n.true)
+    let unit = c.args.unit in
+    whole unit.records c.loop-i.i unit.n c.with-t.result c.loop-i.t (typed unit _ c.well_formed.0)
+    (appends-first c.empty.ensures c.with-t.ensures (omega arith)) c.loop-i.invariant.1
+    (ap (λ (k : ℕ). take k unit.records) c.if-i-n.true)
 
 pub loop-i-preserved : goal.loop-i-preserved
 loop-i-preserved c =
-    let rs = c.args.unit.records in
-    let places = (types (goal.at.loop-i-preserved c).At-loop-i).0 in (
+    let unit = c.args.unit in (
       search rules,
-      appends-same (sym (records-next rs c.loop-i.i blank (omega (arith, places)))) (appends-both c.loop-i.invariant.1 c.with_record-t.ensures),
+      appends-same
+          (sym (records-next unit.records c.loop-i.i blank (omega (arith, (typed unit _ c.well_formed.0).0))))
+          (appends-both c.loop-i.invariant.1 c.with_record-t.ensures),
     )
 
 pub returns : goal.returns
 returns c =
-    let here = (goal.at.returns c).At-loop-i in
-    let u = c.args.unit in
-    let places = (types here).0 in
-    whole here u.n (take_all c.loop-i.i u.records (omega (arith, places)) ∙ sym (take_all u.n u.records (omega (arith, places))))
+    let unit = c.args.unit in
+    let types = typed unit _ c.well_formed.0 in
+    whole unit.records c.loop-i.i unit.n c.with-t.result c.loop-i.t types
+    (appends-first c.empty.ensures c.with-t.ensures (omega arith)) c.loop-i.invariant.1
+    (take_all c.loop-i.i unit.records (omega (arith, types.0)) ∙ sym (take_all unit.n unit.records (omega (arith, types.0))))

@@ -5,10 +5,12 @@ use Rattle.listing.proofs.refused.Goals as goal
 
 pub returns : goal.returns
 returns c =
+    let number = c in
+    let written = number in
     appends-first
-    c.empty.ensures
-    (appends-both c.with-t.ensures
-    (appends-both c.with_decimal-t.ensures
+    written.empty.ensures
+    (appends-both written.with-t.ensures
+    (appends-both number.with_decimal-t.ensures
     (appends-both c.with-t-2.ensures
     (appends-both c.with_decimal-t-2.ensures c.with_byte.ensures))))
-    (refused-fits c.args.r)
+    (refused-fits written.args.r)

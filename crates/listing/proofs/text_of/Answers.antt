@@ -1,5 +1,7 @@
 -- `listing::text_of` answers the text of its case: each return rewrites with the tests that led there.
 use native.Mathlib.Omega.{arith}
+use mathlib.Core.Path.{◌≡◌}
+use mathlib.Core.Bool.{true, false}
 use borrow.Author.Tests.{eq-eqb, ne_eqb, not-true, not-false}
 use Rattle.listing.specs.Texts.{text_of}
 use Rattle.listing.proofs.Building.{appends-first}
@@ -12,12 +14,12 @@ returns-then-refusal-ne0 c = simp (ne_eqb _ _ c.if-refusal-ne0.true) c.refused.e
 pub returns-then-not-a : goal.returns-then-not-a
 unfolding text_of
 returns-then-not-a c =
-    let a = c.args.a in
-    simp (eq-eqb _ _ c.if-refusal-ne0.false, not-true a.present c.if-not-a.true)
+    let absent : c.args.a.present ≡ false = not-true _ c.if-not-a.true in
+    simp (eq-eqb _ _ c.if-refusal-ne0.false, absent)
     (appends-first c.empty.ensures c.with.ensures (omega arith))
 
 pub returns : goal.returns
 unfolding text_of
 returns c =
-    let a = c.args.a in
-    simp (eq-eqb _ _ c.if-refusal-ne0.false, not-false a.present c.if-not-a.false) c.listed.ensures
+    let present : c.args.a.present ≡ true = not-false _ c.if-not-a.false in
+    simp (eq-eqb _ _ c.if-refusal-ne0.false, present) c.listed.ensures

@@ -1,4 +1,4 @@
--- `scte20_reader::record-of` meets its contract: each part of the number is the one that `construct_of` takes.
+-- `scte20_reader::record_of` meets its contract: each part of the number is the one that `construct_of` takes.
 use Prim.Native.Nat.{ℕ, ◌/◌, ◌%◌}
 use native.Mathlib.Omega.{arith}
 use mathlib.Core.Path.{ap₂}

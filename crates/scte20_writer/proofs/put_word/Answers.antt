@@ -3,7 +3,7 @@ use Prim.Native.Nat.{ℕ, ◌+◌, ◌/◌, ◌%◌, ◌<◌}
 use native.Mathlib.Omega.{arith}
 use mathlib.Core.Path.{◌≡◌, ◌∙◌, ap, ap₂, sym}
 use mathlib.Core.List.{List, [], ◌∷◌}
-use lib.ListN.{set, length-set}
+use lib.ListN.{set}
 use lib.Seq.{sets}
 use Rattle.lists.specs.Room.{over_at}
 use Rattle.lists.proofs.Lay.{sets-over_at}
@@ -27,15 +27,3 @@ returns c =
     sym (four out at (word / 16777216) (word / 65536 % 256) (word / 256 % 256) (word % 256))
     ∙ sets-over_at at bytes out c.requires
     ∙ ap (λ (bs : List ℕ). over_at at bs out) (sym (word_bytes word small))
-
-pub bounds-out-at-2 : goal.bounds-out-at-2
-bounds-out-at-2 c =
-    simp length-set (omega arith)
-
-pub bounds-out-at-3 : goal.bounds-out-at-3
-bounds-out-at-3 c =
-    simp length-set (omega arith)
-
-pub bounds-out-at-4 : goal.bounds-out-at-4
-bounds-out-at-4 c =
-    simp length-set (omega arith)

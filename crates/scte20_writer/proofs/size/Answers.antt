@@ -19,27 +19,3 @@ pub returns : goal.returns
 returns c =
     let v = c.args.v in
     ap (λ (k : ℕ). k + v.z) (sym (size-flagged v.vbi_data_flag v.n c.if-v-eq0.false))
-
-pub overflow_add-result : goal.overflow_add-result
-overflow_add-result c =
-    omega (arith, c.requires.z_bound)
-
-pub overflow_mul-result : goal.overflow_mul-result
-overflow_mul-result c =
-    omega (arith, c.requires.n_bound)
-
-pub overflow_add-result-2 : goal.overflow_add-result-2
-overflow_add-result-2 c =
-    omega (arith, c.requires.n_bound)
-
-pub overflow_add-result-3 : goal.overflow_add-result-3
-overflow_add-result-3 c =
-    omega (arith, c.requires.n_bound)
-
-pub overflow_add-result-4 : goal.overflow_add-result-4
-overflow_add-result-4 c =
-    omega (arith, c.requires.n_bound)
-
-pub overflow_add-result-5 : goal.overflow_add-result-5
-overflow_add-result-5 c =
-    omega (arith, c.requires.n_bound, c.requires.z_bound)

@@ -1,3 +1,4 @@
+-- `sdp_reader::holds` meets its contract: a yes stands behind the head and every test of `tail_verdict`.
 use Prim.Native.Nat.{ℕ, ◌+◌, ◌%◌}
 use native.Mathlib.Omega.{arith}
 use mathlib.Core.Path.{◌≡◌, ◌∙◌, ap, sym}

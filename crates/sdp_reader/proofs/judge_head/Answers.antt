@@ -1,3 +1,4 @@
+-- `sdp_reader::judge_head` meets its contract: at each return the tests that led there pick that check of `head_verdict`.
 use Prim.Native.Nat.{ℕ, ◌+◌}
 use native.Mathlib.Omega.{arith}
 use mathlib.Core.Path.{◌≡◌, ◌∙◌, sym}

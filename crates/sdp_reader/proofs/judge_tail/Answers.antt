@@ -1,3 +1,4 @@
+-- `sdp_reader::judge_tail` meets its contract: at each return the tests that led there pick that check of `tail_verdict`.
 use Prim.Native.Nat.{ℕ, ◌+◌, ◌-◌, ◌%◌}
 use mathlib.Core.Path.{◌≡◌, ◌∙◌, ap, sym}
 use mathlib.Core.Bool.{not}

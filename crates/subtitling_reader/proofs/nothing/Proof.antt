@@ -14,7 +14,7 @@ five slot = record { counter = 0; slots = replicate 5 slot }
 
 returns : tie.Need-returns
 unfolding five slot_of
-returns c = ap five c.slot_of.ensures
+returns c = ap five c.slot_of-slots.ensures
 
-pub nothing-spec : {M : Type 1} → statement M
-nothing-spec = tie.close (tie.spec (λ c κs. search rules) returns)
+pub nothing_spec : {M : Type 1} → statement M
+nothing_spec = tie.close (tie.spec (λ c κs. search rules) returns)

@@ -22,28 +22,28 @@ use Rattle.subtitling_reader.proofs.packet_in.Tie as tie
 abbrev all_slots : List ℕ → List Slot
 all_slots user = map slot_of (descriptors_in (map byte_of user))
 
-abbrev invariant-loop : tie.invariant-loop
+abbrev invariant-loop : tie.invariant-loop-i
 invariant-loop user n slots₀ i₀ slots i = (i ≤ 5) × (slots ≡ filled (take i (all_slots user)) 5 (slot_of 0))
 
-abbrev decreases-loop : tie.decreases-loop
+abbrev decreases-loop : tie.decreases-loop-i
 decreases-loop user n slots₀ i₀ slots i = 5 - i
 
 length-all_slots : (user : List ℕ) → 13 ≤ length user → length (all_slots user) ≡ 5
 length-all_slots user h = length-map (descriptors_in (map byte_of user)) slot_of ∙ length-descriptors user (omega arith)
 
-loop-holds : tie.Need-loop-init invariant-loop decreases-loop
-loop-holds c = (omega arith, ap (λ (slot : Slot). replicate 5 slot) c.slot_of.ensures)
+loop-holds : tie.Need-loop-i-init invariant-loop decreases-loop
+loop-holds c = (omega arith, ap (λ (slot : Slot). replicate 5 slot) c.slot_of-slots.ensures)
 
-loop-again : tie.Need-loop-preserved invariant-loop decreases-loop
+loop-again : tie.Need-loop-i-preserved invariant-loop decreases-loop
 loop-again c =
     let start = c.before.before.before.before.before.before in
     let user = start.args.user.now in
-    let i = c.before.before.before.loop.i in
+    let i = c.before.before.before.loop-i.i in
     let below : i < 5 = omega arith in
     let inside : i < length (all_slots user) = omega (arith, length-all_slots user start.requires) in
     let here = get_or-map slot_of (descriptors_in (map byte_of user)) i 0 ∙ ap slot_of (descriptor-at user i below) in (
       omega arith,
-      filled_next (all_slots user) 5 (slot_of 0) i below inside _ c.slot-of2.result c.before.before.before.loop.invariant.1 (c.slot-of2.ensures ∙ sym here),
+      filled_next (all_slots user) 5 (slot_of 0) i below inside _ c.slot_of.result c.before.before.before.loop-i.invariant.1 (c.slot_of.ensures ∙ sym here),
     )
 
 -- the two words before the last
@@ -66,12 +66,12 @@ returns c =
     let u = map byte_of user in
     let at = c.before.before.before in
     ap₂ made (counted user)
-    (at.loop.invariant.1
-    ∙ filled-all (all_slots user) 5 (slot_of 0) (length-all_slots user start.requires) at.loop.i c.before.before.loop-test.false
+    (at.loop-i.invariant.1
+    ∙ filled-all (all_slots user) 5 (slot_of 0) (length-all_slots user start.requires) at.loop-i.i c.before.before.loop-i-test.false
     ∙ sym (slots-numbers (descriptors_in u) (drop 9 u)))
 
-pub packet-in-spec : {M : Type 1} → statement M
-packet-in-spec =
+pub packet_in_spec : {M : Type 1} → statement M
+packet_in_spec =
     tie.close
     (tie.spec
     invariant-loop

@@ -25,32 +25,28 @@ made refusal packet = record { refusal = refusal; packet = packet }
 answered : List ℕ → Verdict → Answer
 answered s verdict = record { refusal = refusal_of verdict; packet = numbers_of (found verdict (value_of s)) }
 
-whole : (c : tie.After-enum-told) → Whole c.before.before.before.before.before.args.words.now
+whole : (c : tie.In-Accepted) → Whole c.args.words.now
 whole c =
-    accepted-packet c.before.before.before.before.before.args.words.now (sym c.before.before.before.judge.ensures ∙ c.enum_told.given.1)
+    accepted-packet c.args.words.now (sym c.judge-verdict.ensures ∙ c.in-Accepted.is)
 
-packet-in-requires : tie.Need-packet-in-requires
+packet-in-requires : tie.Need-packet_in-packet-requires
 packet-in-requires c κs =
-    let s = c.before.before.before.before.before.before.args.words.now in
+    let s = c.args.words.now in
     omega (arith, (whole c.before).head.long, length-map (part 6 (length s - 1) s) byte_of)
 
-accepted : tie.Need-returns
+accepted : tie.Need-returns-in-Accepted
 unfolding made answered
 accepted c =
-    let past = c.before.before in
-    let told = past.enum_told.given.1 in
-    let judged = past.before.before.before in
-    ap₂ made (past.before.before.told.ensures ∙ ap refusal_of told) c.packet-in.ensures
-    ∙ ap (answered judged.before.before.args.words.now) (sym told ∙ judged.judge.ensures)
+    let told = c.in-Accepted.is in
+    ap₂ made (c.told-refusal.ensures ∙ ap refusal_of told) c.packet_in-packet.ensures
+    ∙ ap (answered c.args.words.now) (sym told ∙ c.judge-verdict.ensures)
 
-refused : tie.Need-returns-2
+refused : tie.Need-returns-in-Refused
 unfolding made answered
 refused c =
-    let past = c.before in
-    let told = past.enum-told2.given.1 in
-    let judged = past.before.before.before in
-    ap₂ made (past.before.before.told.ensures ∙ ap refusal_of told) c.nothing.ensures
-    ∙ ap (answered judged.before.before.args.words.now) (sym told ∙ judged.judge.ensures)
+    let told = c.in-Refused.is in
+    ap₂ made (c.told-refusal.ensures ∙ ap refusal_of told) c.nothing-packet.ensures
+    ∙ ap (answered c.args.words.now) (sym told ∙ c.judge-verdict.ensures)
 
 pub read_spec : {M : Type 1} → statement M
 read_spec =

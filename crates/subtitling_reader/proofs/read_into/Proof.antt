@@ -29,53 +29,47 @@ answered s verdict = record { refusal = refusal_of verdict; packet = numbers_of 
 left : List ℕ → List (List ℕ) → Verdict → List (List ℕ)
 left s lent verdict = lent_of verdict (rows_of (found verdict (value_of s))) lent
 
-whole : (c : tie.After-enum-told) → Whole c.before.before.before.before.before.args.words.now
+whole : (c : tie.In-Accepted) → Whole c.args.words.now
 whole c =
-    accepted-packet c.before.before.before.before.before.args.words.now (sym c.before.before.before.judge.ensures ∙ c.enum_told.given.1)
+    accepted-packet c.args.words.now (sym c.judge-verdict.ensures ∙ c.in-Accepted.is)
 
-packet-in-requires : tie.Need-packet-in-requires
+packet-in-requires : tie.Need-packet_in-packet-requires
 packet-in-requires c κs =
-    let s = c.before.before.before.before.before.before.args.words.now in
+    let s = c.args.words.now in
     omega (arith, (whole c.before).head.long, length-map (part 6 (length s - 1) s) byte_of)
 
-rows-in-requires : tie.Need-rows-in-requires
+rows-in-requires : tie.Need-rows_in-requires
 rows-in-requires c κs =
     let past = c.before.before.before in
-    let s = past.before.before.before.before.before.args.words.now in
+    let s = past.args.words.now in
     sym (length-map (part 6 (length s - 1) s) byte_of) ∙ (whole past).head.whole
 
-accepted : tie.Need-returns
+accepted : tie.Need-returns-in-Accepted
 unfolding made answered left
 accepted c =
-    let past = c.before.before.before.before in
-    let told = past.enum_told.given.1 in
-    let judged = past.before.before.before in
-    let start = judged.before.before in
-    let verdict = sym told ∙ judged.judge.ensures in
+    let told = c.in-Accepted.is in
+    let verdict = sym told ∙ c.judge-verdict.ensures in
     record {
       answer =
-          ap₂ made (past.before.before.told.ensures ∙ ap refusal_of told) c.before.before.packet-in.ensures
-          ∙ ap (answered start.args.words.now) verdict;
-      left = c.rows_in.ensures ∙ ap (left start.args.words.now start.args.rows.now) verdict;
+          ap₂ made (c.told-refusal.ensures ∙ ap refusal_of told) c.packet_in-packet.ensures
+          ∙ ap (answered c.args.words.now) verdict;
+      left = c.rows_in.ensures ∙ ap (left c.args.words.now c.args.rows.now) verdict;
     }
 
-refused : tie.Need-returns-2
+refused : tie.Need-returns-in-Refused
 unfolding made answered left
 refused c =
-    let past = c.before in
-    let told = past.enum-told2.given.1 in
-    let judged = past.before.before.before in
-    let start = judged.before.before in
-    let verdict = sym told ∙ judged.judge.ensures in
+    let told = c.in-Refused.is in
+    let verdict = sym told ∙ c.judge-verdict.ensures in
     record {
       answer =
-          ap₂ made (past.before.before.told.ensures ∙ ap refusal_of told) c.nothing.ensures
-          ∙ ap (answered start.args.words.now) verdict;
-      left = ap (left start.args.words.now start.args.rows.now) verdict;
+          ap₂ made (c.told-refusal.ensures ∙ ap refusal_of told) c.nothing-packet.ensures
+          ∙ ap (answered c.args.words.now) verdict;
+      left = ap (left c.args.words.now c.args.rows.now) verdict;
     }
 
-pub read-into-spec : {M : Type 1} → statement M
-read-into-spec =
+pub read_into_spec : {M : Type 1} → statement M
+read_into_spec =
     tie.close
     (tie.spec
     (λ c κs. search rules)

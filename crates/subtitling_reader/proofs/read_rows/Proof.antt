@@ -18,29 +18,26 @@ use Rattle.subtitling_reader.proofs.read_rows.Tie as tie
 answered : List ℕ → Verdict → List (List ℕ)
 answered s verdict = rows_of (found verdict (value_of s))
 
-whole : (c : tie.After-enum-told) → Whole c.before.before.before.before.args.words.now
-whole c = accepted-packet c.before.before.before.before.args.words.now (sym c.before.before.judge.ensures ∙ c.enum_told.given.1)
+whole : (c : tie.In-Accepted) → Whole c.args.words.now
+whole c = accepted-packet c.args.words.now (sym c.judge.ensures ∙ c.in-Accepted.is)
 
-rows-in-requires : tie.Need-rows-in-requires
+rows-in-requires : tie.Need-rows_in-requires
 rows-in-requires c κs =
-    let s = c.before.before.before.before.before.args.words.now in
+    let s = c.args.words.now in
     sym (length-map (part 6 (length s - 1) s) byte_of) ∙ (whole c.before).head.whole
 
-accepted : tie.Need-returns
+accepted : tie.Need-returns-in-Accepted
 unfolding answered
 accepted c =
-    let past = c.before.before in
-    let judged = past.before.before in
-    c.rows_in.ensures ∙ ap (answered judged.before.before.args.words.now) (sym past.enum_told.given.1 ∙ judged.judge.ensures)
+    c.rows_in.ensures ∙ ap (answered c.args.words.now) (sym c.in-Accepted.is ∙ c.judge.ensures)
 
-refused : tie.Need-returns-2
+refused : tie.Need-returns
 unfolding answered
 refused c =
-    let judged = c.before.before in
-    ap (answered judged.before.before.args.words.now) (sym c.enum-told2.given.1 ∙ judged.judge.ensures)
+    ap (answered c.args.words.now) (sym c.in_default.is ∙ c.judge.ensures)
 
-pub read-rows-spec : {M : Type 1} → statement M
-read-rows-spec =
+pub read_rows_spec : {M : Type 1} → statement M
+read_rows_spec =
     tie.close
     (tie.spec
     (λ c κs. search rules)

@@ -17,10 +17,10 @@ use Rattle.subtitling_reader.proofs.row_at.Tie as tie
 abbrev bytes : List ℕ → ℕ → List ℕ
 bytes user at = take 42 (drop at (map byte_of user))
 
-abbrev invariant-loop : tie.invariant-loop
+abbrev invariant-loop : tie.invariant-loop-j
 invariant-loop user at row₀ j₀ row j = (j ≤ 42) × (row ≡ filled (take j (bytes user at)) 42 0)
 
-abbrev decreases-loop : tie.decreases-loop
+abbrev decreases-loop : tie.decreases-loop-j
 decreases-loop user at row₀ j₀ row j = 42 - j
 
 length-bytes : (c : tie.Start invariant-loop decreases-loop) → length (bytes c.args.user.now c.args.at) ≡ 42
@@ -31,29 +31,29 @@ length-bytes c =
     let fits : 42 ≤ length rest = omega (arith, length-drop at (map byte_of user), length-map user byte_of) in
     length-take-le 42 rest fits
 
-loop-holds : tie.Need-loop-init invariant-loop decreases-loop
+loop-holds : tie.Need-loop-j-init invariant-loop decreases-loop
 loop-holds c = (omega arith, refl)
 
-loop-again : tie.Need-loop-preserved invariant-loop decreases-loop
+loop-again : tie.Need-loop-j-preserved invariant-loop decreases-loop
 loop-again c =
     let start = c.before.before.before in
     let user = start.args.user.now in
     let at = start.args.at in
-    let j = c.before.before.loop.j in
+    let j = c.before.before.loop-j.j in
     let below : j < 42 = omega arith in
     let inside : j < length (bytes user at) = omega (arith, length-bytes start) in
     let byte = get_or-take 42 (drop at (map byte_of user)) j 0 below ∙ byte-from user at j in (
       omega arith,
-      filled_next (bytes user at) 42 0 j below inside _ (byte_of (get_or user (at + j) 0)) c.before.before.loop.invariant.1 (sym byte),
+      filled_next (bytes user at) 42 0 j below inside _ (byte_of (get_or user (at + j) 0)) c.before.before.loop-j.invariant.1 (sym byte),
     )
 
 returns : tie.Need-returns invariant-loop decreases-loop
 returns c =
     let start = c.before.before in
-    c.before.loop.invariant.1 ∙ filled-all (bytes start.args.user.now start.args.at) 42 0 (length-bytes start) c.before.loop.j c.loop-test.false
+    c.before.loop-j.invariant.1 ∙ filled-all (bytes start.args.user.now start.args.at) 42 0 (length-bytes start) c.before.loop-j.j c.loop-j-test.false
 
-pub row-at-spec : {M : Type 1} → statement M
-row-at-spec =
+pub row_at_spec : {M : Type 1} → statement M
+row_at_spec =
     tie.close
     (tie.spec
     invariant-loop

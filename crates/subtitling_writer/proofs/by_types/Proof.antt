@@ -4,5 +4,5 @@ use Rattle.sdp.proofs.Types.{typed}
 use Rattle.subtitling_writer.proofs.by_types.Statement.{statement}
 use Rattle.subtitling_writer.proofs.by_types.Tie as tie
 
-pub by-types-spec : {M : Type 1} → statement M
-by-types-spec = tie.close (tie.spec (λ c. typed c.args.p _ c.well-formed.0 c.args.rows _ c.well-formed.1.0))
+pub by_types_spec : {M : Type 1} → statement M
+by_types_spec = tie.close (tie.spec (λ c. typed c.args.p _ c.well_formed.0 c.args.rows _ c.well_formed.1.0))

@@ -21,28 +21,28 @@ identified = refl
 summed : (counter high low : ℕ) → high ≡ word_of (counter / 256) → low ≡ word_of (counter % 256) → 0x274 + high + low ≡ sum (map word_of (footer counter))
 summed counter high low e f = omega (arith, identified, e, f)
 
-module _ (c : tie.After-word2) where
-  high-low : c.before.word.result ≤ 1023
+module _ (c : tie.After-word-low) where
+  high-low : c.before.word-high.result ≤ 1023
   high-low = let byte : c.before.before.before.args.counter / 256 < 256 = omega (arith, c.before.before.before.requires.0) in
-      subst (λ (w : ℕ). w ≤ 1023) (sym c.before.word.ensures) (word_low _ byte)
+      subst (λ (w : ℕ). w ≤ 1023) (sym c.before.word-high.ensures) (word_low _ byte)
 
-  low-low : c.word2.result ≤ 1023
+  low-low : c.word-low.result ≤ 1023
   low-low = let byte : c.before.before.before.args.counter % 256 < 256 = omega arith in
-      subst (λ (w : ℕ). w ≤ 1023) (sym c.word2.ensures) (word_low _ byte)
+      subst (λ (w : ℕ). w ≤ 1023) (sym c.word-low.ensures) (word_low _ byte)
 
 returns : tie.Need-returns
 unfolding word_of parity_of
 returns c =
     let start = c.before.before.before in
     let out = start.args.out.now in
-    let high = c.before.word.ensures in
-    let low = c.word2.ensures in (
+    let high = c.before.word-high.ensures in
+    let low = c.word-low.ensures in (
       summed start.args.counter _ _ high low,
-      sets-eq (words c.before.word.result c.word2.result) out 0 start.requires.1 ∙ ap₂ (λ (high low : ℕ). over (words high low) out) high low,
+      sets-eq (words c.before.word-high.result c.word-low.result) out 0 start.requires.1 ∙ ap₂ (λ (high low : ℕ). over (words high low) out) high low,
     )
 
-pub put-footer-spec : {M : Type 1} → statement M
-put-footer-spec =
+pub put_footer_spec : {M : Type 1} → statement M
+put_footer_spec =
     tie.close
     (tie.spec
     (λ c. search rules)

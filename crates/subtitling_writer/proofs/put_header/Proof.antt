@@ -14,10 +14,10 @@ returns : tie.Need-returns
 unfolding word_of parity_of
 returns c =
     let out = c.before.before.args.out.now in
-    (c.word.ensures, sets-eq (header c.word.result) out 0 c.before.before.requires ∙ ap (λ (w : ℕ). over (header w) out) c.word.ensures)
+    (c.word-count.ensures, sets-eq (header c.word-count.result) out 0 c.before.before.requires ∙ ap (λ (w : ℕ). over (header w) out) c.word-count.ensures)
 
-pub put-header-spec : {M : Type 1} → statement M
-put-header-spec =
+pub put_header_spec : {M : Type 1} → statement M
+put_header_spec =
     tie.close
     (tie.spec
     (λ c κs. search rules)

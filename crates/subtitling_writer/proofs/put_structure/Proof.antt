@@ -41,68 +41,68 @@ over-begun r out =
     ∙ over-store (words r) (set out 0 0x255) 1 0x255 (omega arith)
     ∙ over-store (words r) out 0 0x255 (omega arith)
 
-abbrev invariant-loop : tie.invariant-loop
+abbrev invariant-loop : tie.invariant-loop-j
 invariant-loop out₀ r total₀ j₀ out total j = (j ≤ 42) × ((out ≡ over (words (take j r)) out₀) × (total ≡ sum (words (take j r)) % 65536))
 
-abbrev decreases-loop : tie.decreases-loop
+abbrev decreases-loop : tie.decreases-loop-j
 decreases-loop out₀ r total₀ j₀ out total j = 42 - j
 
-places : (c : tie.Start invariant-loop decreases-loop) → length c.args.t1 ≡ 42
-places c = (row c.args.t1 _ c.well-formed.0).0
+places : (c : tie.Start invariant-loop decreases-loop) → length c.args.row ≡ 42
+places c = (row c.args.row _ c.well_formed.0).0
 
-module _ (c : tie.At-loop invariant-loop decreases-loop) where
-  sized : length (words (take c.loop.j c.before.before.args.t1)) ≡ 3 + c.loop.j
+module _ (c : tie.At-loop-j invariant-loop decreases-loop) where
+  sized : length (words (take c.loop-j.j c.before.before.args.row)) ≡ 3 + c.loop-j.j
   sized =
-      let h : c.loop.j ≤ length c.before.before.args.t1 = omega (arith, places c.before.before) in
-      length-words c.before.before.args.t1 c.loop.j h
+      let h : c.loop-j.j ≤ length c.before.before.args.row = omega (arith, places c.before.before) in
+      length-words c.before.before.args.row c.loop-j.j h
 
-  kept : length c.loop.out ≡ length c.before.before.args.out.now
+  kept : length c.loop-j.out ≡ length c.before.before.args.out.now
   kept =
       let out = c.before.before.args.out.now in
-      let front = words (take c.loop.j c.before.before.args.t1) in
+      let front = words (take c.loop-j.j c.before.before.args.row) in
       let h : length front ≤ length (begun out) = omega (arith, sized, length-begun out, c.before.before.requires) in
-      ap length c.loop.invariant.1.0 ∙ length_over front (begun out) h ∙ length-begun out
+      ap length c.loop-j.invariant.1.0 ∙ length_over front (begun out) h ∙ length-begun out
 
-loop-holds : tie.Need-loop-init invariant-loop decreases-loop
+loop-holds : tie.Need-loop-j-init invariant-loop decreases-loop
 loop-holds c =
     let out = c.before.args.out.now in
     (omega arith, (sets-eq (words []) out 0 (omega arith) ∙ sym (over-begun [] out), omega arith))
 
-loop-again : tie.Need-loop-preserved invariant-loop decreases-loop
+loop-again : tie.Need-loop-j-preserved invariant-loop decreases-loop
 loop-again c =
     let at = c.before.before.before in
-    let r = at.before.before.args.t1 in
-    let j = at.loop.j in
+    let r = at.before.before.args.row in
+    let j = at.loop-j.j in
     let out = begun at.before.before.args.out.now in
     let inside : j < length r = omega (arith, places at.before.before) in
     let room : 3 + j < length out = omega (arith, length-begun at.before.before.args.out.now, at.before.before.requires) in
     let more = words_more r j inside in
-    let word = c.before.word.ensures in (
+    let word = c.before.word-word.ensures in (
       omega arith,
       (
-        ap₂ (λ (xs : List ℕ) (w : ℕ). set xs (3 + j) w) at.loop.invariant.1.0 word
+        ap₂ (λ (xs : List ℕ) (w : ℕ). set xs (3 + j) w) at.loop-j.invariant.1.0 word
             ∙ store-next (words (take j r)) out (word_of (get_or r j 0)) (3 + j) (sized at) room
             ∙ ap (λ (front : List ℕ). over front out) (sym more),
-        omega (arith, c.wrapping-add-u16.ensures, at.loop.invariant.1.1, word, ap sum more, sum-append (words (take j r)) (word_of (get_or r j 0) ∷ [])),
+        omega (arith, c.wrapping_add_u16-total.ensures, at.loop-j.invariant.1.1, word, ap sum more, sum-append (words (take j r)) (word_of (get_or r j 0) ∷ [])),
       ),
     )
 
 returns : tie.Need-returns invariant-loop decreases-loop
 returns c =
     let start = c.before.before.before in
-    let r = start.args.t1 in
+    let r = start.args.row in
     let out = start.args.out.now in
-    let all : length r ≤ c.before.loop.j = omega (arith, places start) in
-    let whole = take_all c.before.loop.j r all in (
-      c.before.loop.invariant.1.1 ∙ ap (λ (bytes : List ℕ). sum (words bytes) % 65536) whole ∙ ap (λ (ws : List ℕ). sum ws % 65536) (words-word_of r),
-      c.before.loop.invariant.1.0
+    let all : length r ≤ c.before.loop-j.j = omega (arith, places start) in
+    let whole = take_all c.before.loop-j.j r all in (
+      c.before.loop-j.invariant.1.1 ∙ ap (λ (bytes : List ℕ). sum (words bytes) % 65536) whole ∙ ap (λ (ws : List ℕ). sum ws % 65536) (words-word_of r),
+      c.before.loop-j.invariant.1.0
           ∙ ap (λ (bytes : List ℕ). over (words bytes) (begun out)) whole
           ∙ over-begun r out
           ∙ ap (λ (front : List ℕ). over front out) (words-word_of r),
     )
 
-pub put-structure-spec : {M : Type 1} → statement M
-put-structure-spec =
+pub put_structure_spec : {M : Type 1} → statement M
+put_structure_spec =
     tie.close
     (tie.spec
     invariant-loop

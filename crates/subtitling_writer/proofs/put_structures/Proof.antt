@@ -1,7 +1,7 @@
 -- `subtitling_writer::put_structures` meets its contract. The loop's invariant: the structures of the first i slots, which take at words, are laid
 -- over the output.
 -- Assumes nothing.
-use Rattle.std.proofs.Common.{◌≡◌, ℕ, zero, suc, ◌+◌, ◌-◌, ◌*◌, ◌%◌, ◌<◌, ◌≤◌, List, [], ◌∷◌, ◌++◌, map, length, get_or, take, sym, refl, ap, ◌∙◌, subst, ⊎_elim, append-nil, arith, length-append, take_all, rules}
+use Rattle.std.proofs.Common.{◌≡◌, ℕ, zero, suc, ◌+◌, ◌-◌, ◌*◌, ◌%◌, ◌<◌, ◌≤◌, List, [], ◌∷◌, ◌++◌, map, length, get_or, take, sym, refl, ap, ◌∙◌, subst, append-nil, arith, length-append, take_all, rules}
 use mathlib.Core.List.{map-append}
 use lib.ListN.{length-map}
 use Rattle.lists.specs.Room.{over}
@@ -20,6 +20,7 @@ use Rattle.sdp.proofs.Vouched.{legal-mark}
 use Rattle.subtitling.proofs.Held.{beyond, held_at, few-structures}
 use Rattle.subtitling.proofs.HeldStructures.{structure-none, structure-some, structures-more, structures-front}
 use Rattle.subtitling_writer.proofs.put_structures.Statement.{statement}
+use Rattle.subtitling_writer.proofs.put_structures.Lts.{then-slot-ne0, else-slot-ne0}
 use Rattle.subtitling_writer.proofs.put_structures.Tie as tie
 
 -- the words of the first i slots
@@ -61,139 +62,139 @@ marked p rows t legal i h =
     let inside : i < length xs = omega (arith, length-held p rows t) in
     legal-mark (together (get_or p.slots i empty_slot) (get_or rows i [])) (subst LegalSlot (held_at p rows t i h) (each_at LegalSlot beyond xs legal i inside))
 
-abbrev invariant-loop : tie.invariant-loop
+abbrev invariant-loop : tie.invariant-loop-i
 invariant-loop rows out₀ p total₀ at₀ i₀ out total at i =
     (i ≤ 5)
     × ((length (words (held p rows).slots i) ≡ at)
     × ((out ≡ over (words (held p rows).slots i) out₀) × (total ≡ sum (words (held p rows).slots i) % 65536)))
 
-abbrev decreases-loop : tie.decreases-loop
+abbrev decreases-loop : tie.decreases-loop-i
 decreases-loop rows out₀ p total₀ at₀ i₀ out total at i = 5 - i
 
 abbrev words_of : tie.Start invariant-loop decreases-loop → ℕ → List ℕ
-words_of c i = words (held c.args.t1 c.args.rows.now).slots i
+words_of c i = words (held c.args.p c.args.rows.now).slots i
 
 module _ (c : tie.Start invariant-loop decreases-loop) where
-  types : Typed c.args.t1 c.args.rows.now
+  types : Typed c.args.p c.args.rows.now
   types = c.requires.0
 
   -- the words of the first i slots fit the output, and are few
-  front : (i : ℕ) → length (words_of c i) ≤ 45 * count (map descriptor c.args.t1.slots)
+  front : (i : ℕ) → length (words_of c i) ≤ 45 * count (map descriptor c.args.p.slots)
   front i =
-      let bytes = structures (take i (held c.args.t1 c.args.rows.now).slots) in
-      omega (arith, length-map bytes word_of, structures-front c.args.t1 c.args.rows.now types i)
+      let bytes = structures (take i (held c.args.p c.args.rows.now).slots) in
+      omega (arith, length-map bytes word_of, structures-front c.args.p c.args.rows.now types i)
 
   fits : (i : ℕ) → length (words_of c i) ≤ length c.args.out.now
   fits i = omega (arith, front i, c.requires.1.1)
 
   few : (i : ℕ) → length (words_of c i) ≤ 225
-  few i = omega (arith, front i, few-structures c.args.t1 c.args.rows.now types)
+  few i = omega (arith, front i, few-structures c.args.p c.args.rows.now types)
 
-kept : (c : tie.At-loop invariant-loop decreases-loop) → length c.loop.out ≡ length c.before.before.args.out.now
+kept : (c : tie.At-loop-i invariant-loop decreases-loop) → length c.loop-i.out ≡ length c.before.before.args.out.now
 kept c =
     let start = c.before.before in
-    ap length c.loop.invariant.1.1.0 ∙ length_over (words_of start c.loop.i) start.args.out.now (fits start c.loop.i)
+    ap length c.loop-i.invariant.1.1.0 ∙ length_over (words_of start c.loop-i.i) start.args.out.now (fits start c.loop-i.i)
 
 -- where a structure is stored, it fits behind those before it
-abbrev loop_of : tie.Then1 invariant-loop decreases-loop → tie.At-loop invariant-loop decreases-loop
+abbrev loop_of : tie.Then-slot-ne0 invariant-loop decreases-loop → tie.At-loop-i invariant-loop decreases-loop
 loop_of c = c.before.before.before.before
 
-abbrev start_of : tie.Then1 invariant-loop decreases-loop → tie.Start invariant-loop decreases-loop
+abbrev start_of : tie.Then-slot-ne0 invariant-loop decreases-loop → tie.Start invariant-loop decreases-loop
 start_of c = (loop_of c).before.before
 
-abbrev row_of : tie.Then1 invariant-loop decreases-loop → List ℕ
-row_of c = get_or (start_of c).args.rows.now (loop_of c).loop.i []
+abbrev row_of : tie.Then-slot-ne0 invariant-loop decreases-loop → List ℕ
+row_of c = get_or (start_of c).args.rows.now (loop_of c).loop-i.i []
 
-module _ (c : tie.Then1 invariant-loop decreases-loop) where
-  more : words_of (start_of c) ((loop_of c).loop.i + 1) ≡ words_of (start_of c) (loop_of c).loop.i ++ piece (row_of c)
+module _ (c : tie.Then-slot-ne0 invariant-loop decreases-loop) where
+  more : words_of (start_of c) ((loop_of c).loop-i.i + 1) ≡ words_of (start_of c) (loop_of c).loop-i.i ++ piece (row_of c)
   more =
       let start = start_of c in
-      words-some start.args.t1 start.args.rows.now (types start) (loop_of c).loop.i c.before.before.before.loop-test.true
-      (λ e. c.if1.true (marked start.args.t1 start.args.rows.now (types start) start.pre.1.0 (loop_of c).loop.i c.before.before.before.loop-test.true ∙ ap mark_of e))
+      words-some start.args.p start.args.rows.now (types start) (loop_of c).loop-i.i c.before.before.before.loop-i-test.true
+      (λ e. c.if-slot-ne0.true (marked start.args.p start.args.rows.now (types start) start.requires.1.0 (loop_of c).loop-i.i c.before.before.before.loop-i-test.true ∙ ap mark_of e))
 
-  grown : length (words_of (start_of c) ((loop_of c).loop.i + 1)) ≡ (loop_of c).loop.at + 45
+  grown : length (words_of (start_of c) ((loop_of c).loop-i.i + 1)) ≡ (loop_of c).loop-i.at + 45
   grown =
       let start = start_of c in
-      let i = (loop_of c).loop.i in
+      let i = (loop_of c).loop-i.i in
       omega (
         arith,
         ap length more,
         length-append (words_of start i) (piece (row_of c)),
-        length-piece start.args.t1 start.args.rows.now (types start) i c.before.before.before.loop-test.true,
-        (loop_of c).loop.invariant.1.0,
+        length-piece start.args.p start.args.rows.now (types start) i c.before.before.before.loop-i-test.true,
+        (loop_of c).loop-i.invariant.1.0,
       )
 
-  room : (loop_of c).loop.at + 45 ≤ length (loop_of c).loop.out
-  room = omega (arith, grown, fits (start_of c) ((loop_of c).loop.i + 1), kept (loop_of c))
+  room : (loop_of c).loop-i.at + 45 ≤ length (loop_of c).loop-i.out
+  room = omega (arith, grown, fits (start_of c) ((loop_of c).loop-i.i + 1), kept (loop_of c))
 
-  small : (loop_of c).loop.at + 45 ≤ 225
-  small = omega (arith, grown, few (start_of c) ((loop_of c).loop.i + 1))
+  small : (loop_of c).loop-i.at + 45 ≤ 225
+  small = omega (arith, grown, few (start_of c) ((loop_of c).loop-i.i + 1))
 
-put-structure-requires : tie.Need-put-structure-requires invariant-loop decreases-loop
+put-structure-requires : tie.Need-put_structure-words-requires invariant-loop decreases-loop
 put-structure-requires c κs =
     let loop = loop_of c.before.before in
-    omega (arith, length_rest loop.loop.out loop.loop.at, room c.before.before)
+    omega (arith, length_rest loop.loop-i.out loop.loop-i.at, room c.before.before)
 
 -- the sum of a structure goes to the total
 totalled : (front new : List ℕ) (total words next : ℕ) → total ≡ sum front % 65536 → words ≡ sum new % 65536 → next ≡ (total + words) % 65536
     → next ≡ sum (front ++ new) % 65536
 totalled front new total words next e f g = omega (arith, sum-append front new)
 
-loop-again : tie.Need-loop-preserved invariant-loop decreases-loop
+loop-again : tie.Need-loop-i-preserved invariant-loop decreases-loop
 loop-again c =
     let loop = c.before.before.before.before in
     let start = loop.before.before in
-    let p = start.args.t1 in
+    let p = start.args.p in
     let rows = start.args.rows.now in
     let xs = (held p rows).slots in
-    let i = loop.loop.i in
-    let at = loop.loop.at in
+    let i = loop.loop-i.i in
+    let at = loop.loop-i.at in
     let out = start.args.out.now in
-    let more_left = c.before.before.before.loop-test.true in
-    let laid = loop.loop.invariant.1.1 in
-    ⊎_elim
-    (λ w.
-    let here : tie.Then1 invariant-loop decreases-loop = record { before = c.before; if1 = w.0 } in
-    let part = w.3.last.1.0 in
-    let new = piece (get_or rows i []) in (
-      omega arith,
-      (
-        grown here ∙ sym w.9,
-        (
-          w.7
-              ∙ laid_more (words xs i) new out loop.loop.out part at laid.0 loop.loop.invariant.1.0 w.3.ensures.1
-              ∙ ap (λ (front : List ℕ). over front out) (sym (more here)),
-          w.8 ∙ totalled (words xs i) new _ _ _ laid.1 w.3.ensures.0 w.6.ensures ∙ ap (λ (ws : List ℕ). sum ws % 65536) (sym (more here)),
-        ),
-      ),
-    ))
-    (λ w.
-    let none = unmarked _ (sym (marked p rows (types start) start.requires.1.0 i more_left) ∙ w.0.left) in
-    let same = words-none p rows (types start) i more_left none in (
-      omega arith,
-      (
-        ap length same ∙ loop.loop.invariant.1.0 ∙ sym w.3,
-        (
-          w.1 ∙ laid.0 ∙ ap (λ (front : List ℕ). over front out) (sym same),
-          w.2 ∙ laid.1 ∙ ap (λ (ws : List ℕ). sum ws % 65536) (sym same),
-        ),
-      ),
-    ))
-    c.if1.branch
+    let more_left = c.before.before.before.loop-i-test.true in
+    let laid = loop.loop-i.invariant.1.1 in
+    elim c.if-slot-ne0.branch [
+      | then-slot-ne0 w ↦
+          let here : tie.Then-slot-ne0 invariant-loop decreases-loop = record { before = c.before; if-slot-ne0 = w.if-slot-ne0 } in
+          let part = w.put_structure-words.new.out in
+          let new = piece (get_or rows i []) in (
+            omega arith,
+            (
+              grown here ∙ sym w.at-is,
+              (
+                w.out-is
+                    ∙ laid_more (words xs i) new out loop.loop-i.out part at laid.0 loop.loop-i.invariant.1.0 w.put_structure-words.ensures.1
+                    ∙ ap (λ (front : List ℕ). over front out) (sym (more here)),
+                w.total-is ∙ totalled (words xs i) new _ _ _ laid.1 w.put_structure-words.ensures.0 w.wrapping_add_u16-total.ensures ∙ ap (λ (ws : List ℕ). sum ws % 65536) (sym (more here)),
+              ),
+            ),
+          )
+      | else-slot-ne0 w ↦
+          let none = unmarked _ (sym (marked p rows (types start) start.requires.1.0 i more_left) ∙ w.if-slot-ne0.false) in
+          let same = words-none p rows (types start) i more_left none in (
+            omega arith,
+            (
+              ap length same ∙ loop.loop-i.invariant.1.0 ∙ sym w.at-is,
+              (
+                w.out-is ∙ laid.0 ∙ ap (λ (front : List ℕ). over front out) (sym same),
+                w.total-is ∙ laid.1 ∙ ap (λ (ws : List ℕ). sum ws % 65536) (sym same),
+              ),
+            ),
+          )
+    ]
 
 returns : tie.Need-returns invariant-loop decreases-loop
 returns c =
     let start = c.before.before.before in
-    let p = start.args.t1 in
+    let p = start.args.p in
     let rows = start.args.rows.now in
-    let all : length (held p rows).slots ≤ c.before.loop.i = omega (arith, length-held p rows (types start)) in
-    let whole = take_all c.before.loop.i (held p rows).slots all in (
-      c.before.loop.invariant.1.1.1 ∙ ap (λ (xs : List SlotRow). sum (map word_of (structures xs)) % 65536) whole,
-      c.before.loop.invariant.1.1.0 ∙ ap (λ (xs : List SlotRow). over (map word_of (structures xs)) start.args.out.now) whole,
+    let all : length (held p rows).slots ≤ c.before.loop-i.i = omega (arith, length-held p rows (types start)) in
+    let whole = take_all c.before.loop-i.i (held p rows).slots all in (
+      c.before.loop-i.invariant.1.1.1 ∙ ap (λ (xs : List SlotRow). sum (map word_of (structures xs)) % 65536) whole,
+      c.before.loop-i.invariant.1.1.0 ∙ ap (λ (xs : List SlotRow). over (map word_of (structures xs)) start.args.out.now) whole,
     )
 
-pub put-structures-spec : {M : Type 1} → statement M
-put-structures-spec =
+pub put_structures_spec : {M : Type 1} → statement M
+put_structures_spec =
     tie.close
     (tie.spec
     invariant-loop

@@ -68,20 +68,20 @@ returns c =
     let n = start.args.n in
     let header = start.args.header in
     let user = start.args.user in
-    let a = c.before.before.before.word.result in
+    let a = c.before.before.before.word-check.result in
     let fits = start.requires.0.0 in
     let room = start.requires.0.1 in
     let head = start.requires.1.0 in
     let users = start.requires.1.1 in
     let told : a ≡ word_of (sdp_checksum (map byte_of (drop 6 (take n out)))) =
-    c.before.before.before.word.ensures ∙ ap word_of (sdp-sum out n header user a fits room head users) in
-    let total = c.before.wrapping-add-u162.ensures ∙ ap (λ (s : ℕ). (s + a) % 65536) c.before.before.wrapping-add-u16.ensures in
+    c.before.before.before.word-check.ensures ∙ ap word_of (sdp-sum out n header user a fits room head users) in
+    let total = c.before.wrapping_add_u16.ensures ∙ ap (λ (s : ℕ). (s + a) % 65536) c.before.before.wrapping_add_u16-covered.ensures in
     two out n a c.cs.result room
     ∙ ap (λ (b : ℕ). over ((take n out ++ (a ∷ [])) ++ (b ∷ [])) out) (c.cs.ensures ∙ ap cs_of total ∙ cs-sum out n header user a fits room head users)
     ∙ ap (λ (x : ℕ). over ((take n out ++ (x ∷ [])) ++ (checksum_of (drop 3 (take n out ++ (x ∷ []))) ∷ [])) out) told
 
-pub put-sums-spec : {M : Type 1} → statement M
-put-sums-spec =
+pub put_sums_spec : {M : Type 1} → statement M
+put_sums_spec =
     tie.close
     (tie.spec
     (λ c. search rules)

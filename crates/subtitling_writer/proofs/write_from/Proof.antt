@@ -1,7 +1,7 @@
 -- `subtitling_writer::write_from` meets its contract: it stores where the count was vouched for, or else where the refusal's number is 0. In both
 -- the verdict accepts.
 -- Assumes nothing.
-use Rattle.std.proofs.Common.{◌≡◌, ℕ, ◌+◌, ◌*◌, ◌<◌, ◌≤◌, List, map, length, sym, ap, ◌∙◌, subst, ⊎_elim, arith, rules}
+use Rattle.std.proofs.Common.{◌≡◌, ℕ, ◌+◌, ◌*◌, ◌<◌, ◌≤◌, List, map, length, sym, ap, ◌∙◌, subst, arith, rules}
 use mathlib.Core.Path.{subst₃}
 use Rattle.refusal.specs.declared.Refusal.{Refusal}
 use Rattle.refusal.specs.declared.Verdict.{Verdict}
@@ -16,19 +16,20 @@ use Rattle.subtitling.specs.Layout.{layout}
 use Rattle.subtitling.specs.Writing.{value_verdict}
 use Rattle.subtitling.proofs.Held.{few-structures, length-layout-held}
 use Rattle.subtitling_writer.proofs.write_from.Statement.{statement}
+use Rattle.subtitling_writer.proofs.write_from.Lts.{then-k-gt-SLOTS+else-refusal-ne0, else-k-gt-SLOTS}
 use Rattle.subtitling_writer.proofs.write_from.Tie as tie
 
-types : (c : tie.After-by-types) → Typed c.before.before.before.args.p c.before.before.before.args.rows.now
-types c = c.by-types.ensures
+types : (c : tie.After-by_types) → Typed c.before.before.before.args.p c.before.before.before.args.rows.now
+types c = c.by_types.ensures
 
 abbrev verdict_of : tie.Start → Verdict
 verdict_of c = value_verdict (held c.args.p c.args.rows.now) (length c.args.out.now)
 
 -- after a no, the refusal tells the verdict
-verdict-told : (c : tie.After-told) → c.told.result ≡ refusal_of (verdict_of c.before.before.before.before.before.before.before)
-verdict-told c = c.told.ensures ∙ ap refusal_of c.before.judge-value.ensures
+verdict-told : (c : tie.After-told-refusal) → c.told-refusal.result ≡ refusal_of (verdict_of c.before.before.before.before.before.before.before)
+verdict-told c = c.told-refusal.ensures ∙ ap refusal_of c.before.judge_value.ensures
 
-refused : tie.Need-returns
+refused : tie.Need-returns-then-refusal-ne0
 refused c =
     let told = c.before.before in
     let typed = told.before.before.before.before in
@@ -40,33 +41,33 @@ refused c =
       typed = types typed;
       wrote =
           subst (λ (r : Refusal). Wrote verdict laid out (record { refusal = r; len = 0 }) out) (sym (verdict-told told))
-          (wrote_nothing verdict laid out (λ e. c.if2.true (ap (λ (r : Refusal). r.number) (verdict-told told) ∙ e)));
+          (wrote_nothing verdict laid out (λ e. c.if-refusal-ne0.true (ap (λ (r : Refusal). r.number) (verdict-told told) ∙ e)));
     }
 
 -- where both ways meet, the value is accepted and its structures are counted
-module _ (c : tie.Joined1) where
-  abbrev typed1 : tie.After-by-types
+module _ (c : tie.Joined-k-gt-SLOTS) where
+  abbrev typed1 : tie.After-by_types
   typed1 = c.before.before
 
   abbrev start1 : tie.Start
   start1 = typed1.before.before.before
 
-  met : (verdict_of start1 ≡ Accepted) × (c.if1.k ≡ count (map descriptor start1.args.p.slots))
+  met : (verdict_of start1 ≡ Accepted) × (c.if-k-gt-SLOTS.k ≡ count (map descriptor start1.args.p.slots))
   met =
-      ⊎_elim
-      (λ w.
-      let told = w.2.ensures ∙ ap refusal_of w.1.ensures in
-      (told-accepted _ (sym (ap (λ (r : Refusal). r.number) told) ∙ w.4.left), w.6 ∙ w.5.ensures))
-      (λ w.
-      let below : c.before.holds.result < 6 = omega (arith, w.0.left) in
-      let vouched = c.before.holds.ensures below in
-      (vouched.0, w.1 ∙ vouched.1))
-      c.if1.branch
+      elim c.if-k-gt-SLOTS.branch [
+        | then-k-gt-SLOTS+else-refusal-ne0 w ↦
+            let told = w.told-refusal.ensures ∙ ap refusal_of w.judge_value.ensures in
+            (told-accepted _ (sym (ap (λ (r : Refusal). r.number) told) ∙ w.if-refusal-ne0.false), w.k-is ∙ w.count-k.ensures)
+        | else-k-gt-SLOTS w ↦
+            let below : c.before.holds-k.result < 6 = omega (arith, w.if-k-gt-SLOTS.false) in
+            let vouched = c.before.holds-k.ensures below in
+            (vouched.0, w.k-is ∙ vouched.1)
+      ]
 
-  few : c.if1.k ≤ 5
+  few : c.if-k-gt-SLOTS.k ≤ 5
   few = omega (arith, met.1, few-structures start1.args.p start1.args.rows.now (types typed1))
 
-accepted : tie.Need-returns-2
+accepted : tie.Need-returns
 accepted c =
     let joined = c.before.before.before.before.before.before in
     let typed = typed1 joined in
@@ -75,19 +76,19 @@ accepted c =
     let rows = start.args.rows.now in
     let out = start.args.out.now in
     let verdict = verdict_of start in
-    let long : length (layout (held p rows)) ≡ 20 + 45 * joined.if1.k = omega (arith, length-layout-held p rows (types typed), (met joined).1) in
+    let long : length (layout (held p rows)) ≡ 20 + 45 * joined.if-k-gt-SLOTS.k = omega (arith, length-layout-held p rows (types typed), (met joined).1) in
     record {
       typed = types typed;
       wrote =
           subst₃ (λ (r : Refusal) (n : ℕ) (exit : List ℕ). Wrote verdict (layout (held p rows)) out (record { refusal = r; len = n }) exit)
-          (ap refusal_of (met joined).0 ∙ sym c.before.told2.ensures)
+          (ap refusal_of (met joined).0 ∙ sym c.before.told.ensures)
           long
           (sym c.before.before.before.before.put.ensures)
           (wrote-laid verdict (layout (held p rows)) out (ap (λ (v : Verdict). (refusal_of v).number) (met joined).0));
     }
 
-pub write-from-spec : {M : Type 1} → statement M
-write-from-spec =
+pub write_from_spec : {M : Type 1} → statement M
+write_from_spec =
     tie.close
     (tie.spec
     (λ c κs. search rules)

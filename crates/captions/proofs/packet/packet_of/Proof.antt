@@ -23,33 +23,33 @@ slots_in s = taken slot_in 4 5 s
 abbrev blank : Slot
 blank = slot_of 0
 
-abbrev invariant-loop : tie.invariant-loop
+abbrev invariant-loop : tie.invariant-loop-i
 invariant-loop counter bytes slots₀ i₀ slots i = slots ≡ filled (take i (slots_in bytes)) 5 blank
 
-abbrev decreases-loop : tie.decreases-loop
+abbrev decreases-loop : tie.decreases-loop-i
 decreases-loop counter bytes slots₀ i₀ slots i = 5 - i
 
-loop-holds : tie.Need-loop-init invariant-loop decreases-loop
-loop-holds c = ap (λ (s : Slot). replicate 5 s) c.slot_of.ensures
+loop-holds : tie.Need-loop-i-init invariant-loop decreases-loop
+loop-holds c = ap (λ (s : Slot). replicate 5 s) c.slot_of-slots.ensures
 
-loop-again : tie.Need-loop-preserved invariant-loop decreases-loop
+loop-again : tie.Need-loop-i-preserved invariant-loop decreases-loop
 loop-again c =
     let turn = c.before in
-    let at = turn.before.loop in
+    let at = turn.before.loop-i in
     let s = turn.before.before.before.before.args.bytes.now in
     let inside : at.i < length (slots_in s) = omega (arith, length_taken slot_in 4 5 s) in
-    filled_next (slots_in s) 5 blank at.i turn.loop-test.true inside at.slots c.slot-from.result at.invariant
-    (c.slot-from.ensures ∙ sym (get_d-taken slot_in 4 blank 5 at.i s turn.loop-test.true))
+    filled_next (slots_in s) 5 blank at.i turn.loop-i-test.true inside at.slots c.slot_from.result at.invariant
+    (c.slot_from.ensures ∙ sym (get_d-taken slot_in 4 blank 5 at.i s turn.loop-i-test.true))
 
 returns : tie.Need-returns invariant-loop decreases-loop
 returns c =
     let start = c.before.before.before.before in
     let s = start.args.bytes.now in
     ap (λ (slots : List Slot). record { counter = start.args.counter; slots = slots })
-    (c.before.loop.invariant ∙ filled-all (slots_in s) 5 blank (length_taken slot_in 4 5 s) c.before.loop.i c.loop-test.false)
+    (c.before.loop-i.invariant ∙ filled-all (slots_in s) 5 blank (length_taken slot_in 4 5 s) c.before.loop-i.i c.loop-i-test.false)
 
-pub packet-of-spec : {M : Type 1} → statement M
-packet-of-spec =
+pub packet_of_spec : {M : Type 1} → statement M
+packet_of_spec =
     tie.close
     (tie.spec
     invariant-loop

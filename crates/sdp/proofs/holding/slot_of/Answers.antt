@@ -1,3 +1,4 @@
+-- `sdp::holding::slot_of` meets its contract: the test of 0 is the mark.
 use Prim.Native.Nat.{ℕ, ◌/◌, ◌%◌}
 use mathlib.Core.Path.{◌≡◌, ◌∙◌, ap, ap₂, sym}
 use Rattle.sdp.specs.declared.Slot.{Slot}

@@ -1,0 +1,11 @@
+-- The first i words are laid over the output, and total is their sum.
+use Rattle.std.proofs.Common.{◌≡◌, ◌-◌, ◌%◌, ◌≤◌, length, take}
+use Rattle.lists.specs.Room.{over}
+use Rattle.lists.specs.Sum.{sum}
+use Rattle.multi_writer.proofs.carry.Given as goal
+
+abbrev pub invariant-loop-i : goal.invariant-loop-i
+invariant-loop-i l = (l.i ≤ length l.initial.out) × ((l.out ≡ over (take l.i l.user) l.initial.out) × (l.total ≡ sum (take l.i l.user) % 65536))
+
+abbrev pub decreases-loop-i : goal.decreases-loop-i
+decreases-loop-i l = length l.initial.out - l.i

@@ -1,8 +1,0 @@
--- `pes_convert::by_types` meets its contract: what comes by value is `Typed`.
--- Assumes nothing.
-use Rattle.sdp.proofs.Types.{typed}
-use Rattle.pes_convert.proofs.by_types.Statement.{statement}
-use Rattle.pes_convert.proofs.by_types.Tie as tie
-
-pub by-types-spec : {M : Type 1} → statement M
-by-types-spec = tie.close (tie.spec (λ c. typed c.args.p _ c.well-formed.0 c.args.rows _ c.well-formed.1.0))
