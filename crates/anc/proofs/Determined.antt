@@ -3,7 +3,7 @@
 use Rattle.std.proofs.Common.{◌≡◌, ℕ, ◌%◌, List, sym, ◌∙◌}
 use Rattle.lists.specs.Part.{part}
 use Rattle.lists.specs.Sum.{sum}
-use Rattle.refusal.specs.declared.Verdict.{Verdict}
+use Rattle.refusal.specs.Verdict.{Verdict}
 use Rattle.anc.specs.Words.{word_of, words_verdict, checksum_of, sum_verdict}
 
 pub word-determined : (byte a b : ℕ) → a ≡ word_of byte → b ≡ word_of byte → a ≡ b

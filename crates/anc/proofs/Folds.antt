@@ -13,3 +13,6 @@ pub folded-parity : (b : ℕ) → b < 256 → fold 2 (fold 4 (fold 16 b)) % 2 �
 unfolding parity_of
 folded-parity b h =
     eqb→eq (fold 2 (fold 4 (fold 16 b)) % 2) (parity_of b) (below (λ (b : ℕ). eqb (fold 2 (fold 4 (fold 16 b)) % 2) (parity_of b)) 256 tt b h)
+
+-- for a function's tactics
+pub ruleset folds = (folded-parity)

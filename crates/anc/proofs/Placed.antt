@@ -7,7 +7,7 @@ use Rattle.refusal.specs.declared.Reason.{Reason}
 use Rattle.refusal.specs.declared.Reason.TheVariants.{WordRange, WordParity}
 use Rattle.refusal.specs.declared.Item.{Item}
 use Rattle.refusal.specs.declared.Item.TheVariants.{Word}
-use Rattle.refusal.specs.declared.Verdict.TheVariants.{Accepted}
+use Rattle.refusal.specs.Verdict.{Accepted}
 use Rattle.refusal.proofs.Checks.{accepted-and_then}
 use Rattle.refusal.proofs.Only.{Only, accepted-only, refuse_if-only, and_then-only}
 use Rattle.anc.specs.Words.{word_of, byte_of, ByteWords, word_verdict, words_verdict, sum_verdict}

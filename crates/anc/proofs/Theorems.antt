@@ -5,7 +5,7 @@
 use Rattle.std.proofs.Common.{◌≡◌, ℕ, ◌+◌, ◌/◌, ◌%◌, ◌<◌, List}
 use Rattle.lists.specs.Part.{part}
 use Rattle.lists.specs.Sum.{sum}
-use Rattle.refusal.specs.declared.Verdict.{Verdict}
+use Rattle.refusal.specs.Verdict.{Verdict}
 use Rattle.anc.specs.Words.{parity_of, word_of, words_verdict, nine_bit_sum, checksum_of, sum_verdict}
 use Rattle.anc.proofs.Words as word_laws
 use Rattle.anc.proofs.Determined as determined

@@ -5,7 +5,7 @@ use borrow.Author.Tests.{eqb-false}
 use Rattle.lists.specs.Bytes.{Bytes}
 use Rattle.lists.specs.Sum.{sum}
 use Rattle.lists.proofs.Sum as sums
-use Rattle.refusal.specs.declared.Verdict.TheVariants.{Accepted}
+use Rattle.refusal.specs.Verdict.{Accepted}
 use Rattle.refusal.specs.declared.Reason.TheVariants.{WordRange, WordParity}
 use Rattle.refusal.specs.declared.Item.TheVariants.{Word}
 use Rattle.refusal.specs.Checks.{refuse_if, and_then}
@@ -17,6 +17,9 @@ use Rattle.anc.specs.Inside.{cs_of}
 pub parity-low : (b : ℕ) → parity_of b < 2
 unfolding parity_of
 parity-low b = let two : 0 < 2 = omega arith in mod-lt _ two
+
+-- for a function's tactics
+pub ruleset parities = (parity-low)
 
 -- a byte's word holds the byte
 pub word_byte : (b : ℕ) → b < 256 → byte_of (word_of b) ≡ b
@@ -111,3 +114,6 @@ checksum-holds ws = (omega arith, omega arith)
 pub checksum-sum : (ws : List ℕ) → checksum_of ws ≡ cs_of (sum ws % 65536)
 unfolding checksum_of nine_bit_sum cs_of
 checksum-sum ws = ap (λ (s : ℕ). s + 512 * (1 - s / 256)) (sym (sums.sum_low 512 128 ws))
+
+-- for a function's tactics
+pub ruleset sums_told = (checksum-sum)

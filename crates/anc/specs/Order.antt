@@ -1,6 +1,6 @@
 -- RULES, "Order of checks": the checks of words, 11, as lists. The first word stands at `place`.
 use Rattle.std.specs.Prelude.{ℕ, suc, ◌/◌, ◌%◌, not, List, [], ◌∷◌, ◌==◌, nat_lt}
-use Rattle.refusal.specs.declared.Verdict.{Verdict}
+use Rattle.refusal.specs.Verdict.{Verdict}
 use Rattle.refusal.specs.declared.Reason.TheVariants.{WordRange, WordParity}
 use Rattle.refusal.specs.declared.Item.TheVariants.{Word}
 use Rattle.refusal.specs.Checks.{refuse_if}

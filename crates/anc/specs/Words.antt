@@ -1,8 +1,8 @@
 -- Ancillary data words of ten bits, b9 to b0. RULES, "Subtitling packet"; SMPTE 291M.
 use Rattle.std.specs.Prelude.{◌≡◌, ℕ, suc, ◌+◌, ◌-◌, ◌*◌, ◌/◌, ◌%◌, ◌<◌, ◌≤◌, not, List, [], ◌∷◌, map, ◌==◌, nat_lt, slice_index}
 use Rattle.lists.specs.Sum.{sum}
-use Rattle.refusal.specs.declared.Verdict.{Verdict}
-use Rattle.refusal.specs.declared.Verdict.TheVariants.{Accepted}
+use Rattle.refusal.specs.Verdict.{Verdict}
+use Rattle.refusal.specs.Verdict.{Accepted}
 use Rattle.refusal.specs.declared.Reason.TheVariants.{WordRange, WordParity}
 use Rattle.refusal.specs.declared.Item.TheVariants.{Word}
 use Rattle.refusal.specs.Checks.{refuse_if, and_then, first}

@@ -4,7 +4,6 @@
 #![tactic(auto)]
 
 ghost use Rattle.std.specs.Prelude.{◌≡◌, ◌+◌, ◌-◌, ◌≤◌, length};
-ghost use Rattle.lists.specs.Room.{over};
 ghost use Rattle.around.specs.Around.{surrounded, Surrounds};
 
 use units::START_BYTES;
@@ -44,19 +43,7 @@ fn lay(s: &[u8], start: usize, end: usize, len: usize, out: &mut [u8])
     ensures { Surrounds s.now start end len out.old out.new }
 {
     let behind = start + START_BYTES + len;
-    copy(&s[..start], out);
+    out[..start].copy_from_slice(&s[..start]);
     units::open(&mut out[start..]);
-    copy(&s[end..], &mut out[behind..]);
-}
-
-// Stores s over the front of out.
-fn copy(s: &[u8], out: &mut [u8])
-    requires { length s.now ≤ length out.old }
-    ensures { out.new ≡ over s.now out.old }
-{
-    let mut i = 0;
-    while i < s.len() {
-        out[i] = s[i];
-        i += 1;
-    }
+    out[behind..behind + (s.len() - end)].copy_from_slice(&s[end..]);
 }

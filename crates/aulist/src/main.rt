@@ -1,7 +1,7 @@
 // Lists the access units of the Line 21 payload that comes on standard input.
 #![tactic(auto)]
 
-use line21::{AccessUnit, MAX_BYTES, One};
+use line21::{AccessUnit, MAX_BYTES};
 use std::io;
 use std::io::Stdout;
 
@@ -11,30 +11,27 @@ fn main(rt: HostRuntime) -> io::Result<()> {
     }
     // One byte more than a payload may have, so that longer input is noticed.
     let mut payload = [0u8; MAX_BYTES + 1];
-    let input = input::read(rt.stdin(), &mut payload);
-    if let Some(why) = input.failure {
-        return print::failed(rt.stderr(), "aulist: standard input", why);
-    }
-    let n = input.len;
+    let n = match input::read(rt.stdin(), &mut payload) {
+        Ok(n) => n,
+        Err(why) => return print::failed(rt.stderr(), "aulist: standard input", why),
+    };
     let written = if MAX_BYTES < n {
-        let rest = input::count_rest(rt.stdin());
-        if let Some(why) = rest.failure {
-            return print::failed(rt.stderr(), "aulist: standard input", why);
-        }
-        print::too_long(rt.stdout(), n + rest.len)
+        let rest = match input::count_rest(rt.stdin()) {
+            Ok(rest) => rest,
+            Err(why) => return print::failed(rt.stderr(), "aulist: standard input", why),
+        };
+        print::too_long(rt.stdout(), n + rest)
     } else {
         list(rt.stdout(), &payload[..n])
     };
-    match written {
-        Ok(()) => Ok(()),
-        Err(why) => print::failed(rt.stderr(), "aulist: standard output", why),
-    }
+    written.or_else(|why| print::failed(rt.stderr(), "aulist: standard output", why))
 }
 
 // Stops at the first write that fails, as the functions below do.
 fn list(out: Stdout, payload: &[u8]) -> io::Result<()> {
     let head = line21::read_head(payload);
     let refusal = head.refusal;
+    // By its number: an answer in the layout of C tells no more of a refusal.
     if refusal.number != 0 {
         return print::refused(out, refusal);
     }
@@ -46,8 +43,7 @@ fn list(out: Stdout, payload: &[u8]) -> io::Result<()> {
 
 fn list_units(out: Stdout, payload: &[u8], m: usize) -> io::Result<()> {
     for i in 0..m {
-        let one = line21::read_unit(payload, i);
-        if let One::Unit(unit) = one {
+        if let Ok(unit) = line21::read_unit(payload, i) {
             list_unit(out, unit)?;
         }
     }
@@ -55,7 +51,7 @@ fn list_units(out: Stdout, payload: &[u8], m: usize) -> io::Result<()> {
 }
 
 fn list_unit(out: Stdout, unit: AccessUnit) -> io::Result<()> {
-    print::decimal(out, unit.cc_valid_1 as u64)?;
+    print::decimal(out, u64::from(unit.cc_valid_1))?;
     spaced(out, unit.cc_valid_2)?;
     spaced(out, unit.padding)?;
     spaced_hex(out, unit.field1_data1)?;
@@ -67,7 +63,7 @@ fn list_unit(out: Stdout, unit: AccessUnit) -> io::Result<()> {
 
 fn spaced(out: Stdout, n: u8) -> io::Result<()> {
     print::text(out, b" ")?;
-    print::decimal(out, n as u64)
+    print::decimal(out, u64::from(n))
 }
 
 fn spaced_hex(out: Stdout, b: u8) -> io::Result<()> {

@@ -35,7 +35,7 @@ const REVERSED: [u8; 256] = [
 pub fn peek(s: &[u8], at: usize, w: u32) -> u32
     ensures { result ≡ peek_of s.now at (min w 32) }
 {
-    let width = if w < 32 { w } else { 32 };
+    let width = w.min(32);
     let skipped = (at % 8) as u32;
     let bits = window(s, at / 8) >> (40 - skipped - width);
     (bits % (1u64 << width)) as u32
@@ -63,14 +63,13 @@ fn window(s: &[u8], k: usize) -> u64
 fn joined(a: u8, b: u8, c: u8, d: u8, e: u8) -> u64
     ensures { result ≡ num (bits_of (a ∷ b ∷ c ∷ d ∷ e ∷ [])) }
 {
-    let four = a as u32 * 16777216 + b as u32 * 65536 + c as u32 * 256 + d as u32;
-    four as u64 * 256 + e as u64
+    u64::from(u32::from_be_bytes([a, b, c, d])) * 256 + u64::from(e)
 }
 
 fn byte_at(s: &[u8], i: usize) -> u8
     ensures { result ≡ get_or s.now i 0 }
 {
-    if i < s.len() { s[i] } else { 0 }
+    s.get(i).copied().unwrap_or(0)
 }
 
 // The table. Who turns many bytes asks for it once, and then reads it at each byte.
@@ -84,17 +83,10 @@ pub fn reversed_bytes() -> [u8; 256]
 pub fn look_up(s: &[u8], table: &[u8; 256], out: &mut [u8])
     ensures { out.new ≡ over (take (length out.old) (map (found table.now) s.now)) out.old }
 {
-    let n = if s.len() < out.len() {
-        s.len()
-    } else {
-        out.len()
-    };
-    let mut i = 0;
-    while i < n {
+    for i in 0..s.len().min(out.len()) {
         let b = s[i];
-        let turned = table[b as usize];
+        let turned = table[usize::from(b)];
         out[i] = turned;
-        i += 1;
     }
 }
 
@@ -103,13 +95,14 @@ pub fn reverse(b: u8) -> u8
     ensures { result ≡ reversed b }
 {
     let table = reversed_bytes();
-    table[b as usize]
+    table[usize::from(b)]
 }
 
 // Where, from index `from` on, the first byte stands that is not 0, or the end.
 pub fn first_set(s: &[u8], from: usize) -> usize
     ensures { result ≡ first_set s.now from }
 {
+    // A while: the step is not always one.
     let mut i = from;
     while i < s.len() {
         if is_clear(s, i) {
@@ -135,10 +128,8 @@ fn is_clear(s: &[u8], i: usize) -> bool
         return false;
     }
     let mut any = 0;
-    let mut j = 0;
-    while j < BLOCK {
-        any = any | s[i + j];
-        j += 1;
+    for j in 0..BLOCK {
+        any |= s[i + j];
     }
     any == 0
 }
@@ -147,5 +138,5 @@ fn is_clear(s: &[u8], i: usize) -> bool
 pub fn leading(b: u8) -> u32
     ensures { result ≡ leading_of b }
 {
-    u8::leading_zeros(b)
+    b.leading_zeros()
 }

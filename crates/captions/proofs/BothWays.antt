@@ -8,7 +8,7 @@ use mathlib.Core.List.{List, [], ◌∷◌}
 use lib.ListN.{length, take, length-map}
 use Rattle.lists.specs.Flat.{flat}
 use Rattle.lists.specs.Room.{filled, over}
-use Rattle.refusal.specs.declared.Verdict.TheVariants.{Accepted}
+use Rattle.refusal.specs.Verdict.{Accepted}
 use Rattle.refusal.specs.declared.Written.{Written}
 use Rattle.refusal.specs.Answers.{accepted, written}
 use Rattle.kind.specs.declared.Kind.TheVariants.{Scte20}

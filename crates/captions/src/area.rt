@@ -15,10 +15,9 @@ pub extern "C" fn captions_area_read(area: &[u8], records: &mut [u8; LENT_RECORD
     ensures { AreaReads area.now records.old result records.new }
 {
     let head = picture::read_into(area, records);
-    let refusal = head.refusal;
     let numbers = head.numbers;
     UnitHead {
-        refusal,
+        refusal: head.refusal,
         present: head.present,
         reserved: numbers.reserved,
         vbi_data_flag: numbers.vbi_data_flag,
@@ -63,6 +62,7 @@ pub extern "C" fn captions_area_replace(
     )
 }
 
+#[tactic(auto, unfolding(crate::specs::Calls::numbers_in))]
 pub(crate) fn numbers_of(reserved: u32, vbi_data_flag: u32, n: usize, z: usize) -> Numbers
     ensures { result ≡ numbers_in reserved vbi_data_flag n z }
 {

@@ -14,10 +14,9 @@ pub extern "C" fn captions_ga94_read(area: &[u8], records: &mut [u8; LENT_RECORD
     ensures { Ga94Reads area.now records.old result records.new }
 {
     let head = picture::ga94_read_into(area, records);
-    let refusal = head.refusal;
     let numbers = head.numbers;
     Ga94Head {
-        refusal,
+        refusal: head.refusal,
         present: head.present,
         process_em_data_flag: numbers.process_em_data_flag,
         process_cc_data_flag: numbers.process_cc_data_flag,

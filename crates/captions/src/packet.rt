@@ -40,25 +40,23 @@ pub(crate) fn packet_of(counter: u32, bytes: &[u8]) -> Packet
     ensures { result ≡ packet_in counter bytes.now }
 {
     let mut slots = [sdp::slot_of(0); SLOTS];
-    let mut i = 0;
-    while i < SLOTS {
+    for i in 0..SLOTS {
         slots[i] = slot_from(bytes, i);
-        i += 1;
     }
     Packet { counter, slots }
 }
 
 // The slot of index i.
+#[tactic(auto, unfolding(crate::specs::Calls::slot_in))]
 fn slot_from(bytes: &[u8], i: usize) -> Slot
     requires { 4 * i + 4 ≤ length bytes.now }
     ensures { result ≡ slot_in (drop (4 * i) bytes.now) }
 {
     let at = LENT_SLOT * i;
-    let field = OddEven(bytes[at + 3]);
     Slot {
         full: bytes[at],
         line: bytes[at + 1],
         reserved: bytes[at + 2],
-        field,
+        field: OddEven(bytes[at + 3]),
     }
 }

@@ -7,8 +7,8 @@ use Rattle.refusal.specs.declared.Reason.TheVariants.{TooLong, NoStart, StartCod
 use Rattle.refusal.specs.declared.Fixed.TheVariants as fixed
 use Rattle.refusal.specs.declared.Misfit.TheVariants as misfit
 use Rattle.refusal.specs.declared.Excess.TheVariants as excess
-use Rattle.refusal.specs.declared.Verdict.{Verdict}
-use Rattle.refusal.specs.declared.Verdict.TheVariants.{Accepted, Refused}
+use Rattle.refusal.specs.Verdict.{Verdict}
+use Rattle.refusal.specs.Verdict.{Accepted, Refused}
 use Rattle.refusal.specs.Numbers.{refusal_of}
 use Rattle.refusal.specs.Answers.{refused}
 use Rattle.kind.specs.declared.Kind.{Kind}

@@ -11,11 +11,10 @@ fn main(rt: HostRuntime) -> io::Result<()> {
     }
     // One byte more than an area may have, so that longer input is noticed.
     let mut area = [0u8; MAX_BYTES + 1];
-    let input = input::read(rt.stdin(), &mut area);
-    if let Some(why) = input.failure {
-        return print::failed(rt.stderr(), "cclist: standard input", why);
-    }
-    let n = input.len;
+    let n = match input::read(rt.stdin(), &mut area) {
+        Ok(n) => n,
+        Err(why) => return print::failed(rt.stderr(), "cclist: standard input", why),
+    };
     match list(rt.stdout(), &area[..n]) {
         Ok(()) => Ok(()),
         Err(why) => print::failed(rt.stderr(), "cclist: standard output", why),

@@ -16,20 +16,17 @@ const WORDS_ROOM: usize = 4096 + 1;
 fn main(rt: HostRuntime) -> io::Result<()> {
     let mut words = [0u8; WORDS_ROOM];
     let n = gathered(&rt, &mut words);
-    let meant = notation::unit_of(&words[..n]);
-    if !meant.is_readable {
+    let Some(unit) = notation::unit_of(&words[..n]) else {
         return rt.eprint(
             "usage: ccreplace RESERVED FLAG Z [PRIORITY FIELD LINE DATA DATA].. <AREA\n",
         );
-    }
+    };
     // One byte more than an area may have, so that longer input is noticed.
     let mut area = [0u8; MAX_BYTES + 1];
-    let input = input::read(rt.stdin(), &mut area);
-    if let Some(why) = input.failure {
-        return print::failed(rt.stderr(), "ccreplace: standard input", why);
-    }
-    let len = input.len;
-    let unit = meant.unit;
+    let len = match input::read(rt.stdin(), &mut area) {
+        Ok(len) => len,
+        Err(why) => return print::failed(rt.stderr(), "ccreplace: standard input", why),
+    };
     match replace(rt.stdout(), &area[..len], unit) {
         Ok(()) => Ok(()),
         Err(why) => print::failed(rt.stderr(), "ccreplace: standard output", why),
@@ -64,6 +61,7 @@ fn replace(out: Stdout, area: &[u8], unit: CaptionUnit) -> io::Result<()> {
     let mut new_area = [0u8; MAX_BYTES];
     let written = picture_writer::replace(area, unit, &mut new_area);
     let refusal = written.refusal;
+    // By its number: an answer in the layout of C tells no more of a refusal.
     if refusal.number != 0 {
         return print::refused(out, refusal);
     }

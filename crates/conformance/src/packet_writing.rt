@@ -44,7 +44,7 @@ fn agrees(
 ) -> bool
     requires { 9 + 2 * length out.old ≤ length answer.old }
 {
-    vectors::word_pattern(out);
+    vectors::pattern(out);
     let written = subtitling_writer::write(packet, rows, out);
     vectors::put_refusal(answer, written.refusal);
     vectors::put_number(answer, 5, written.len);
@@ -57,19 +57,15 @@ fn agrees(
 fn put_words(out: &[u16], answer: &mut [u8])
     requires { 9 + 2 * length out.now ≤ length answer.old }
 {
-    let mut i = 0;
-    while i < out.len() {
-        vectors::put_word(answer, HEAD + 2 * i, out[i]);
-        i += 1;
+    for (i, w) in out.iter().enumerate() {
+        vectors::put_word(answer, HEAD + 2 * i, *w);
     }
 }
 
 fn packet_of(input: &[u8]) -> Packet {
     let mut slots = [slot_at(input, FRONT); SLOTS];
-    let mut i = 0;
-    while i < SLOTS {
-        slots[i] = slot_at(input, FRONT + SLOT * i);
-        i += 1;
+    for (i, slot) in slots.iter_mut().enumerate() {
+        *slot = slot_at(input, FRONT + SLOT * i);
     }
     Packet {
         counter: vectors::long(input, 4),
@@ -90,22 +86,8 @@ fn slot_at(input: &[u8], at: usize) -> Slot
 
 fn rows_of(input: &[u8]) -> [[u8; ROW_BYTES]; SLOTS] {
     let mut rows = [[0u8; ROW_BYTES]; SLOTS];
-    let mut i = 0;
-    while i < SLOTS {
-        rows[i] = row_at(input, FRONT + SLOT * i + 4);
-        i += 1;
+    for i in 0..SLOTS {
+        vectors::take(input, FRONT + SLOT * i + 4, &mut rows[i]);
     }
     rows
-}
-
-fn row_at(input: &[u8], at: usize) -> [u8; ROW_BYTES]
-    requires { at < 4096 }
-{
-    let mut row = [0u8; ROW_BYTES];
-    let mut i = 0;
-    while i < ROW_BYTES {
-        row[i] = vectors::byte(input, at + i);
-        i += 1;
-    }
-    row
 }

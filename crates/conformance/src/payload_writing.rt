@@ -1,9 +1,10 @@
 // The vectors of writing a payload. INPUT is flags (1 byte), m (4), room (4), then units of 7 bytes; missing ones
 // are zero. EXPECTED is number (1), place (4), len (4), then the whole output as the call leaves it.
-ghost use Rattle.std.specs.Prelude.{◌+◌, ◌≤◌, ◌<◌, length};
+ghost use Rattle.std.specs.Prelude.{◌≤◌, ◌<◌, length};
 
 use crate::ROOM;
 use line21::{AccessUnit, MAX_UNITS, Payload};
+use refusal::Written;
 use vectors::{Outcome, judged};
 
 // Before the units of an input, and before the output in an answer.
@@ -13,25 +14,30 @@ pub(crate) fn outcome(input: &[u8], expected: &[u8]) -> Outcome {
     if input.len() < HEAD {
         return Outcome::Unreadable;
     }
-    let room = vectors::number(&input[5..]);
+    let payload = payload_of(input);
+    written(vectors::number(&input[5..]), expected, |out| {
+        line21_writer::write(payload, out)
+    })
+}
+
+// What becomes of a vector by the room of the output, which the call is lent as a part of the answer's room.
+pub(crate) fn written<F: FnOnce(&mut [u8]) -> Written>(
+    room: usize,
+    expected: &[u8],
+    call: F,
+) -> Outcome
+    requires { F.IsAlwaysCallable call }
+{
     if ROOM - HEAD < room {
         return Outcome::Unreadable;
     }
-    let payload = payload_of(input);
-    let mut answer = [0u8; ROOM];
-    judged(agrees(payload, room, expected, &mut answer))
-}
-
-// The output is a part of the answer's room, and nothing else of that room is lent.
-fn agrees(payload: Payload, room: usize, expected: &[u8], answer: &mut [u8]) -> bool
-    requires { 9 + room ≤ length answer.old }
-{
     let end = HEAD + room;
+    let mut answer = [0u8; ROOM];
     vectors::pattern(&mut answer[HEAD..end]);
-    let written = line21_writer::write(payload, &mut answer[HEAD..end]);
-    vectors::put_refusal(answer, written.refusal);
-    vectors::put_number(answer, 5, written.len);
-    &answer[..end] == expected
+    let written = call(&mut answer[HEAD..end]);
+    vectors::put_refusal(&mut answer, written.refusal);
+    vectors::put_number(&mut answer, 5, written.len);
+    judged(&answer[..end] == expected)
 }
 
 fn payload_of(input: &[u8]) -> Payload
@@ -39,10 +45,8 @@ fn payload_of(input: &[u8]) -> Payload
 {
     let m = vectors::number(&input[1..]);
     let mut units = [unit_at(input, HEAD); MAX_UNITS];
-    let mut i = 0;
-    while i < MAX_UNITS {
-        units[i] = unit_at(input, HEAD + 7 * i);
-        i += 1;
+    for (i, unit) in units.iter_mut().enumerate() {
+        *unit = unit_at(input, HEAD + 7 * i);
     }
     Payload {
         flags: input[0],

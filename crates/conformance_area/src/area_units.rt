@@ -4,7 +4,7 @@ ghost use Rattle.std.specs.Prelude.{◌≤◌, length};
 
 use crate::ROOM;
 use kind::Kind;
-use refusal::Verdict;
+use refusal::{Refusal, Verdict};
 use units::{Found, MAX_BYTES, START_BYTES};
 use vectors::{Outcome, judged};
 
@@ -22,17 +22,14 @@ pub(crate) fn outcome(input: &[u8], expected: &[u8]) -> Outcome {
 // An answer that does not fit differs.
 fn agrees(input: &[u8], expected: &[u8], out: &mut [u8]) -> bool {
     let n = put_answer(input, out);
-    if out.len() < n {
-        return false;
-    }
-    &out[..n] == expected
+    out.get(..n) == Some(expected)
 }
 
 // Stores the answer, and answers its length.
 fn put_answer(s: &[u8], out: &mut [u8]) -> usize {
     let found = units::scan(s, Kind::Scte20);
     if let Found::NotUnits(reason, item) = found {
-        vectors::put_refusal(out, refusal::told(Verdict::Refused(reason, item)));
+        vectors::put_refusal(out, Refusal::from(Err((reason, item))));
         return HEAD;
     }
     if MAX_BYTES < s.len() {
@@ -46,6 +43,7 @@ fn put_units(s: &[u8], out: &mut [u8]) -> usize
 {
     let mut at = 0;
     let mut k = HEAD;
+    // A while: a step goes to the next unit, not to the next byte.
     while at < s.len() {
         let end = units::next(s, at + START_BYTES);
         vectors::put_number(out, k, at);

@@ -8,42 +8,18 @@ use vectors::{Outcome, judged};
 const HEAD: usize = 30;
 
 pub(crate) fn outcome(input: &[u8], expected: &[u8]) -> Outcome {
-    let mut records = unread();
-    let head = head_of(picture::ga94_read_into(input, &mut records));
-    judged(agrees(&head, &records, expected))
-}
-
-// The lent array before the call.
-fn unread() -> [u8; LENT_RECORDS] {
     let mut records = [0u8; LENT_RECORDS];
     vectors::pattern(&mut records);
-    records
-}
-
-// An array's type says its length, which lending it as a slice needs.
-fn agrees(head: &[u8; HEAD], records: &[u8; LENT_RECORDS], expected: &[u8]) -> bool {
-    if expected.len() < HEAD {
-        return false;
-    }
-    if head.as_slice() == &expected[..HEAD] {
-        records.as_slice() == &expected[HEAD..]
-    } else {
-        false
-    }
+    let head = head_of(picture::ga94_read_into(input, &mut records));
+    judged(expected.strip_prefix(&head) == Some(records.as_slice()))
 }
 
 fn head_of(head: Ga94Head) -> [u8; HEAD] {
     let mut out = [0u8; HEAD];
-    put_head(head, &mut out);
+    vectors::put_refusal(&mut out, head.refusal);
+    vectors::put(&mut out, 5, head.present as u8);
+    put_numbers(head.numbers, &mut out);
     out
-}
-
-fn put_head(head: Ga94Head, out: &mut [u8]) {
-    let refusal = head.refusal;
-    let numbers = head.numbers;
-    vectors::put_refusal(out, refusal);
-    vectors::put(out, 5, head.present as u8);
-    put_numbers(numbers, out);
 }
 
 fn put_numbers(numbers: Numbers, out: &mut [u8]) {

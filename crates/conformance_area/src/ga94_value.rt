@@ -32,10 +32,6 @@ fn numbers_of(input: &[u8]) -> Numbers {
 
 fn records_of(input: &[u8]) -> [u8; LENT_RECORDS] {
     let mut records = [0u8; LENT_RECORDS];
-    let mut i = 0;
-    while i < LENT_RECORDS {
-        records[i] = vectors::byte(input, RECORDS + i);
-        i += 1;
-    }
+    vectors::take(input, RECORDS, &mut records);
     records
 }

@@ -12,10 +12,8 @@ pub(crate) const END: usize = RECORDS + 5 * MAX_RECORDS;
 
 pub(crate) fn unit_of(input: &[u8]) -> CaptionUnit {
     let mut records = [record_at(input, RECORDS); MAX_RECORDS];
-    let mut i = 0;
-    while i < MAX_RECORDS {
-        records[i] = record_at(input, RECORDS + 5 * i);
-        i += 1;
+    for (i, record) in records.iter_mut().enumerate() {
+        *record = record_at(input, RECORDS + 5 * i);
     }
     CaptionUnit {
         reserved: vectors::byte(input, 4),

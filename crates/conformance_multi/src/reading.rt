@@ -3,7 +3,7 @@
 // and these. After a refusal nothing is stored, and nothing handed out.
 ghost use Rattle.std.specs.Prelude.{◌≤◌, length};
 
-use crate::{comparing, heads, words};
+use crate::{heads, words};
 use multi::{Answer, HEAD, MAX_INNERS};
 use vectors::{Outcome, judged};
 
@@ -26,21 +26,9 @@ pub(crate) fn outcome(input: &[u8], expected: &[u8]) -> Outcome {
     if INPUT_WORDS < n {
         return Outcome::Unreadable;
     }
-    let words = words_of(input, n);
-    judged(agrees(&words[..n], expected))
-}
-
-// The first n words, zeros after them.
-fn words_of(input: &[u8], n: usize) -> [u16; INPUT_WORDS]
-    requires { n ≤ 32768 }
-{
     let mut words = [0u16; INPUT_WORDS];
-    let mut i = 0;
-    while i < n {
-        words[i] = vectors::word(input, 2 * i);
-        i += 1;
-    }
-    words
+    vectors::take_words(input, &mut words[..n]);
+    judged(agrees(&words[..n], expected))
 }
 
 fn agrees(words: &[u16], expected: &[u8]) -> bool {
@@ -48,12 +36,7 @@ fn agrees(words: &[u16], expected: &[u8]) -> bool {
     let mut heads = lent(&before);
     let answer = multi_reader::read_into(words, &mut heads);
     let after = answered(words, answer, heads);
-    is(&before, &after, expected)
-}
-
-// The arrays' type says their length, which lending them as slices needs.
-fn is(before: &[u8; ROOM], after: &[u8; ROOM], expected: &[u8]) -> bool {
-    comparing::holds(before, after, expected)
+    vectors::holds(&before, &after, expected)
 }
 
 // The room of an answer before the call: zeros, and the pattern in the lent array.
@@ -66,42 +49,23 @@ fn unread() -> [u8; ROOM] {
 // The lent array before the call.
 fn lent(before: &[u8; ROOM]) -> [[u16; HEAD]; MAX_INNERS] {
     let mut heads = [[0u16; HEAD]; MAX_INNERS];
-    let mut i = 0;
-    while i < MAX_INNERS {
+    for i in 0..MAX_INNERS {
         heads[i] = heads::take(before, FRONT + heads::BYTES * i);
-        i += 1;
     }
     heads
 }
 
 fn answered(words: &[u16], answer: Answer, heads: [[u16; HEAD]; MAX_INNERS]) -> [u8; ROOM] {
     let mut out = [0u8; ROOM];
-    put_front(answer, &mut out);
-    put_heads(heads, &mut out);
-    put_words(words, heads, answer.n, &mut out);
-    out
-}
-
-fn put_front(answer: Answer, out: &mut [u8]) {
-    let refusal = answer.refusal;
-    vectors::put_refusal(out, refusal);
-    vectors::put(out, 5, answer.priority);
-    vectors::put_number(out, 6, answer.n);
-}
-
-fn put_heads(heads: [[u16; HEAD]; MAX_INNERS], out: &mut [u8]) {
-    let mut i = 0;
-    while i < MAX_INNERS {
-        heads::put(heads[i], FRONT + heads::BYTES * i, out);
-        i += 1;
+    vectors::put_refusal(&mut out, answer.refusal);
+    vectors::put(&mut out, 5, answer.priority);
+    vectors::put_number(&mut out, 6, answer.n);
+    for (i, head) in heads.iter().enumerate() {
+        heads::put(*head, FRONT + heads::BYTES * i, &mut out);
     }
-}
-
-fn put_words(words: &[u16], heads: [[u16; HEAD]; MAX_INNERS], n: usize, out: &mut [u8])
-    requires { 610 ≤ length out.old }
-{
-    let end = put_users(words, heads, n, out);
-    put_inners(words, end, out);
+    let end = put_users(words, heads, answer.n, &mut out);
+    put_inners(words, end, &mut out);
+    out
 }
 
 // The user words of the first n heads, one behind the other. Answers the index behind them.
@@ -110,13 +74,8 @@ fn put_users(words: &[u16], heads: [[u16; HEAD]; MAX_INNERS], n: usize, out: &mu
     ensures { result ≤ length out.new }
 {
     let mut end = WORDS;
-    let mut i = 0;
-    while i < MAX_INNERS {
-        if n <= i {
-            return end;
-        }
-        end = words::put(user_of(words, heads[i]), end, out);
-        i += 1;
+    for head in heads.iter().take(n) {
+        end = words::put(user_of(words, *head), end, out);
     }
     end
 }
@@ -125,14 +84,7 @@ fn put_users(words: &[u16], heads: [[u16; HEAD]; MAX_INNERS], n: usize, out: &mu
 fn user_of(words: &[u16], head: [u16; HEAD]) -> &[u16] {
     let at = head[4] as usize;
     let count = head[5] as usize;
-    if words.len() < at {
-        return &words[0..0];
-    }
-    if words.len() - at < count {
-        return &words[0..0];
-    }
-    let end = at + count;
-    &words[at..end]
+    words.get(at..at + count).unwrap_or(&[])
 }
 
 // What `inner` hands out, packet after packet, until it hands out no words.
@@ -140,8 +92,7 @@ fn put_inners(words: &[u16], from: usize, out: &mut [u8])
     requires { from ≤ length out.old }
 {
     let mut end = from;
-    let mut i = 0;
-    while i <= MAX_INNERS {
+    for i in 0..=MAX_INNERS {
         let inner = multi_reader::inner(words, i);
         if inner.len() == 0 {
             return;
@@ -151,6 +102,5 @@ fn put_inners(words: &[u16], from: usize, out: &mut [u8])
         }
         vectors::put(out, end, (inner.len() % 256) as u8);
         end = words::put(inner, end + 1, out);
-        i += 1;
     }
 }

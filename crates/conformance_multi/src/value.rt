@@ -29,39 +29,21 @@ pub(crate) fn is_readable(input: &[u8]) -> bool {
 
 pub(crate) fn write(input: &[u8], out: &mut [u16]) -> Written {
     let priority = vectors::long(input, 4);
-    let n = least(vectors::long(input, 8) as usize, HEADS);
+    // What is readable has no more than there is room for.
+    let n = (vectors::long(input, 8) as usize).min(HEADS);
     let heads = heads_of(input, n);
     let first = FIRST + heads::BYTES * n;
-    let k = words_behind(input.len(), first);
+    let k = input.len().saturating_sub(first).min(WORDS);
     let words = words_of(input, first, k);
     multi_writer::write_from(priority, &heads[..n], &words[..k], out)
-}
-
-// What is readable has no more than there is room for.
-fn least(n: usize, most: usize) -> usize
-    ensures { result ≤ most }
-{
-    if n < most { n } else { most }
-}
-
-// How many words are lent.
-fn words_behind(n: usize, first: usize) -> usize
-    ensures { result ≤ 4096 }
-{
-    if n < first {
-        return 0;
-    }
-    least(n - first, WORDS)
 }
 
 fn heads_of(input: &[u8], n: usize) -> [[u16; HEAD]; HEADS]
     requires { n ≤ 64 }
 {
     let mut heads = [[0u16; HEAD]; HEADS];
-    let mut i = 0;
-    while i < n {
+    for i in 0..n {
         heads[i] = heads::take(input, FIRST + heads::BYTES * i);
-        i += 1;
     }
     heads
 }
@@ -72,10 +54,8 @@ fn words_of(input: &[u8], first: usize, k: usize) -> [u16; WORDS]
     requires k_bound { k ≤ 4096 }
 {
     let mut words = [0u16; WORDS];
-    let mut i = 0;
-    while i < k {
+    for i in 0..k {
         words[i] = anc::word(vectors::byte(input, first + i));
-        i += 1;
     }
     words
 }

@@ -7,14 +7,12 @@ pub(crate) fn put(words: &[u16], at: usize, out: &mut [u8]) -> usize
     ensures { result ≤ length out.new }
 {
     let mut end = at;
-    let mut i = 0;
-    while i < words.len() {
+    for w in words {
         if out.len() - end < 2 {
-            return end;
+            break;
         }
-        vectors::put_word(out, end, words[i]);
+        vectors::put_word(out, end, *w);
         end += 2;
-        i += 1;
     }
     end
 }

@@ -2,8 +2,7 @@
 // writes. Behind them the output must hold what it held before.
 ghost use Rattle.std.specs.Prelude.{◌≤◌, length};
 
-use crate::{ROOM, comparing, value, words};
-use refusal::Written;
+use crate::{ROOM, value, words};
 use vectors::{Outcome, judged};
 
 // A lent output must fit.
@@ -28,12 +27,14 @@ pub(crate) fn outcome(input: &[u8], expected: &[u8]) -> Outcome {
 fn agrees(input: &[u8], expected: &[u8], out: &mut [u16]) -> bool
     requires { length out.old ≤ 20480 }
 {
-    vectors::word_pattern(out);
+    vectors::pattern(out);
     let before = shown(out);
     let written = value::write(input, out);
-    let after = answered(written, shown(out));
+    let mut after = shown(out);
+    vectors::put_refusal(&mut after, written.refusal);
+    vectors::put_number(&mut after, 5, written.len);
     let end = HEAD + 2 * out.len();
-    comparing::holds(&before[..end], &after[..end], expected)
+    vectors::holds(&before[..end], &after[..end], expected)
 }
 
 // An output in the room of an answer.
@@ -41,16 +42,4 @@ fn shown(out: &[u16]) -> [u8; ROOM] {
     let mut answer = [0u8; ROOM];
     words::put(out, HEAD, &mut answer);
     answer
-}
-
-fn answered(written: Written, shown: [u8; ROOM]) -> [u8; ROOM] {
-    let mut answer = shown;
-    put_head(written, &mut answer);
-    answer
-}
-
-fn put_head(written: Written, answer: &mut [u8]) {
-    let refusal = written.refusal;
-    vectors::put_refusal(answer, refusal);
-    vectors::put_number(answer, 5, written.len);
 }

@@ -1,7 +1,6 @@
 // A packet's value in an input, behind the room: counter (4 bytes), then the five slots, each as full, line, reserved, field (1 each) and its row (42).
 ghost use Rattle.std.specs.Prelude.{◌<◌};
 
-use crate::bytes;
 use fields::OddEven;
 use refusal::Written;
 use sdp::{Packet, ROW_BYTES, SLOTS, Slot};
@@ -21,16 +20,15 @@ pub(crate) fn convert(input: &[u8], out: &mut [u8]) -> Written {
     pes_convert::convert_value(packet, &rows, out)
 }
 
+// As `conformance` has it: a crate of their own for these few lines is no plainer.
 fn packet_of(input: &[u8]) -> Packet {
+    let mut slots = [slot_at(input, FIRST); SLOTS];
+    for (i, slot) in slots.iter_mut().enumerate() {
+        *slot = slot_at(input, FIRST + SLOT * i);
+    }
     Packet {
         counter: vectors::long(input, 4),
-        slots: [
-            slot_at(input, FIRST),
-            slot_at(input, FIRST + SLOT),
-            slot_at(input, FIRST + 2 * SLOT),
-            slot_at(input, FIRST + 3 * SLOT),
-            slot_at(input, FIRST + 4 * SLOT),
-        ],
+        slots,
     }
 }
 
@@ -46,19 +44,9 @@ fn slot_at(input: &[u8], at: usize) -> Slot
 }
 
 fn rows_of(input: &[u8]) -> [[u8; ROW_BYTES]; SLOTS] {
-    [
-        row_at(input, FIRST_ROW),
-        row_at(input, FIRST_ROW + SLOT),
-        row_at(input, FIRST_ROW + 2 * SLOT),
-        row_at(input, FIRST_ROW + 3 * SLOT),
-        row_at(input, FIRST_ROW + 4 * SLOT),
-    ]
-}
-
-fn row_at(input: &[u8], at: usize) -> [u8; ROW_BYTES]
-    requires { at < 4096 }
-{
-    let mut row = [0u8; ROW_BYTES];
-    bytes::take(input, at, &mut row);
-    row
+    let mut rows = [[0u8; ROW_BYTES]; SLOTS];
+    for i in 0..SLOTS {
+        vectors::take(input, FIRST_ROW + SLOT * i, &mut rows[i]);
+    }
+    rows
 }

@@ -6,7 +6,7 @@ ghost use Rattle.std.specs.Prelude.{◌≡◌};
 ghost use Rattle.fields.specs.Sides.{side};
 
 // A display field of this picture, counted from 1. It is not the odd or the even field of a frame.
-#[derive(Clone, Copy)]
+#[derive(Clone, Copy, PartialEq, Eq)]
 pub struct DisplayField(pub u8);
 
 // A field of a frame: 1 odd, 0 even. It is not a display field's number.

@@ -11,16 +11,16 @@ use lib.Dec.{eqb}
 use lib.ListN.{length}
 use Rattle.lists.specs.Each.{Each}
 use Rattle.lists.proofs.Each.{each_map, each_both}
-use Rattle.refusal.specs.declared.Verdict.TheVariants.{Accepted}
+use Rattle.refusal.specs.Verdict.{Accepted}
 use Rattle.refusal.proofs.Checks.{accepted-and_then, and_then-accepted, accepted-refuse_if, refuse_if-accepted, accepted-equal, both_hold}
 use Rattle.scte20.specs.declared.Record.{Record}
 use Rattle.scte20.specs.declared.CaptionUnit.{CaptionUnit}
 use Rattle.scte20.specs.Value.{field_of, held, Typed, LegalRecord, Follows, InOrder}
 use Rattle.scte20.proofs.Holding.{value-whole}
 use Rattle.scte20.proofs.Writable.{accepted-unit, unit-accepted}
-use Rattle.film.specs.declared.Slot.{Slot}
-use Rattle.film.specs.declared.Slot.TheVariants.{Invalid, Pair}
-use Rattle.film.specs.declared.State.{State}
+use Rattle.film.specs.Slot.{Slot}
+use Rattle.film.specs.Slot.{Invalid, Pair}
+use Rattle.film.specs.State.{State}
 use Rattle.film.specs.declared.Shown.{Shown}
 use Rattle.film.specs.declared.Answer.{Answer}
 use Rattle.film.specs.Display.{fields_shown, is_at, pick, slot_of, picture_events}

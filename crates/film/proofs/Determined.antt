@@ -3,11 +3,11 @@
 use Prim.Native.Nat.{ℕ}
 use mathlib.Core.Path.{◌≡◌, ◌∙◌, ap, sym, refl}
 use mathlib.Core.List.{List, [], ◌∷◌}
-use Rattle.refusal.specs.declared.Verdict.{Verdict}
+use Rattle.refusal.specs.Verdict.{Verdict}
 use Rattle.scte20.specs.declared.CaptionUnit.{CaptionUnit}
 use Rattle.line21.specs.declared.AccessUnit.{AccessUnit}
-use Rattle.film.specs.declared.Slot.{Slot}
-use Rattle.film.specs.declared.State.{State}
+use Rattle.film.specs.Slot.{Slot}
+use Rattle.film.specs.State.{State}
 use Rattle.film.specs.declared.Shown.{Shown}
 use Rattle.film.specs.declared.Sent.{Sent}
 use Rattle.film.specs.declared.Sent.TheVariants as sent

@@ -5,8 +5,8 @@ use native.Mathlib.Omega.{arith}
 use mathlib.Core.Path.{subst, sym}
 use mathlib.Core.Bool.{Bool, true, false}
 use mathlib.Core.List.{List, [], ◌∷◌, map}
-use Rattle.refusal.specs.declared.Verdict.{Verdict}
-use Rattle.refusal.specs.declared.Verdict.TheVariants.{Accepted, Refused}
+use Rattle.refusal.specs.Verdict.{Verdict}
+use Rattle.refusal.specs.Verdict.{Accepted, Refused}
 use Rattle.scte20.specs.declared.Record.{Record}
 use Rattle.lists.specs.Each.{Each}
 use Rattle.lists.proofs.Each.{each_take, each_append}
@@ -14,10 +14,10 @@ use Rattle.fields.specs.Sides.{side}
 use Rattle.scte20.specs.Value.{held, ByteRecord}
 use Rattle.line21.specs.declared.AccessUnit.{AccessUnit}
 use Rattle.line21.specs.Value.{LegalAccessUnit}
-use Rattle.film.specs.declared.Slot.{Slot}
-use Rattle.film.specs.declared.Slot.TheVariants.{Invalid, Pair}
-use Rattle.film.specs.declared.State.{State}
-use Rattle.film.specs.declared.State.TheVariants.{Nothing}
+use Rattle.film.specs.Slot.{Slot}
+use Rattle.film.specs.Slot.{Invalid, Pair}
+use Rattle.film.specs.State.{State}
+use Rattle.film.specs.State.{Nothing}
 use Rattle.film.specs.declared.Shown.{Shown}
 use Rattle.film.specs.declared.Answer.{Answer}
 use Rattle.film.specs.Display.{Event, odd, even, closing, is_at, pick, slot_of, on_side, field_event, fields_shown, picture_events}

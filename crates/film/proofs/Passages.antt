@@ -2,10 +2,11 @@
 -- Assumes nothing.
 use Prim.Native.Nat.{ℕ, ◌≤◌}
 use mathlib.Core.Path.{◌≡◌, ◌∙◌, ap, ap₂, subst, sym, refl}
-use mathlib.Core.Bool.{Bool, true, false}
+use mathlib.Core.Bool.{Bool, true, false, false≢true}
 use mathlib.Core.List.{List, [], ◌++◌, map}
-use Rattle.refusal.specs.declared.Verdict.{Verdict}
-use Rattle.refusal.specs.declared.Verdict.TheVariants.{Accepted, Refused}
+use Rattle.std.specs.Result.{is_err}
+use Rattle.refusal.specs.Verdict.{Verdict}
+use Rattle.refusal.specs.Verdict.{Accepted, Refused}
 use Rattle.refusal.specs.declared.Refusal.{Refusal}
 use Rattle.refusal.specs.Numbers.{refusal_of}
 use Rattle.refusal.proofs.Checks.{accepted-and_then, accepted-within}
@@ -14,8 +15,8 @@ use Rattle.scte20.specs.declared.CaptionUnit.{CaptionUnit}
 use Rattle.scte20.specs.Value.{held}
 use Rattle.scte20.specs.Writing.{value_verdict}
 use Rattle.line21.specs.declared.AccessUnit.{AccessUnit}
-use Rattle.film.specs.declared.State.{State}
-use Rattle.film.specs.declared.State.TheVariants.{Nothing, Waiting}
+use Rattle.film.specs.State.{State}
+use Rattle.film.specs.State.{Nothing, Waiting}
 use Rattle.film.specs.declared.Shown.{Shown}
 use Rattle.film.specs.declared.Sent.{Sent}
 use Rattle.film.specs.declared.Sent.TheVariants as sent
@@ -95,10 +96,10 @@ module _ (s : State) (how : Shown) (rs : List Record) where
   three-shown e = shown-as true (three_sent s how rs) (third_shown s how rs).state e (each_three s how.top_field_first how.repeat_first_field how.line_offset rs)
 
 -- the answer of a refused call
-pub refuses : (verdict : Verdict) (refusal : Refusal) (s : State) (es : List Event) → refusal ≡ refusal_of verdict → (refusal.number ≡ 0 → ⊥)
+pub refuses : (verdict : Verdict) (refusal : Refusal) (s : State) (es : List Event) → refusal ≡ refusal_of verdict → is_err verdict ≡ true
     → told (record { refusal = refusal; sent = sent.None; state = s }) ≡ told_of verdict s es
-refuses Accepted refusal s es e n = absurd (n (ap (λ (r : Refusal). r.number) e))
-refuses (Refused reason item) refusal s es e n = ap (λ (r : Refusal). record { refusal = r; units = []; state = s }) e
+refuses Accepted refusal s es e refused = absurd (false≢true refused)
+refuses (Refused reason item) refusal s es e refused = ap (λ (r : Refusal). record { refusal = r; units = []; state = s }) e
 
 -- and of an accepted one
 pub accepts : (verdict : Verdict) (refusal : Refusal) (s : State) (es : List Event) (out : Sent) (end : State)

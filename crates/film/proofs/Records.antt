@@ -11,23 +11,28 @@ use borrow.Author.Tests.{eq-eqb, ne_eqb}
 use lib.Dec.{eqb}
 use lib.ListN.{length, drop, get_or, drop_of_length-le}
 use lib.Seq.{drop-cons, get_or-take}
-use Rattle.refusal.specs.declared.Verdict.{Verdict}
-use Rattle.refusal.specs.declared.Verdict.TheVariants.{Accepted, Refused}
+use Rattle.lists.proofs.Each.{each-of}
+use Rattle.refusal.specs.Verdict.{Verdict}
+use Rattle.refusal.specs.Verdict.{Accepted, Refused}
 use Rattle.refusal.specs.declared.Reason.TheVariants.{NotShown, OtherLine}
 use Rattle.refusal.specs.declared.Item.TheVariants.{Bit}
 use Rattle.scte20.specs.declared.Record.{Record}
 use Rattle.scte20.specs.declared.Numbers.{Numbers}
-use Rattle.scte20.specs.Value.{blank, field_of, held}
+use Rattle.scte20.specs.Value.{blank, field_of, held, Typed}
 use Rattle.scte20.specs.Lent.{lent_records, unit_in}
-use Rattle.scte20.proofs.Lending.{lent_length}
+use Rattle.scte20.proofs.Lending.{lent_length, lent-typed}
 use Rattle.scte20.proofs.Holding.{length-held}
-use Rattle.film.specs.declared.Slot.{Slot}
-use Rattle.film.specs.declared.Slot.TheVariants.{Pair}
+use Rattle.film.specs.Slot.{Slot}
+use Rattle.film.specs.Slot.{Pair}
 use Rattle.film.specs.Display.{is_at, pick, slot_of}
 use Rattle.film.specs.Calls.{repeat_verdict, line_verdict}
 
 abbrev pub records_of : Numbers → List ℕ → List Record
 records_of v s = (held (unit_in v s)).records
+
+-- a lent array holds bytes, so that the unit that it tells is one by its type
+pub array-typed : (v : Numbers) (s : List ℕ) → ((i : ℕ) → get_or s i 0 < 256) → length s ≡ 155 → Typed (unit_in v s)
+array-typed v s fits places = lent-typed v s (each-of (λ (b : ℕ). b < 256) 0 s (λ i below. fits i)) places
 
 pub record-here : (v : Numbers) (s : List ℕ) (i : ℕ) (r : Record) → v.n ≤ 31 → i < v.n → r ≡ get_or (lent_records s) i blank
     → drop i (records_of v s) ≡ r ∷ drop (i + 1) (records_of v s)
@@ -46,21 +51,15 @@ records-over v s i few end =
 pub record Left {D : Type 0} (says : ℕ → List Record → D) (rs : List Record) (i : ℕ) : Type 0 where
   pub left : says 0 rs ≡ says i (drop i rs)
 
-module _ {D : Type 0} (says : ℕ → List Record → D) (rs : List Record) where
-  pub left-first : Left says rs 0
-  left-first = record { left = refl }
-
+module _ {D : Type 0} (says : ℕ → List Record → D) (v : Numbers) (s : List ℕ) (few : v.n ≤ 31) (i : ℕ) (r : Record)
+    (more : i < v.n) (told : r ≡ get_or (lent_records s) i blank) (so_far : Left says (records_of v s) i) where
   -- record i decides
-  pub left_here : (i : ℕ) (r : Record) (rest : List Record) (d : D) → Left says rs i → drop i rs ≡ r ∷ rest → says i (r ∷ rest) ≡ d → says 0 rs ≡ d
-  left_here i r rest d so_far here e = so_far.left ∙ ap (says i) here ∙ e
+  pub left-here : (d : D) → ((rest : List Record) → says i (r ∷ rest) ≡ d) → says 0 (records_of v s) ≡ d
+  left-here d e = so_far.left ∙ ap (says i) (record-here v s i r few more told) ∙ e (drop (i + 1) (records_of v s))
 
   -- or those behind it do
-  pub left-next : (i : ℕ) (r : Record) → Left says rs i → drop i rs ≡ r ∷ drop (i + 1) rs
-      → says i (r ∷ drop (i + 1) rs) ≡ says (i + 1) (drop (i + 1) rs) → Left says rs (i + 1)
-  left-next i r so_far here e = record { left = so_far.left ∙ ap (says i) here ∙ e }
-
-  pub left_end : (i : ℕ) → Left says rs i → drop i rs ≡ [] → says 0 rs ≡ says i []
-  left_end i so_far over = so_far.left ∙ ap (says i) over
+  pub left-next : ((rest : List Record) → says i (r ∷ rest) ≡ says (i + 1) rest) → Left says (records_of v s) (i + 1)
+  left-next e = record { left = so_far.left ∙ ap (says i) (record-here v s i r few more told) ∙ e (drop (i + 1) (records_of v s)) }
 
 -- where construct i begins
 on : (i : ℕ) → 21 + 26 * i + 26 ≡ 21 + 26 * (i + 1)

@@ -3,8 +3,8 @@
 use mathlib.Core.Path.{◌≡◌, ◌∙◌, ap, refl}
 use mathlib.Core.List.{List, [], ◌∷◌, ◌++◌, map}
 use Rattle.line21.specs.declared.AccessUnit.{AccessUnit}
-use Rattle.film.specs.declared.State.{State}
-use Rattle.film.specs.declared.State.TheVariants.{Nothing, Waiting}
+use Rattle.film.specs.State.{State}
+use Rattle.film.specs.State.{Nothing, Waiting}
 use Rattle.film.specs.Display.{Event, odd, even, closing}
 use Rattle.film.specs.Frames.{Frame, both, odd_alone, even_alone, frames_of, waiting_of, pending, unit_of, units_of, slots_sent, slots_of}
 

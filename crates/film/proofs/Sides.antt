@@ -1,7 +1,7 @@
 -- What a frame is as an access unit.
 -- Assumes nothing.
 use mathlib.Core.Path.{◌≡◌, refl}
-use Rattle.film.specs.declared.Slot.{Slot}
+use Rattle.film.specs.Slot.{Slot}
 use Rattle.film.specs.Frames.{Frame, both, odd_alone, even_alone, half_of, unit_of, field_one, field_two, blank}
 
 pub frame-both : (a b : Slot) → (field_one (unit_of (both a b)) ≡ half_of a) × (field_two (unit_of (both a b)) ≡ half_of b)

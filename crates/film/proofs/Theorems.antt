@@ -13,7 +13,7 @@ use mathlib.Core.Logic.{◌↔◌}
 use mathlib.Core.List.{List, [], ◌∷◌, ◌++◌, map}
 use lib.ListN.{length}
 use Rattle.lists.specs.Each.{Each}
-use Rattle.refusal.specs.declared.Verdict.{Verdict}
+use Rattle.refusal.specs.Verdict.{Verdict}
 use Rattle.refusal.specs.Checks.{first}
 use Rattle.refusal.specs.Numbers.{refusal_of}
 use Rattle.refusal.specs.Answers.{accepted}
@@ -22,10 +22,10 @@ use Rattle.scte20.specs.declared.CaptionUnit.{CaptionUnit}
 use Rattle.scte20.specs.Value.{field_of, held}
 use Rattle.line21.specs.declared.AccessUnit.{AccessUnit}
 use Rattle.line21.specs.Value.{LegalAccessUnit}
-use Rattle.film.specs.declared.Slot.{Slot}
-use Rattle.film.specs.declared.Slot.TheVariants.{Pair}
-use Rattle.film.specs.declared.State.{State}
-use Rattle.film.specs.declared.State.TheVariants.{Nothing}
+use Rattle.film.specs.Slot.{Slot}
+use Rattle.film.specs.Slot.{Pair}
+use Rattle.film.specs.State.{State}
+use Rattle.film.specs.State.{Nothing}
 use Rattle.film.specs.declared.Shown.{Shown}
 use Rattle.film.specs.declared.Sent.TheVariants.{None}
 use Rattle.film.specs.declared.Half.{Half}

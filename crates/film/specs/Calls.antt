@@ -1,7 +1,7 @@
 -- What a call answers, for every state and every picture. RULES, "Film" and "Order of checks".
 use Rattle.std.specs.Prelude.{ℕ, ◌+◌, ◌≡◌, Bool, not, ◌&&◌, List, [], ◌∷◌, ◌++◌, eqb, ltb}
-use Rattle.refusal.specs.declared.Verdict.{Verdict}
-use Rattle.refusal.specs.declared.Verdict.TheVariants.{Accepted, Refused}
+use Rattle.refusal.specs.Verdict.{Verdict}
+use Rattle.refusal.specs.Verdict.{Accepted, Refused}
 use Rattle.refusal.specs.declared.Reason.TheVariants.{Unholdable, NotShown, OtherLine}
 use Rattle.refusal.specs.declared.Excess.TheVariants.{SetLine}
 use Rattle.refusal.specs.declared.Item.TheVariants.{Whole, Bit}
@@ -13,7 +13,7 @@ use Rattle.scte20.specs.declared.CaptionUnit.{CaptionUnit}
 use Rattle.scte20.specs.Value.{field_of, held, Typed}
 use Rattle.scte20.specs.Writing.{value_verdict}
 use Rattle.line21.specs.declared.AccessUnit.{AccessUnit}
-use Rattle.film.specs.declared.State.{State}
+use Rattle.film.specs.State.{State}
 use Rattle.film.specs.declared.Shown.{Shown}
 use Rattle.film.specs.declared.Sent.{Sent}
 use Rattle.film.specs.declared.Sent.TheVariants as sent

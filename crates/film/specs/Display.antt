@@ -4,8 +4,8 @@ use Rattle.std.specs.Prelude.{ℕ, zero, suc, Bool, true, false, ◌&&◌, List,
 use Rattle.fields.specs.Sides.{side}
 use Rattle.scte20.specs.declared.Record.{Record}
 use Rattle.scte20.specs.Value.{field_of}
-use Rattle.film.specs.declared.Slot.{Slot}
-use Rattle.film.specs.declared.Slot.TheVariants.{Invalid, Pair}
+use Rattle.film.specs.Slot.{Slot}
+use Rattle.film.specs.Slot.{Invalid, Pair}
 use Rattle.film.specs.declared.Shown.{Shown}
 
 -- the display fields of a picture, in order: two, and three where the first is repeated

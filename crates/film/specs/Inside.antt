@@ -4,16 +4,16 @@ use Rattle.std.specs.Prelude.{ℕ, zero, suc, List}
 use Rattle.fields.specs.Sides.{side}
 use Rattle.scte20.specs.declared.Record.{Record}
 use Rattle.line21.specs.declared.AccessUnit.{AccessUnit}
-use Rattle.film.specs.declared.Slot.{Slot}
-use Rattle.film.specs.declared.Slot.TheVariants.{Invalid}
-use Rattle.film.specs.declared.State.{State}
-use Rattle.film.specs.declared.State.TheVariants.{Nothing, Waiting}
+use Rattle.film.specs.Slot.{Slot}
+use Rattle.film.specs.Slot.{Invalid}
+use Rattle.film.specs.State.{State}
+use Rattle.film.specs.State.{Nothing, Waiting}
 use Rattle.film.specs.declared.Shown.{Shown}
 use Rattle.film.specs.declared.Half.{Half}
 use Rattle.film.specs.declared.Sent.{Sent}
 use Rattle.film.specs.declared.Sent.TheVariants as sent
-use Rattle.film.specs.declared.Gone.{Gone}
-use Rattle.film.specs.declared.Gone.TheVariants as gone
+use Rattle.film.specs.Gone.{Gone}
+use Rattle.film.specs.Gone as gone
 use Rattle.film.specs.declared.Passing.{Passing}
 use Rattle.film.specs.Display.{slot_of}
 use Rattle.film.specs.Frames.{access_unit}

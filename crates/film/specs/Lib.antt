@@ -1,3 +1,6 @@
+pub mod Slot
+pub mod State
+pub mod Gone
 pub mod Display
 pub mod Frames
 pub mod Calls

@@ -2,7 +2,7 @@
 -- and when a picture is accepted.
 use Rattle.std.specs.Prelude.{ℕ, ◌+◌, ◌≤◌, ◌≡◌, ◌⊎◌, Bool, not, ◌&&◌, List, [], ◌∷◌, ◌++◌, eqb, ltb, length}
 use Rattle.lists.specs.Each.{Each}
-use Rattle.refusal.specs.declared.Verdict.{Verdict}
+use Rattle.refusal.specs.Verdict.{Verdict}
 use Rattle.refusal.specs.declared.Reason.TheVariants.{Unholdable, NotShown, OtherLine}
 use Rattle.refusal.specs.declared.Excess.TheVariants.{SetLine}
 use Rattle.refusal.specs.declared.Item.TheVariants.{Whole, Bit}

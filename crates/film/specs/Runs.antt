@@ -1,12 +1,12 @@
 -- A run: calls one after the other, each with the state that the one before it answered; and what was shown in it, from
 -- the pictures alone. RULES, "Film".
 use Rattle.std.specs.Prelude.{List, [], ◌∷◌, ◌++◌}
-use Rattle.refusal.specs.declared.Verdict.{Verdict}
-use Rattle.refusal.specs.declared.Verdict.TheVariants.{Accepted, Refused}
+use Rattle.refusal.specs.Verdict.{Verdict}
+use Rattle.refusal.specs.Verdict.{Accepted, Refused}
 use Rattle.scte20.specs.declared.CaptionUnit.{CaptionUnit}
 use Rattle.scte20.specs.Value.{held}
 use Rattle.line21.specs.declared.AccessUnit.{AccessUnit}
-use Rattle.film.specs.declared.State.{State}
+use Rattle.film.specs.State.{State}
 use Rattle.film.specs.declared.Shown.{Shown}
 use Rattle.film.specs.declared.Answer.{Answer}
 use Rattle.film.specs.Display.{Event, closing, picture_events}

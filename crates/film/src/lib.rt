@@ -11,21 +11,13 @@ ghost use Rattle.film.specs.Inside.{joined, passed};
 
 use fields::OddEven;
 use line21::AccessUnit;
-use refusal::{Refusal, Verdict};
+use refusal::Refusal;
 
 // What one display field brings to its side of a frame: two data bytes, or nothing, which goes out invalid and zero.
-#[derive(Clone, Copy)]
-pub enum Slot {
-    Invalid,
-    Pair(u8, u8),
-}
+pub type Slot = Option<(u8, u8)>;
 
 // What is kept from call to call: an odd slot that waits for the even one after it.
-#[derive(Clone, Copy)]
-pub enum State {
-    Nothing,
-    Waiting(Slot),
-}
+pub type State = Option<Slot>;
 
 // How a picture is shown, and the line whose records are carried, which the caller sets.
 #[derive(Clone, Copy)]
@@ -36,6 +28,7 @@ pub struct Shown {
 }
 
 // The access units that a call sends, in order.
+// An enum: with two Options in its place one could be sent behind none.
 #[derive(Clone, Copy)]
 pub enum Sent {
     None,
@@ -44,6 +37,7 @@ pub enum Sent {
 }
 
 // What a call answers: a refusal, which sends nothing and keeps the state, or what is sent, and the new state.
+// No Result: `refused-keeps` speaks of what a refusal sends and of the state that it keeps.
 #[derive(Clone, Copy)]
 pub struct Answer {
     pub refusal: Refusal,
@@ -51,21 +45,14 @@ pub struct Answer {
     pub state: State,
 }
 
-// What one slot sends.
-#[derive(Clone, Copy)]
-pub enum Gone {
-    Nothing,
-    Unit(AccessUnit),
-}
-
 // What one slot sends, and what then waits.
 #[derive(Clone, Copy)]
 pub struct Passing {
-    pub gone: Gone,
+    pub gone: Option<AccessUnit>,
     pub state: State,
 }
 
-// What a slot is in an access unit.
+// What a slot is in an access unit. A number beside two, as the unit has them, and no Option: `frame-both` and its kin speak of these.
 #[derive(Clone, Copy)]
 pub struct Half {
     pub cc_valid: u8,
@@ -77,25 +64,14 @@ pub struct Half {
 pub fn close(state: State) -> Answer
     ensures { Closes state result }
 {
-    let refusal = refusal::told(Verdict::Accepted);
-    let nothing = State::Nothing;
-    match state {
-        State::Nothing => {
-            let sent = Sent::None;
-            Answer {
-                refusal,
-                sent,
-                state: nothing,
-            }
-        }
-        State::Waiting(odd) => {
-            let sent = Sent::One(frame(odd, Slot::Invalid));
-            Answer {
-                refusal,
-                sent,
-                state: nothing,
-            }
-        }
+    let sent = match state {
+        None => Sent::None,
+        Some(odd) => Sent::One(frame(odd, None)),
+    };
+    Answer {
+        refusal: Refusal::from(Ok(())),
+        sent,
+        state: None,
     }
 }
 
@@ -103,41 +79,15 @@ pub fn close(state: State) -> Answer
 pub fn pass(state: State, side: OddEven, slot: Slot) -> Passing
     ensures { result ≡ passed state side.0 slot }
 {
-    let nothing = State::Nothing;
     if side.0 == 0 {
-        return match state {
-            State::Nothing => {
-                let gone = Gone::Unit(frame(Slot::Invalid, slot));
-                Passing {
-                    gone,
-                    state: nothing,
-                }
-            }
-            State::Waiting(odd) => {
-                let gone = Gone::Unit(frame(odd, slot));
-                Passing {
-                    gone,
-                    state: nothing,
-                }
-            }
+        return Passing {
+            gone: Some(frame(state.flatten(), slot)),
+            state: None,
         };
     }
-    let waiting = State::Waiting(slot);
-    match state {
-        State::Nothing => {
-            let gone = Gone::Nothing;
-            Passing {
-                gone,
-                state: waiting,
-            }
-        }
-        State::Waiting(odd) => {
-            let gone = Gone::Unit(frame(odd, Slot::Invalid));
-            Passing {
-                gone,
-                state: waiting,
-            }
-        }
+    Passing {
+        gone: state.map(|odd| frame(odd, None)),
+        state: Some(slot),
     }
 }
 
@@ -145,12 +95,12 @@ pub fn half_of(slot: Slot) -> Half
     ensures { result ≡ half_of slot }
 {
     match slot {
-        Slot::Invalid => Half {
+        None => Half {
             cc_valid: 0,
             data_1: 0,
             data_2: 0,
         },
-        Slot::Pair(data_1, data_2) => Half {
+        Some((data_1, data_2)) => Half {
             cc_valid: 1,
             data_1,
             data_2,

@@ -5,15 +5,15 @@ use mathlib.Core.Path.{◌≡◌, ◌∙◌, ap, sym, refl}
 use mathlib.Core.Logic.{◌↔◌}
 use mathlib.Core.List.{List, [], ◌∷◌}
 use lib.ListN.{length}
-use Rattle.refusal.specs.declared.Verdict.{Verdict}
-use Rattle.refusal.specs.declared.Verdict.TheVariants.{Accepted, Refused}
+use Rattle.refusal.specs.Verdict.{Verdict}
+use Rattle.refusal.specs.Verdict.{Accepted, Refused}
 use Rattle.refusal.specs.declared.Refusal.{Refusal}
 use Rattle.refusal.specs.Numbers.{refusal_of}
 use Rattle.refusal.proofs.Acceptance.{told-accepted}
 use Rattle.refusal.proofs.Checks.{accepted-and_then, accepted-within, refused-not-accepted}
 use Rattle.scte20.specs.declared.CaptionUnit.{CaptionUnit}
 use Rattle.scte20.specs.Value.{held}
-use Rattle.film.specs.declared.State.{State}
+use Rattle.film.specs.State.{State}
 use Rattle.film.specs.declared.Answer.{Answer}
 use Rattle.film.specs.Display.{closing, picture_events}
 use Rattle.film.specs.Calls.{picture_verdict, units_sent, Told, told, told_of, Shows, Closes}
@@ -21,8 +21,8 @@ use Rattle.film.specs.Order.{Carried}
 use Rattle.film.proofs.Answering.{told-refusal, told-verdict}
 use Rattle.film.proofs.Carrying.{accepted-carried, carried-accepted}
 use Rattle.film_lent.specs.declared.Head.{Head}
-use Rattle.film_lent.specs.declared.Kept.{Kept}
-use Rattle.film_lent.specs.declared.Kept.TheVariants as kept
+use Rattle.film_lent.specs.Kept.{Kept}
+use Rattle.film_lent.specs.Kept as kept
 use Rattle.film_lent.specs.Lent.{state_bytes, sent_bytes, state_in, shown_in, kept_verdict, kept_state, into_verdict, Left, left_of, PictureInto, CloseInto}
 use Rattle.film_lent.proofs.Left.{into-picture}
 

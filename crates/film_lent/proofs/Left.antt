@@ -7,8 +7,8 @@ use borrow.Author.Tests.{lt-ltb, le-ltb}
 use lib.ListN.{length}
 use Rattle.refusal.specs.declared.Reason.{Reason}
 use Rattle.refusal.specs.declared.Item.{Item}
-use Rattle.refusal.specs.declared.Verdict.{Verdict}
-use Rattle.refusal.specs.declared.Verdict.TheVariants.{Accepted, Refused}
+use Rattle.refusal.specs.Verdict.{Verdict}
+use Rattle.refusal.specs.Verdict.{Accepted, Refused}
 use Rattle.refusal.specs.declared.Reason.TheVariants.{Unholdable}
 use Rattle.refusal.specs.declared.Excess.TheVariants.{FilmState, PictureFlag}
 use Rattle.refusal.specs.declared.Item.TheVariants.{Whole}
@@ -17,13 +17,13 @@ use Rattle.refusal.specs.Numbers.{refusal_of}
 use Rattle.refusal.proofs.Checks.{refused-not-accepted, and_then-last}
 use Rattle.refusal.proofs.Acceptance.{told-accepted}
 use Rattle.scte20.specs.declared.CaptionUnit.{CaptionUnit}
-use Rattle.film.specs.declared.State.{State}
+use Rattle.film.specs.State.{State}
 use Rattle.film.specs.declared.Answer.{Answer}
 use Rattle.film.specs.Display.{Event}
 use Rattle.film.specs.Calls.{picture_verdict, Told, told, told_of}
 use Rattle.film_lent.specs.declared.Head.{Head}
-use Rattle.film_lent.specs.declared.Kept.{Kept}
-use Rattle.film_lent.specs.declared.Kept.TheVariants as kept
+use Rattle.film_lent.specs.Kept.{Kept}
+use Rattle.film_lent.specs.Kept as kept
 use Rattle.film_lent.specs.Lent.{state_bytes, sent_bytes, shown_in, kept_verdict, kept_state, into_verdict, Left, left_of}
 use Rattle.film_lent.specs.Inside.{refused_head, Stores}
 

@@ -1,4 +1,3 @@
-pub mod Places
 pub mod Left
 pub mod Halves
 pub mod States

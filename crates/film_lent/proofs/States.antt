@@ -5,15 +5,15 @@ use native.Mathlib.Omega.{arith}
 use mathlib.Core.Path.{◌≡◌, ◌∙◌, ap, subst, sym, refl}
 use mathlib.Core.Bool.{Bool, true, false, ◌&&◌}
 use mathlib.Core.List.{List, [], ◌∷◌}
-use borrow.Author.Tests.{eqb-true, eq-eqb}
+use borrow.Author.Tests.{eqb-true}
 use lib.Dec.{eqb}
 use lib.ListN.{length, get_or}
 use Rattle.refusal.proofs.Checks.{both_hold}
-use Rattle.film.specs.declared.Slot.TheVariants.{Invalid, Pair}
-use Rattle.film.specs.declared.State.{State}
-use Rattle.film.specs.declared.State.TheVariants.{Nothing, Waiting}
-use Rattle.film_lent.specs.declared.Kept.{Kept}
-use Rattle.film_lent.specs.declared.Kept.TheVariants as kept
+use Rattle.film.specs.Slot.{Invalid, Pair}
+use Rattle.film.specs.State.{State}
+use Rattle.film.specs.State.{Nothing, Waiting}
+use Rattle.film_lent.specs.Kept.{Kept}
+use Rattle.film_lent.specs.Kept as kept
 use Rattle.film_lent.specs.Lent.{state_bytes, chosen, state_from, state_in}
 use Rattle.film_lent.specs.Inside.{four_in}
 
@@ -22,12 +22,6 @@ unfolding state_from
 state-back Nothing = refl
 state-back (Waiting Invalid) = refl
 state-back (Waiting (Pair a b)) = refl
-
--- a pair that waits
-pub pair-state : (bytes : List ℕ) → get_or bytes 0 0 ≡ 1 → eqb (get_or bytes 1 0) 1 ≡ true
-    → state_in bytes ≡ kept.State (Waiting (Pair (get_or bytes 2 0) (get_or bytes 3 0)))
-unfolding state_from
-pair-state bytes e f = simp (eq-eqb _ _ e, f)
 
 -- one that is told has these bytes
 four : ℕ → ℕ → ℕ → ℕ → List ℕ

@@ -11,12 +11,12 @@ use mathlib.Core.Logic.{◌↔◌}
 use mathlib.Core.List.{List}
 use lib.ListN.{length}
 use Rattle.scte20.specs.declared.CaptionUnit.{CaptionUnit}
-use Rattle.film.specs.declared.State.{State}
+use Rattle.film.specs.State.{State}
 use Rattle.film.specs.declared.Answer.{Answer}
 use Rattle.film.specs.Calls.{units_sent, Shows, Closes}
 use Rattle.film.specs.Order.{Carried}
 use Rattle.film_lent.specs.declared.Head.{Head}
-use Rattle.film_lent.specs.declared.Kept.TheVariants as kept
+use Rattle.film_lent.specs.Kept as kept
 use Rattle.film_lent.specs.Lent.{state_bytes, sent_bytes, state_in, shown_in, PictureInto, CloseInto}
 use Rattle.film_lent.proofs.States as states
 use Rattle.film_lent.proofs.Calling as calling

@@ -1,21 +1,17 @@
 -- What functions promise each other on the way to an answer. A signer may pass it over.
-use Rattle.std.specs.Prelude.{ℕ, ◌≤◌, ◌≡◌, Bool, true, false, List, [], ◌∷◌, ◌++◌, length, get_or}
-use Rattle.refusal.specs.declared.Verdict.{Verdict}
+use Rattle.std.specs.Prelude.{ℕ, ◌≡◌, Bool, true, false, List, [], ◌∷◌, ◌++◌, length, get_or}
+use Rattle.refusal.specs.Verdict.{Verdict}
 use Rattle.refusal.specs.Numbers.{refusal_of}
-use Rattle.scte20.specs.declared.CaptionUnit.{CaptionUnit}
 use Rattle.line21.specs.declared.AccessUnit.{AccessUnit}
-use Rattle.film.specs.declared.Slot.{Slot}
-use Rattle.film.specs.declared.State.{State}
+use Rattle.film.specs.Slot.{Slot}
+use Rattle.film.specs.State.{State}
 use Rattle.film.specs.declared.Half.{Half}
 use Rattle.film.specs.declared.Answer.{Answer}
 use Rattle.film.specs.Display.{Event, odd, even}
 use Rattle.film.specs.Frames.{units_of, waiting_of, pending, half_of}
 use Rattle.film.specs.Calls.{units_sent}
-use Rattle.film_value.specs.declared.Gathered.{Gathered}
-use Rattle.film_value.specs.Inside.{Brings}
 use Rattle.film_lent.specs.declared.Head.{Head}
-use Rattle.film_lent.specs.declared.Kept.TheVariants as kept
-use Rattle.film_lent.specs.Lent.{state_bytes, state_in, sent_bytes, shown_in, Left}
+use Rattle.film_lent.specs.Lent.{state_bytes, sent_bytes, Left}
 
 abbrev pub refused_head : Verdict → Head
 refused_head v = record { refusal = refusal_of v; m = 0 }
@@ -32,21 +28,6 @@ pub record Stores (answer : Answer) (film lent : List ℕ) (r : Head) (exit end 
         film = state_bytes answer.state;
         units = sent_bytes (units_sent answer.sent);
       })
-
--- the bytes are a state's
-abbrev pub IsState : List ℕ → Type 0
-IsState film = (s : State) × (state_in film ≡ kept.State s)
-
--- the arguments are right, and the picture is carried with these halves
-pub record BringsIn (film : List ℕ) (top repeat line : ℕ) (u : CaptionUnit) (r : Gathered) : Type 0 where
-  pub is-state : IsState film
-  pub top_bit : top ≤ 1
-  pub repeat_bit : repeat ≤ 1
-  pub brings : Brings (shown_in top repeat line) u r
-
--- the promise of `gather_in`
-abbrev pub GathersIn : List ℕ → ℕ → ℕ → ℕ → CaptionUnit → Gathered → Type 0
-GathersIn film top repeat line u r = r.carried ≡ true → BringsIn film top repeat line u r
 
 abbrev pub four_in : List ℕ → List ℕ
 four_in film = get_or film 0 0 ∷ get_or film 1 0 ∷ get_or film 2 0 ∷ get_or film 3 0 ∷ []

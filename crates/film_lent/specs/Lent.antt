@@ -2,8 +2,8 @@
 -- the C interface lends and is lent. RULES, "Film".
 use Rattle.std.specs.Prelude.{ℕ, min, ◌≡◌, Bool, true, false, ◌&&◌, List, [], ◌∷◌, eqb, ltb, length, get_or}
 use Rattle.lists.specs.Room.{filled}
-use Rattle.refusal.specs.declared.Verdict.{Verdict}
-use Rattle.refusal.specs.declared.Verdict.TheVariants.{Accepted, Refused}
+use Rattle.refusal.specs.Verdict.{Verdict}
+use Rattle.refusal.specs.Verdict.{Accepted, Refused}
 use Rattle.refusal.specs.declared.Reason.TheVariants.{Unholdable}
 use Rattle.refusal.specs.declared.Excess.TheVariants.{FilmState, PictureFlag}
 use Rattle.refusal.specs.declared.Item.TheVariants.{Whole}
@@ -13,17 +13,17 @@ use Rattle.scte20.specs.declared.CaptionUnit.{CaptionUnit}
 use Rattle.scte20.specs.Value.{held, Typed}
 use Rattle.line21.specs.declared.AccessUnit.{AccessUnit}
 use Rattle.line21.specs.Lent.{access_units_bytes}
-use Rattle.film.specs.declared.Slot.TheVariants.{Invalid, Pair}
-use Rattle.film.specs.declared.State.{State}
-use Rattle.film.specs.declared.State.TheVariants.{Nothing, Waiting}
+use Rattle.film.specs.Slot.{Invalid, Pair}
+use Rattle.film.specs.State.{State}
+use Rattle.film.specs.State.{Nothing, Waiting}
 use Rattle.film.specs.declared.Shown.{Shown}
 use Rattle.film.specs.declared.Half.{Half}
 use Rattle.film.specs.Display.{closing, picture_events}
 use Rattle.film.specs.Frames.{half_of}
 use Rattle.film.specs.Calls.{picture_verdict, Told, told_of}
 use Rattle.film_lent.specs.declared.Head.{Head}
-use Rattle.film_lent.specs.declared.Kept.{Kept}
-use Rattle.film_lent.specs.declared.Kept.TheVariants as kept
+use Rattle.film_lent.specs.Kept.{Kept}
+use Rattle.film_lent.specs.Kept as kept
 
 abbrev pub half_bytes : Half → List ℕ
 half_bytes h = h.cc_valid ∷ h.data_1 ∷ h.data_2 ∷ []

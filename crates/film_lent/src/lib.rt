@@ -4,21 +4,20 @@
 // Normative references: docs/RULES.md, "Film".
 #![tactic(auto)]
 
-ghost use Rattle.std.specs.Prelude.{◌≡◌, true, ◌∷◌, [], ◌++◌, length};
-ghost use Rattle.refusal.specs.declared.Verdict.TheVariants.{Refused};
+ghost use Rattle.std.specs.Prelude.{◌≡◌, ◌∷◌, ◌++◌, length};
+ghost use Rattle.refusal.specs.Verdict.{Refused};
 ghost use Rattle.refusal.specs.declared.Reason.TheVariants.{Unholdable};
 ghost use Rattle.refusal.specs.declared.Item.TheVariants.{Whole};
 ghost use Rattle.scte20.specs.Lent.{unit_in};
-ghost use Rattle.line21.specs.Value.{blank as Value·blank};
 ghost use Rattle.line21.specs.Lent.{access_unit_bytes};
 ghost use Rattle.film.specs.Calls.{units_sent};
 ghost use Rattle.film_lent.specs.Lent.{half_bytes, state_bytes, sent_bytes, state_in, PictureInto, CloseInto};
-ghost use Rattle.film_lent.specs.Inside.{refused_head, Stores, IsState, GathersIn, PutsOddFirst, PutsFrames};
+ghost use Rattle.film_lent.specs.Inside.{refused_head, Stores, PutsOddFirst, PutsFrames};
 
-use film::{Answer, Half, Sent, Shown, Slot, State};
-use film_value::Gathered;
-use line21::AccessUnit;
-use refusal::{Excess, Item, Reason, Refusal, Verdict};
+use film::{Answer, Half, Sent, Shown, State};
+use film_value::Halves;
+use line21::{AccessUnit, LENT_UNIT};
+use refusal::{Excess, Item, Reason, Refusal};
 use scte20::{LENT_RECORDS, Numbers};
 
 // A state: whether a slot waits, its cc_valid, and its two data bytes. All zero, nothing waits.
@@ -30,19 +29,12 @@ pub const MAX_SENT: usize = 2;
 // Those in a lent array, seven bytes each.
 pub const LENT_SENT: usize = 14;
 
-// What a call answers: a refusal, or how many access units it sent.
+// What a call answers: a refusal, or how many access units it sent. No Result: C has this layout.
 #[repr(C)]
 #[derive(Clone, Copy)]
 pub struct Head {
     pub refusal: Refusal,
     pub m: usize,
-}
-
-// The state that four bytes tell, where some state has them.
-#[derive(Clone, Copy)]
-pub enum Kept {
-    State(State),
-    None,
 }
 
 // Carries a picture. A number that a flag or a line cannot hold is refused, not cut, and so are bytes that no call
@@ -58,65 +50,10 @@ pub fn picture_into(
 ) -> Head
     ensures { PictureInto film.old top_field_first repeat_first_field line_offset (unit_in v records.now) units.old result film.new units.new }
 {
-    lists::known(records);
-    let gathered = gather_in(
-        film,
-        top_field_first,
-        repeat_first_field,
-        line_offset,
-        v,
-        records,
-    );
-    if gathered.carried {
-        let one = gathered.one;
-        let two = gathered.two;
-        let three = gathered.three;
-        let m = put_frames(
-            top_field_first == 1,
-            repeat_first_field == 1,
-            one,
-            two,
-            three,
-            film,
-            units,
-        );
-        return Head {
-            refusal: refusal::told(Verdict::Accepted),
-            m,
-        };
-    }
-    by_slots(
-        film,
-        top_field_first,
-        repeat_first_field,
-        line_offset,
-        v,
-        records,
-        units,
-    )
-}
-
-// The same, slot after slot. It finds the reason of a refusal.
-fn by_slots(
-    film: &mut [u8; LENT_FILM],
-    top_field_first: u32,
-    repeat_first_field: u32,
-    line_offset: u32,
-    v: Numbers,
-    records: &[u8; LENT_RECORDS],
-    units: &mut [u8; LENT_SENT],
-) -> Head
-    ensures { PictureInto film.old top_field_first repeat_first_field line_offset (unit_in v records.now) units.old result film.new units.new }
-{
-    lists::known(records);
-    let kept = state_in(film);
-    let Kept::State(state) = kept else {
+    let Some(state) = state_in(film) else {
         return refused(Excess::FilmState);
     };
-    if 1 < top_field_first {
-        return refused(Excess::PictureFlag);
-    }
-    if 1 < repeat_first_field {
+    if 1 < top_field_first || 1 < repeat_first_field {
         return refused(Excess::PictureFlag);
     }
     let how = Shown {
@@ -124,6 +61,12 @@ fn by_slots(
         repeat_first_field: repeat_first_field == 1,
         line_offset: scte20::narrow(line_offset as usize),
     };
+    if let Some(halves) = film_value::gather(how, v, records) {
+        return Head {
+            refusal: Refusal::from(Ok(())),
+            m: put_frames(how, halves, film, units),
+        };
+    }
     store(film_picture::picture(state, how, v, records), film, units)
 }
 
@@ -131,77 +74,20 @@ fn by_slots(
 pub fn close_into(film: &mut [u8; LENT_FILM], units: &mut [u8; LENT_SENT]) -> Head
     ensures { CloseInto film.old units.old result film.new units.new }
 {
-    if film[0] == 1 && film[1] == 1 {
-        let odd = film::half_of(Slot::Pair(film[2], film[3]));
-        put_four(0, film::half_of(Slot::Invalid), film);
-        put_two(
-            film::join(odd, film::half_of(Slot::Invalid)),
-            blank(),
-            units,
-        );
-        return Head {
-            refusal: refusal::told(Verdict::Accepted),
-            m: 1,
-        };
-    }
-    let kept = state_in(film);
-    let Kept::State(state) = kept else {
+    let Some(state) = state_in(film) else {
         return refused(Excess::FilmState);
     };
     store(film::close(state), film, units)
 }
 
-// What the display fields bring, where the arguments are right and the picture is carried.
-fn gather_in(
-    film: &[u8; LENT_FILM],
-    top_field_first: u32,
-    repeat_first_field: u32,
-    line_offset: u32,
-    v: Numbers,
-    records: &[u8; LENT_RECORDS],
-) -> Gathered
-    ensures { GathersIn film.now top_field_first repeat_first_field line_offset (unit_in v records.now) result }
-{
-    if !is_state(film) {
-        return film_value::nothing();
-    }
-    if 1 < top_field_first {
-        return film_value::nothing();
-    }
-    if 1 < repeat_first_field {
-        return film_value::nothing();
-    }
-    let how = Shown {
-        top_field_first: top_field_first == 1,
-        repeat_first_field: repeat_first_field == 1,
-        line_offset: scte20::narrow(line_offset as usize),
-    };
-    film_value::gather(how, v, records)
-}
-
-// Whether the bytes are a state's.
-fn is_state(film: &[u8; LENT_FILM]) -> bool
-    ensures { result ≡ true → IsState film.now }
-{
-    let kept = state_in(film);
-    if let Kept::State(_) = kept {
-        true
-    } else {
-        false
-    }
-}
-
 // The frames of a picture whose display fields bring these halves, and what then waits.
 fn put_frames(
-    top_field_first: bool,
-    repeat_first_field: bool,
-    one: Half,
-    two: Half,
-    three: Half,
+    how: Shown,
+    halves: Halves,
     film: &mut [u8; LENT_FILM],
     units: &mut [u8; LENT_SENT],
 ) -> usize
-    ensures { PutsFrames top_field_first repeat_first_field one two three film.old result film.new units.new }
+    ensures { PutsFrames how.top_field_first how.repeat_first_field halves.one halves.two halves.three film.old result film.new units.new }
 {
     let waiting = film[0];
     let odd = Half {
@@ -209,39 +95,39 @@ fn put_frames(
         data_1: film[2],
         data_2: film[3],
     };
-    let none = film::half_of(Slot::Invalid);
-    if top_field_first {
-        if repeat_first_field {
-            put_four(1, three, film);
-            return put_odd_first(waiting, odd, one, two, units);
+    match (how.top_field_first, how.repeat_first_field) {
+        (true, true) => {
+            *film = waiting_bytes(1, halves.three);
+            put_odd_first(waiting, odd, halves.one, halves.two, units)
         }
-        put_four(0, none, film);
-        return put_odd_first(waiting, odd, one, two, units);
+        (true, false) => {
+            *film = waiting_bytes(0, film::half_of(None));
+            put_odd_first(waiting, odd, halves.one, halves.two, units)
+        }
+        (false, true) => {
+            *film = waiting_bytes(0, film::half_of(None));
+            let second = film::join(halves.two, halves.three);
+            put_two(film::join(odd, halves.one), second, units);
+            2
+        }
+        (false, false) => {
+            *film = waiting_bytes(1, halves.two);
+            put_two(film::join(odd, halves.one), AccessUnit::default(), units);
+            1
+        }
     }
-    if repeat_first_field {
-        put_four(0, none, film);
-        put_two(film::join(odd, one), film::join(two, three), units);
-        return 2;
-    }
-    put_four(1, two, film);
-    put_two(film::join(odd, one), blank(), units);
-    1
 }
 
 // The frames where the first display field is odd: a slot that waits goes out alone.
-fn put_odd_first(waiting: u8, odd: Half, one: Half, two: Half, units: &mut [u8]) -> usize
-    requires { length units.old ≡ 14 }
+fn put_odd_first(waiting: u8, odd: Half, one: Half, two: Half, units: &mut [u8; LENT_SENT]) -> usize
     ensures { PutsOddFirst waiting odd one two result units.new }
 {
     if waiting == 1 {
-        put_two(
-            film::join(odd, film::half_of(Slot::Invalid)),
-            film::join(one, two),
-            units,
-        );
+        let alone = film::join(odd, film::half_of(None));
+        put_two(alone, film::join(one, two), units);
         return 2;
     }
-    put_two(film::join(one, two), blank(), units);
+    put_two(film::join(one, two), AccessUnit::default(), units);
     1
 }
 
@@ -250,84 +136,68 @@ fn store(answer: Answer, film: &mut [u8; LENT_FILM], units: &mut [u8; LENT_SENT]
     ensures { Stores answer film.old units.old result film.new units.new }
 {
     let refusal = answer.refusal;
+    // By its number: `refused-keeps` has the state beside a refusal, so that the answer is no Result.
     if refusal.number != 0 {
         return Head { refusal, m: 0 };
     }
-    let state = answer.state;
-    put_state(state, film);
-    let sent = answer.sent;
-    let m = put_sent(sent, units);
+    *film = bytes_of(answer.state);
+    let m = put_sent(answer.sent, units);
     Head { refusal, m }
 }
 
 fn refused(which: Excess) -> Head
     ensures { result ≡ refused_head (Refused (Unholdable which) Whole) }
 {
-    let verdict = Verdict::Refused(Reason::Unholdable(which), Item::Whole);
+    let verdict = Err((Reason::Unholdable(which), Item::Whole));
     Head {
-        refusal: refusal::told(verdict),
+        refusal: Refusal::from(verdict),
         m: 0,
     }
 }
 
-// The state that the bytes tell.
-fn state_in(film: &[u8; LENT_FILM]) -> Kept
+// The state that the bytes tell, where some state has them.
+#[tactic(auto, unfolding(crate::specs::Lent::state_from))]
+fn state_in(film: &[u8; LENT_FILM]) -> Option<State>
     ensures { result ≡ state_in film.now }
 {
-    if film[0] == 1 && film[1] == 1 {
-        return Kept::State(State::Waiting(Slot::Pair(film[2], film[3])));
+    match *film {
+        // Nothing waits.
+        [0, 0, 0, 0] => Some(None),
+        // An invalid slot does.
+        [1, 0, 0, 0] => Some(Some(None)),
+        // A pair does.
+        [1, 1, data_1, data_2] => Some(Some(Some((data_1, data_2)))),
+        _ => None,
     }
-    if film[1] != 0 {
-        return Kept::None;
-    }
-    if film[2] != 0 {
-        return Kept::None;
-    }
-    if film[3] != 0 {
-        return Kept::None;
-    }
-    if film[0] == 0 {
-        return Kept::State(State::Nothing);
-    }
-    if film[0] == 1 {
-        return Kept::State(State::Waiting(Slot::Invalid));
-    }
-    Kept::None
 }
 
-fn put_state(state: State, film: &mut [u8])
-    requires { length film.old ≡ 4 }
-    ensures { film.new ≡ state_bytes state }
+fn bytes_of(state: State) -> [u8; LENT_FILM]
+    ensures { result ≡ state_bytes state }
 {
     match state {
-        State::Nothing => put_four(0, film::half_of(Slot::Invalid), film),
-        State::Waiting(slot) => put_four(1, film::half_of(slot), film),
+        None => waiting_bytes(0, film::half_of(None)),
+        Some(slot) => waiting_bytes(1, film::half_of(slot)),
     }
 }
 
-fn put_four(waiting: u8, half: Half, film: &mut [u8])
-    requires { length film.old ≡ 4 }
-    ensures { film.new ≡ waiting ∷ half_bytes half }
+fn waiting_bytes(waiting: u8, half: Half) -> [u8; LENT_FILM]
+    ensures { result ≡ waiting ∷ half_bytes half }
 {
-    film[0] = waiting;
-    film[1] = half.cc_valid;
-    film[2] = half.data_1;
-    film[3] = half.data_2;
+    [waiting, half.cc_valid, half.data_1, half.data_2]
 }
 
 // All places are stored to: the units that are sent, and zeros behind them.
-fn put_sent(sent: Sent, units: &mut [u8]) -> usize
-    requires { length units.old ≡ 14 }
+fn put_sent(sent: Sent, units: &mut [u8; LENT_SENT]) -> usize
     ensures value { result ≡ length (units_sent sent) }
     ensures units_after { units.new ≡ sent_bytes (units_sent sent) }
 {
     match sent {
         Sent::None => {
-            put_two(blank(), blank(), units);
+            put_two(AccessUnit::default(), AccessUnit::default(), units);
             0
         }
         Sent::One(first) => {
-            put_two(first, blank(), units);
+            put_two(first, AccessUnit::default(), units);
             1
         }
         Sent::Two(first, second) => {
@@ -337,36 +207,9 @@ fn put_sent(sent: Sent, units: &mut [u8]) -> usize
     }
 }
 
-fn put_two(a: AccessUnit, b: AccessUnit, units: &mut [u8])
-    requires { length units.old ≡ 14 }
+fn put_two(a: AccessUnit, b: AccessUnit, units: &mut [u8; LENT_SENT])
     ensures { units.new ≡ access_unit_bytes a ++ access_unit_bytes b }
 {
-    units[0] = a.cc_valid_1;
-    units[1] = a.cc_valid_2;
-    units[2] = a.padding;
-    units[3] = a.field1_data1;
-    units[4] = a.field1_data2;
-    units[5] = a.field2_data1;
-    units[6] = a.field2_data2;
-    units[7] = b.cc_valid_1;
-    units[8] = b.cc_valid_2;
-    units[9] = b.padding;
-    units[10] = b.field1_data1;
-    units[11] = b.field1_data2;
-    units[12] = b.field2_data1;
-    units[13] = b.field2_data2;
-}
-
-fn blank() -> AccessUnit
-    ensures { result ≡ Value·blank }
-{
-    AccessUnit {
-        cc_valid_1: 0,
-        cc_valid_2: 0,
-        padding: 0,
-        field1_data1: 0,
-        field1_data2: 0,
-        field2_data1: 0,
-        field2_data2: 0,
-    }
+    units[..LENT_UNIT].copy_from_slice(&line21::lent_bytes(a));
+    units[LENT_UNIT..].copy_from_slice(&line21::lent_bytes(b));
 }

@@ -11,46 +11,39 @@ ghost use Rattle.film.specs.Calls.{Shows};
 ghost use Rattle.film.specs.Inside.{shown_field, one_more, added};
 
 use fields::DisplayField;
-use film::{Answer, Gone, Passing, Sent, Shown, Slot, State};
+use film::{Answer, Passing, Sent, Shown, Slot, State};
 use line21::AccessUnit;
+use refusal::Refusal;
 use scte20::{LENT_RECORDS, Numbers};
 
 // Carries a picture: the value of its caption unit, by numbers and a lent array, and how it is shown.
 pub fn picture(state: State, how: Shown, v: Numbers, records: &[u8; LENT_RECORDS]) -> Answer
     ensures { Shows state how (unit_in v records.now) result }
 {
-    lists::known(records);
-    let refusal = refusal::told(film_value::judge(how, v, records));
-    let sent = Sent::None;
-    if refusal.number != 0 {
+    let verdict = film_value::judge(how, v, records);
+    let refusal = Refusal::from(verdict);
+    if verdict.is_err() {
         return Answer {
             refusal,
-            sent,
+            sent: Sent::None,
             state,
         };
     }
     let one = show(state, DisplayField(1), how, v, records);
-    let first = one.gone;
-    let state = one.state;
-    let two = show(state, DisplayField(2), how, v, records);
-    let second = two.gone;
-    let state = two.state;
-    let sent = add(add(sent, first), second);
+    let two = show(one.state, DisplayField(2), how, v, records);
+    let sent = add(add(Sent::None, one.gone), two.gone);
     if how.repeat_first_field {
-        let three = show(state, DisplayField(3), how, v, records);
-        let third = three.gone;
-        let last = three.state;
-        let all = add(sent, third);
+        let three = show(two.state, DisplayField(3), how, v, records);
         return Answer {
             refusal,
-            sent: all,
-            state: last,
+            sent: add(sent, three.gone),
+            state: three.state,
         };
     }
     Answer {
         refusal,
         sent,
-        state,
+        state: two.state,
     }
 }
 
@@ -75,24 +68,22 @@ fn slot_of(line_offset: u8, field: DisplayField, v: Numbers, records: &[u8; LENT
     requires { v.n ≤ 31 }
     ensures { result ≡ slot_of line_offset field.0 (held (unit_in v records.now)).records }
 {
-    let mut i = 0;
-    while i < v.n {
+    for i in 0..v.n {
         let record = scte20::record_in(records, i);
-        if record.field_number.0 == field.0 && record.line_offset == line_offset {
-            return Slot::Pair(record.cc_data_1, record.cc_data_2);
+        if record.field_number == field && record.line_offset == line_offset {
+            return Some((record.cc_data_1, record.cc_data_2));
         }
-        i += 1;
     }
-    Slot::Invalid
+    None
 }
 
 // What is sent in a call, slot after slot.
-fn add(sent: Sent, gone: Gone) -> Sent
+fn add(sent: Sent, gone: Option<AccessUnit>) -> Sent
     ensures { result ≡ added sent gone }
 {
     match gone {
-        Gone::Nothing => sent,
-        Gone::Unit(unit) => one_more(sent, unit),
+        None => sent,
+        Some(unit) => one_more(sent, unit),
     }
 }
 

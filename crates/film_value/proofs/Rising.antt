@@ -10,13 +10,13 @@ use lib.Dec.{eqb}
 use lib.ListN.{length, take, drop, get_or}
 use Rattle.lists.specs.Each.{Each}
 use Rattle.lists.proofs.Each.{each_take}
-use Rattle.refusal.specs.declared.Verdict.TheVariants.{Accepted}
+use Rattle.refusal.specs.Verdict.{Accepted}
 use Rattle.scte20.specs.declared.Record.{Record}
 use Rattle.scte20.specs.declared.Numbers.{Numbers}
 use Rattle.scte20.specs.Value.{blank, field_of, ByteRecord, LegalRecord, InOrder, count_if, urgent, Typed}
 use Rattle.scte20.specs.Lent.{lent_records, unit_in}
 use Rattle.scte20.proofs.Holding.{Whole, length-held}
-use Rattle.film.specs.declared.Slot.TheVariants.{Invalid}
+use Rattle.film.specs.Slot.{Invalid}
 use Rattle.film.specs.declared.Shown.{Shown}
 use Rattle.film.specs.Display.{fields_shown, slot_of}
 use Rattle.film.specs.Calls.{picture_verdict}

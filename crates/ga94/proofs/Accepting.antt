@@ -1,5 +1,7 @@
 -- Reading a body into a lent array: a legal value's bytes are accepted and no others, what the answer and the array then hold, and what a refusal tells.
 -- Assumes nothing.
+use Rattle.ga94.specs.declared.Numbers.{Numbers}
+use Rattle.std.specs.Prelude.{Ok}
 use Prim.Native.Nat.{ℕ, ◌*◌, ◌≤◌, ◌<◌}
 use mathlib.Core.Path.{◌≡◌, ◌∙◌, ap, ap₂, sym, subst, refl}
 use mathlib.Core.Logic.{◌↔◌}
@@ -8,20 +10,19 @@ use lib.ListN.{length}
 use lib.Seq.{take-append_seam}
 use Rattle.refusal.specs.declared.Reason.{Reason}
 use Rattle.refusal.specs.declared.Item.{Item}
-use Rattle.refusal.specs.declared.Verdict.{Verdict}
-use Rattle.refusal.specs.declared.Verdict.TheVariants.{Accepted, Refused}
+use Rattle.refusal.specs.Verdict.{Verdict}
+use Rattle.refusal.specs.Verdict.{Accepted, Refused}
 use Rattle.refusal.specs.Checks.{first}
-use Rattle.refusal.specs.Answers.{lent_of, AtBit}
-use Rattle.refusal.proofs.Outputs.{refused-lent}
+use Rattle.refusal.specs.Answers.{lent_of, AtBit, Judged, verdict_of}
+use Rattle.refusal.proofs.Outputs.{judged-verdict, refused-lent}
 use Rattle.bits.specs.Bits.{bits_of}
 use Rattle.ga94.specs.declared.Record.{Record}
-use Rattle.ga94.specs.declared.Head.{Head}
 use Rattle.ga94.specs.Value.{Content, with_data, LegalRecord, Legal, CaptionUnit, LegalCaptionUnit, Typed, none, stored, held}
 use Rattle.ga94.specs.Layout.{layout}
 use Rattle.ga94.specs.Reading.{content_verdict, value_of}
 use Rattle.ga94.specs.Order.{reading_checks}
 use Rattle.ga94.specs.Places.{Stands}
-use Rattle.ga94.specs.Lent.{records_bytes, unit_in, numbers_of, head_of, ReadsInto}
+use Rattle.ga94.specs.Lent.{records_bytes, unit_in, numbers_of, numbers_in, head_of, ReadsInto}
 use Rattle.ga94.proofs.Contents.{accepted-content, value-legal, value-layout}
 use Rattle.ga94.proofs.Layouts.{layout-accepted, layout-value}
 use Rattle.ga94.proofs.Lending.{lent-unit}
@@ -60,30 +61,25 @@ lent-held u h = lent-unit u h.places
 
 -- READING
 
-pub the-answer : (c : Content) → Legal c → length (layout c) ≤ 16384 → (lent : List ℕ) (r : Head) (exit : List ℕ) → ReadsInto (layout c) lent r exit
-    → (r ≡ record { verdict = Accepted; numbers = numbers_of (stored c) }) × (exit ≡ records_bytes (stored c).records)
+pub the-answer : (c : Content) → Legal c → length (layout c) ≤ 16384 → (lent : List ℕ) (r : Judged Numbers) (exit : List ℕ) → ReadsInto (layout c) lent r exit
+    → (r ≡ Ok (numbers_of (stored c))) × (exit ≡ records_bytes (stored c).records)
 the-answer c h short lent r exit p = (
   p.answer ∙ ap₂ head_of (layout-accepted c h short) (layout-value c h),
   p.left ∙ ap₂ (λ (v : Verdict) (d : Content). lent_of v (records_bytes (stored d).records) lent) (layout-accepted c h short) (layout-value c h),
 )
 
--- what the verdict makes of an answer
-told-verdict : (verdict : Verdict) (c : Content) → (head_of verdict c).verdict ≡ verdict
-told-verdict Accepted c = refl
-told-verdict (Refused reason item) c = refl
-
-refused-head : (verdict : Verdict) (c : Content) → (verdict ≡ Accepted → ⊥) → (head_of verdict c).numbers ≡ numbers_of (stored none)
+refused-head : (verdict : Verdict) (c : Content) → (verdict ≡ Accepted → ⊥) → numbers_in (head_of verdict c) ≡ numbers_of (stored none)
 refused-head Accepted c g = absurd (g refl)
 refused-head (Refused reason item) c g = refl
 
-module _ (body lent : List ℕ) (r : Head) (exit : List ℕ) (p : ReadsInto body lent r exit) where
-  pub refused-in-order : r.verdict ≡ content_verdict body
-  refused-in-order = ap (λ (h : Head). h.verdict) p.answer ∙ told-verdict (content_verdict body) (value_of body)
+module _ (body lent : List ℕ) (r : Judged Numbers) (exit : List ℕ) (p : ReadsInto body lent r exit) where
+  pub refused-in-order : verdict_of r ≡ content_verdict body
+  refused-in-order = ap verdict_of p.answer ∙ judged-verdict (content_verdict body) (numbers_of (stored (value_of body)))
 
-  pub read_first : r.verdict ≡ first (reading_checks body)
+  pub read_first : verdict_of r ≡ first (reading_checks body)
   read_first = refused-in-order ∙ reading-order body
 
-  pub accepted-exactly : r.verdict ≡ Accepted ↔ ((c : Content) × Legal c × (length body ≤ 16384) × (layout c ≡ body))
+  pub accepted-exactly : verdict_of r ≡ Accepted ↔ ((c : Content) × Legal c × (length body ≤ 16384) × (layout c ≡ body))
   accepted-exactly = (
     λ e.
         let ok : content_verdict body ≡ Accepted = sym refused-in-order ∙ e in
@@ -93,12 +89,12 @@ module _ (body lent : List ℕ) (r : Head) (exit : List ℕ) (p : ReadsInto body
         refused-in-order ∙ ap content_verdict (sym w.3) ∙ layout-accepted w.0 w.1 short,
   )
 
-  pub refused-at : length body ≤ 16384 → (reason : Reason) (item : Item) → r.verdict ≡ Refused reason item → AtBit (8 * length body) (Stands (bits_of body)) reason item
+  pub refused-at : length body ≤ 16384 → (reason : Reason) (item : Item) → verdict_of r ≡ Refused reason item → AtBit (8 * length body) (Stands (bits_of body)) reason item
   refused-at short reason item e = content-placed body p.bytes short reason item (sym refused-in-order ∙ e)
 
-  pub refused-zero : (r.verdict ≡ Accepted → ⊥) → (r.numbers ≡ numbers_of (stored none)) × (exit ≡ lent)
+  pub refused-zero : (verdict_of r ≡ Accepted → ⊥) → (numbers_in r ≡ numbers_of (stored none)) × (exit ≡ lent)
   refused-zero h =
       let refuses : content_verdict body ≡ Accepted → ⊥ = λ e. h (refused-in-order ∙ e) in (
-        ap (λ (a : Head). a.numbers) p.answer ∙ refused-head (content_verdict body) (value_of body) refuses,
+        ap numbers_in p.answer ∙ refused-head (content_verdict body) (value_of body) refuses,
         p.left ∙ refused-lent (content_verdict body) (records_bytes (stored (value_of body)).records) lent refuses,
       )

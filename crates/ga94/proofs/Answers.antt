@@ -1,5 +1,6 @@
 -- The answer of reading, by its verdict, and the checks in the order in which the code comes to them.
 -- Assumes nothing.
+use Rattle.std.specs.Prelude.{Ok, Err}
 use Prim.Native.Nat.{ℕ, zero, suc, ◌+◌, ◌-◌, ◌*◌, ◌≤◌, ◌<◌}
 use native.Mathlib.Omega.{arith}
 use mathlib.Core.Path.{◌≡◌, ◌∙◌, ap, sym}
@@ -8,38 +9,33 @@ use lib.ListN.{get_or}
 use Rattle.lists.specs.Bytes.{Bytes}
 use Rattle.refusal.specs.declared.Reason.{Reason}
 use Rattle.refusal.specs.declared.Item.{Item}
-use Rattle.refusal.specs.declared.Verdict.{Verdict}
-use Rattle.refusal.specs.declared.Verdict.TheVariants.{Accepted, Refused}
+use Rattle.refusal.specs.Verdict.{Verdict}
+use Rattle.refusal.specs.Verdict.{Accepted}
 use Rattle.refusal.specs.Checks.{and_then, first}
 use Rattle.refusal.specs.Answers.{lent_of}
 use Rattle.refusal.proofs.Checks.{and_then-last}
-use Rattle.ga94.specs.Value.{none, stored, blank}
+use Rattle.ga94.specs.Value.{stored, blank}
 use Rattle.ga94.specs.Reading.{missing, construct_at, marker_verdict, count_in, head_verdict, constructs_verdict, records_at, closing_verdict, content_verdict, value_of}
 use Rattle.ga94.specs.Lent.{records_bytes, numbers_of, head_of, ReadsInto}
 
 -- reading into a lent array, by the verdict: a refusal leaves the array as it was
-module _ (body lent : List ℕ) (bytes : Bytes body) (verdict : Verdict) (same : verdict ≡ content_verdict body) where
-  pub refused-into : (reason : Reason) (item : Item) → verdict ≡ Refused reason item
-      → ReadsInto body lent record { verdict = verdict; numbers = numbers_of (stored none) } lent
-  refused-into reason item told =
+module _ (body lent : List ℕ) (bytes : Bytes body) where
+  pub refused-into : (why : Reason × Item) → content_verdict body ≡ Err why → ReadsInto body lent (Err why) lent
+  refused-into (reason, item) told =
       record {
         bytes = bytes;
-        answer =
-            ap (λ (v : Verdict). record { verdict = v; numbers = numbers_of (stored none) }) told
-            ∙ ap (λ (v : Verdict). head_of v (value_of body)) (sym told ∙ same);
-        left = ap (λ (v : Verdict). lent_of v (records_bytes (stored (value_of body)).records) lent) (sym told ∙ same);
+        answer = ap (λ (v : Verdict). head_of v (value_of body)) (sym told);
+        left = ap (λ (v : Verdict). lent_of v (records_bytes (stored (value_of body)).records) lent) (sym told);
       }
 
   -- and else all of it is the value's records
-  pub accepted-into : (found : List ℕ) → verdict ≡ Accepted → found ≡ records_bytes (stored (value_of body)).records
-      → ReadsInto body lent record { verdict = verdict; numbers = numbers_of (stored (value_of body)) } found
+  pub accepted-into : (found : List ℕ) → content_verdict body ≡ Accepted → found ≡ records_bytes (stored (value_of body)).records
+      → ReadsInto body lent (Ok (numbers_of (stored (value_of body)))) found
   accepted-into found told laid =
       record {
         bytes = bytes;
-        answer =
-            ap (λ (v : Verdict). record { verdict = v; numbers = numbers_of (stored (value_of body)) }) told
-            ∙ ap (λ (v : Verdict). head_of v (value_of body)) (sym told ∙ same);
-        left = laid ∙ ap (λ (v : Verdict). lent_of v (records_bytes (stored (value_of body)).records) lent) (sym told ∙ same);
+        answer = ap (λ (v : Verdict). head_of v (value_of body)) (sym told);
+        left = laid ∙ ap (λ (v : Verdict). lent_of v (records_bytes (stored (value_of body)).records) lent) (sym told);
       }
 
 -- the three parts of a body's checks

@@ -14,7 +14,7 @@ use Rattle.lists.specs.Bytes.{Bytes}
 use Rattle.lists.specs.Each.{Each}
 use Rattle.lists.specs.Flat.{flat}
 use Rattle.lists.proofs.Each.{each_at}
-use Rattle.refusal.specs.declared.Verdict.TheVariants.{Accepted, Refused}
+use Rattle.refusal.specs.Verdict.{Accepted, Refused}
 use Rattle.refusal.specs.declared.Reason.TheVariants.{Ends, Unfixed}
 use Rattle.refusal.specs.declared.Fixed.TheVariants.{Marker}
 use Rattle.refusal.specs.declared.Item.TheVariants.{Bit}

@@ -13,7 +13,7 @@ use Rattle.lists.specs.Bytes.{Bytes}
 use Rattle.lists.specs.Flat.{flat}
 use Rattle.lists.proofs.Below.{below}
 use Rattle.lists.proofs.Each.{each_at, each-drop}
-use Rattle.refusal.specs.declared.Verdict.TheVariants.{Accepted}
+use Rattle.refusal.specs.Verdict.{Accepted}
 use Rattle.refusal.specs.declared.Reason.TheVariants.{TooLong, Unfixed, AdditionalData}
 use Rattle.refusal.specs.declared.Fixed.TheVariants.{Marker, Stuffing, Identifier}
 use Rattle.refusal.specs.declared.Item.TheVariants.{Whole, Bit}

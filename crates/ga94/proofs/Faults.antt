@@ -1,15 +1,16 @@
 -- What stands at a place is a fault: the layout of a legal value has none, so that reading refuses.
 -- Assumes nothing.
+use Rattle.ga94.specs.declared.Numbers.{Numbers}
+use Rattle.refusal.specs.Answers.{Judged, verdict_of}
 use Prim.Native.Nat.{ℕ, ◌+◌, ◌*◌, ◌≤◌}
 use native.Mathlib.Omega.{arith}
 use mathlib.Core.Path.{◌≡◌, ◌∙◌, sym, subst}
 use mathlib.Core.List.{List}
 use lib.ListN.{length}
 use Rattle.lists.specs.Bytes.{Bytes}
-use Rattle.refusal.specs.declared.Verdict.TheVariants.{Accepted}
+use Rattle.refusal.specs.Verdict.{Accepted}
 use Rattle.bits.specs.Bits.{bits_of}
 use Rattle.bits.proofs.Stream.{length-bits_of}
-use Rattle.ga94.specs.declared.Head.{Head}
 use Rattle.ga94.specs.Value.{Content, Legal}
 use Rattle.ga94.specs.Layout.{layout}
 use Rattle.ga94.specs.Reading.{content_verdict, value_of}
@@ -75,6 +76,6 @@ pub content-stands : (body : List ℕ) → Bytes body → (number bit : ℕ) →
 content-stands body bytes number bit stands e =
     nothing-stands (value_of body) (value-legal body bytes e) number bit (subst (λ (s : List ℕ). Stands (bits_of s) number bit) (sym (value-layout body bytes e)) stands)
 
-pub stands-refused : (body lent : List ℕ) (r : Head) (exit : List ℕ) → ReadsInto body lent r exit → (number bit : ℕ) → Stands (bits_of body) number bit
-    → r.verdict ≡ Accepted → ⊥
+pub stands-refused : (body lent : List ℕ) (r : Judged Numbers) (exit : List ℕ) → ReadsInto body lent r exit → (number bit : ℕ) → Stands (bits_of body) number bit
+    → verdict_of r ≡ Accepted → ⊥
 stands-refused body lent r exit p number bit stands e = content-stands body p.bytes number bit stands (sym (refused-in-order body lent r exit p) ∙ e)

@@ -7,7 +7,7 @@ use mathlib.Core.List.{[], ◌∷◌}
 use lib.ListN.{length}
 use lib.Seq.{length-take-le}
 use borrow.Author.Tests.{eq-eqb, le-ltb}
-use Rattle.refusal.specs.declared.Verdict.TheVariants.{Accepted}
+use Rattle.refusal.specs.Verdict.{Accepted}
 use Rattle.refusal.specs.declared.Reason.TheVariants.{AdditionalData}
 use Rattle.refusal.specs.declared.Item.TheVariants as item
 use Rattle.refusal.specs.Checks.{first}

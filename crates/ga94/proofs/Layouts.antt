@@ -11,7 +11,7 @@ use lib.Dec.{eqb}
 use lib.ListN.{length, get_or, drop, replicate, length-drop}
 use lib.Seq.{drop-drop, get_or-drop}
 use Rattle.lists.specs.Flat.{flat}
-use Rattle.refusal.specs.declared.Verdict.TheVariants.{Accepted}
+use Rattle.refusal.specs.Verdict.{Accepted}
 use Rattle.refusal.specs.declared.Reason.TheVariants.{Unfixed}
 use Rattle.refusal.specs.declared.Fixed.TheVariants.{Marker, Stuffing}
 use Rattle.refusal.specs.declared.Item.TheVariants.{Bit}

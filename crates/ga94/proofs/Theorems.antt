@@ -10,6 +10,8 @@
 -- answers r, and in a lent array that held `lent` it leaves `exit`. `Writes u before after out r exit` is that of
 -- `write_from` (crate ga94_writer): writing the body of u, with so many bytes before and after it, to an output that
 -- held `out` answers r and leaves `exit`. So each theorem speaks of every call. Assumes nothing.
+use Rattle.ga94.specs.declared.Numbers.{Numbers}
+use Rattle.std.specs.Prelude.{Ok}
 use Prim.Native.Nat.{ℕ, ◌+◌, ◌*◌, ◌≤◌, ◌<◌}
 use mathlib.Core.Path.{◌≡◌}
 use mathlib.Core.Logic.{◌↔◌}
@@ -18,14 +20,12 @@ use lib.ListN.{length, get_or}
 use Rattle.lists.specs.Room.{over_at}
 use Rattle.refusal.specs.declared.Reason.{Reason}
 use Rattle.refusal.specs.declared.Item.{Item}
-use Rattle.refusal.specs.declared.Verdict.TheVariants.{Accepted, Refused}
-use Rattle.refusal.specs.declared.Laid.{Laid}
+use Rattle.refusal.specs.Verdict.{Accepted, Refused}
 use Rattle.refusal.specs.Numbers.{refusal_of}
 use Rattle.refusal.specs.Checks.{first}
-use Rattle.refusal.specs.Answers.{refused, AtBit}
+use Rattle.refusal.specs.Answers.{refused, AtBit, Judged, verdict_of, len_of}
 use Rattle.bits.specs.Bits.{bits_of, longest}
 use Rattle.ga94.specs.declared.Record.{Record}
-use Rattle.ga94.specs.declared.Head.{Head}
 use Rattle.ga94.specs.Value.{Content, with_data, LegalRecord, CaptionUnit}
 use Rattle.ga94.specs.Value.{Legal, LegalCaptionUnit, Typed, blank, none, stored, held}
 use Rattle.ga94.specs.Layout.{content_bytes, layout, size_of, item_bits}
@@ -33,7 +33,7 @@ use Rattle.ga94.specs.Reading.{content_verdict}
 use Rattle.ga94.specs.Writing.{whole_verdict, write_verdict, body_verdict, Writes}
 use Rattle.ga94.specs.Order.{reading_checks, writing_checks}
 use Rattle.ga94.specs.Places.{Element, Has, element_in, Stands, value_in}
-use Rattle.ga94.specs.Lent.{records_bytes, lent_records, stored_at, unit_in, numbers_of, ReadsInto}
+use Rattle.ga94.specs.Lent.{records_bytes, lent_records, stored_at, unit_in, numbers_of, numbers_in, ReadsInto}
 use Rattle.ga94.proofs.Accepting as accepting
 use Rattle.ga94.proofs.Faults as faults
 use Rattle.ga94.proofs.Writing as writing
@@ -48,13 +48,13 @@ use Rattle.ga94.proofs.Determined as determined
 
 -- The answer to a legal value's bytes is that value, its records in the lent array.
 pub the-answer : (c : Content) → Legal c → length (layout c) ≤ 16384
-    → (lent : List ℕ) (r : Head) (exit : List ℕ) → ReadsInto (layout c) lent r exit
-    → (r ≡ record { verdict = Accepted; numbers = numbers_of (stored c) }) × (exit ≡ records_bytes (stored c).records)
+    → (lent : List ℕ) (r : Judged Numbers) (exit : List ℕ) → ReadsInto (layout c) lent r exit
+    → (r ≡ Ok (numbers_of (stored c))) × (exit ≡ records_bytes (stored c).records)
 the-answer = accepting.the-answer
 
 -- Bytes, within the limit of an area, are accepted exactly when some legal value has them as its layout.
-pub accepted-exactly : (body lent : List ℕ) (r : Head) (exit : List ℕ) → ReadsInto body lent r exit
-    → r.verdict ≡ Accepted ↔ ((c : Content) × Legal c × (length body ≤ 16384) × (layout c ≡ body))
+pub accepted-exactly : (body lent : List ℕ) (r : Judged Numbers) (exit : List ℕ) → ReadsInto body lent r exit
+    → verdict_of r ≡ Accepted ↔ ((c : Content) × Legal c × (length body ≤ 16384) × (layout c ≡ body))
 accepted-exactly = accepting.accepted-exactly
 
 -- That value is the only one,
@@ -78,8 +78,8 @@ pub any-data : (r : Record) (a b : ℕ) → a < 256 → b < 256 → LegalRecord 
 any-data = accepting.any-data
 
 -- A refusal tells the verdict of all checks.
-pub refused-in-order : (body lent : List ℕ) (r : Head) (exit : List ℕ) → ReadsInto body lent r exit
-    → r.verdict ≡ content_verdict body
+pub refused-in-order : (body lent : List ℕ) (r : Judged Numbers) (exit : List ℕ) → ReadsInto body lent r exit
+    → verdict_of r ≡ content_verdict body
 refused-in-order = accepting.refused-in-order
 
 -- These stand in the order of RULES, one line of `reading_checks` (specs/Order) each. The first that finds a fault
@@ -88,13 +88,13 @@ pub reading-order : (body : List ℕ) → content_verdict body ≡ first (readin
 reading-order = sequence.reading-order
 
 -- and is what is answered.
-pub read_first : (body lent : List ℕ) (r : Head) (exit : List ℕ) → ReadsInto body lent r exit
-    → r.verdict ≡ first (reading_checks body)
+pub read_first : (body lent : List ℕ) (r : Judged Numbers) (exit : List ℕ) → ReadsInto body lent r exit
+    → verdict_of r ≡ first (reading_checks body)
 read_first = accepting.read_first
 
 -- It comes without records: the numbers are zero, and the lent array is as it was.
-pub refused-zero : (body lent : List ℕ) (r : Head) (exit : List ℕ) → ReadsInto body lent r exit
-    → (r.verdict ≡ Accepted → ⊥) → (r.numbers ≡ numbers_of (stored none)) × (exit ≡ lent)
+pub refused-zero : (body lent : List ℕ) (r : Judged Numbers) (exit : List ℕ) → ReadsInto body lent r exit
+    → (verdict_of r ≡ Accepted → ⊥) → (numbers_in r ≡ numbers_of (stored none)) × (exit ≡ lent)
 refused-zero = accepting.refused-zero
 
 -- WHAT STANDS AT THE PLACE
@@ -102,14 +102,14 @@ refused-zero = accepting.refused-zero
 -- A refusal of a body within the limit of an area is at a bit of it or at its end, and there stands what `Stands`
 -- (specs/Places) says of its number: 5, 16, 18 or 19, and 6 for a body that does not begin with the identifier and 03,
 -- which is none of an area's GA94 units.
-pub refused-at : (body lent : List ℕ) (r : Head) (exit : List ℕ) → ReadsInto body lent r exit → length body ≤ 16384
-    → (reason : Reason) (item : Item) → r.verdict ≡ Refused reason item
+pub refused-at : (body lent : List ℕ) (r : Judged Numbers) (exit : List ℕ) → ReadsInto body lent r exit → length body ≤ 16384
+    → (reason : Reason) (item : Item) → verdict_of r ≡ Refused reason item
     → AtBit (8 * length body) (Stands (bits_of body)) reason item
 refused-at = accepting.refused-at
 
 -- Each case is a fault: where one stands, at any bit, the body is refused.
-pub stands-refused : (body lent : List ℕ) (r : Head) (exit : List ℕ) → ReadsInto body lent r exit
-    → (number bit : ℕ) → Stands (bits_of body) number bit → r.verdict ≡ Accepted → ⊥
+pub stands-refused : (body lent : List ℕ) (r : Judged Numbers) (exit : List ℕ) → ReadsInto body lent r exit
+    → (number bit : ℕ) → Stands (bits_of body) number bit → verdict_of r ≡ Accepted → ⊥
 stands-refused = faults.stands-refused
 
 -- WHAT THE LAYOUT HAS THERE
@@ -149,23 +149,23 @@ table-3 = table.table-3
 
 -- Writing succeeds exactly when the value is legal and the result, with what stands before and after the body, fits
 -- limit and buffer.
-pub writes-exactly : (u : CaptionUnit) (before after : ℕ) (out : List ℕ) (r : Laid) (exit : List ℕ)
+pub writes-exactly : (u : CaptionUnit) (before after : ℕ) (out : List ℕ) (r : Judged ℕ) (exit : List ℕ)
     → Writes u before after out r exit
-    → r.verdict ≡ Accepted
+    → verdict_of r ≡ Accepted
     ↔ (LegalCaptionUnit u
     × (before + length (layout (held u)) + after ≤ 16384)
     × (before + length (layout (held u)) + after ≤ length out))
 writes-exactly = writing.writes-exactly
 
 -- Then exactly the layout stands in the buffer behind the bytes before it, and nothing else changed.
-pub written-there : (u : CaptionUnit) (before after : ℕ) (out : List ℕ) (r : Laid) (exit : List ℕ)
-    → Writes u before after out r exit → r.verdict ≡ Accepted
-    → (r ≡ record { verdict = Accepted; len = length (layout (held u)) }) × (exit ≡ over_at before (layout (held u)) out)
+pub written-there : (u : CaptionUnit) (before after : ℕ) (out : List ℕ) (r : Judged ℕ) (exit : List ℕ)
+    → Writes u before after out r exit → verdict_of r ≡ Accepted
+    → (r ≡ Ok (length (layout (held u)))) × (exit ≡ over_at before (layout (held u)) out)
 written-there = writing.written-there
 
 -- A refusal tells the verdict of all checks.
-pub write-in-order : (u : CaptionUnit) (before after : ℕ) (out : List ℕ) (r : Laid) (exit : List ℕ)
-    → Writes u before after out r exit → r.verdict ≡ body_verdict u before after (length out)
+pub write-in-order : (u : CaptionUnit) (before after : ℕ) (out : List ℕ) (r : Judged ℕ) (exit : List ℕ)
+    → Writes u before after out r exit → verdict_of r ≡ body_verdict u before after (length out)
 write-in-order = writing.write-in-order
 
 -- These stand in the order of RULES, one line of `writing_checks` (specs/Order) each. The first that finds a fault
@@ -174,20 +174,20 @@ pub writing-order : (u : CaptionUnit) (size room : ℕ) → write_verdict u size
 writing-order = sequence.writing-order
 
 -- and is what is answered.
-pub write-first : (u : CaptionUnit) (before after : ℕ) (out : List ℕ) (r : Laid) (exit : List ℕ)
+pub write-first : (u : CaptionUnit) (before after : ℕ) (out : List ℕ) (r : Judged ℕ) (exit : List ℕ)
     → Writes u before after out r exit
-    → r.verdict ≡ first (writing_checks u (before + length (layout (held u)) + after) (length out))
+    → verdict_of r ≡ first (writing_checks u (before + length (layout (held u)) + after) (length out))
 write-first = writing.write-first
 
 -- A value with the third flag set, whose numbers are within their ranges, is refused with 16.
-pub write-16 : (u : CaptionUnit) (before after : ℕ) (out : List ℕ) (r : Laid) (exit : List ℕ)
+pub write-16 : (u : CaptionUnit) (before after : ℕ) (out : List ℕ) (r : Judged ℕ) (exit : List ℕ)
     → Writes u before after out r exit → whole_verdict u ≡ Accepted → (u.additional_data_flag ≡ 0 → ⊥)
-    → refusal_of r.verdict ≡ refused 16 0
+    → refusal_of (verdict_of r) ≡ refused 16 0
 write-16 = writing.write-16
 
 -- A refused call counted nothing and changed nothing.
-pub refused-untouched : (u : CaptionUnit) (before after : ℕ) (out : List ℕ) (r : Laid) (exit : List ℕ)
-    → Writes u before after out r exit → (r.verdict ≡ Accepted → ⊥) → (r.len ≡ 0) × (exit ≡ out)
+pub refused-untouched : (u : CaptionUnit) (before after : ℕ) (out : List ℕ) (r : Judged ℕ) (exit : List ℕ)
+    → Writes u before after out r exit → (verdict_of r ≡ Accepted → ⊥) → (len_of r ≡ 0) × (exit ≡ out)
 refused-untouched = writing.refused-untouched
 
 -- THE ZERO RUN
@@ -204,12 +204,12 @@ zero-run-reached = zeros.zero-run-reached
 
 -- For each function, two answers that keep its promise are equal, lent memory too: those of ga94_reader and
 -- ga94_writer,
-pub read-into-determined : (body lent : List ℕ) (a : Head) (exit : List ℕ) (b : Head) (end : List ℕ)
+pub read-into-determined : (body lent : List ℕ) (a : Judged Numbers) (exit : List ℕ) (b : Judged Numbers) (end : List ℕ)
     → ReadsInto body lent a exit → ReadsInto body lent b end → (a ≡ b) × (exit ≡ end)
 read-into-determined = determined.read-into-determined
 
-pub write-determined : (u : CaptionUnit) (before after : ℕ) (out : List ℕ) (a : Laid) (exit : List ℕ)
-    → (b : Laid) (end : List ℕ)
+pub write-determined : (u : CaptionUnit) (before after : ℕ) (out : List ℕ) (a : Judged ℕ) (exit : List ℕ)
+    → (b : Judged ℕ) (end : List ℕ)
     → Writes u before after out a exit → Writes u before after out b end → (a ≡ b) × (exit ≡ end)
 write-determined = determined.write-determined
 

@@ -12,8 +12,8 @@ use lib.ListN.{length}
 use Rattle.lists.specs.Each.{Each}
 use Rattle.lists.proofs.Each.{each_take, each_both}
 use Rattle.refusal.specs.declared.Refusal.{Refusal}
-use Rattle.refusal.specs.declared.Verdict.{Verdict}
-use Rattle.refusal.specs.declared.Verdict.TheVariants.{Accepted, Refused}
+use Rattle.refusal.specs.Verdict.{Verdict}
+use Rattle.refusal.specs.Verdict.{Accepted, Refused}
 use Rattle.refusal.specs.declared.Reason.TheVariants.{TooLong, NoRoom, Unholdable, AdditionalData}
 use Rattle.refusal.specs.declared.Excess.TheVariants.{Count, Flag, EmData, Stuffing, CcValid, CcType}
 use Rattle.refusal.specs.declared.Item.TheVariants.{Whole, Bit}

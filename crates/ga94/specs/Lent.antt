@@ -1,15 +1,13 @@
 -- A unit's records as bytes in a lent array, four bytes each, in the order of the struct: what the C interface lends
 -- and is lent.
-use Rattle.std.specs.Prelude.{ℕ, ◌*◌, ◌≡◌, Bool, true, false, List, [], ◌∷◌, ltb, get_or}
+use Rattle.std.specs.Prelude.{ℕ, ◌*◌, ◌≡◌, Bool, true, false, List, [], ◌∷◌, ltb, get_or, Ok, Err}
 use Rattle.std.proofs.lemmas.List.Edits.{sets}
 use Rattle.lists.specs.Bytes.{Bytes}
 use Rattle.lists.specs.Flat.{flat, taken}
-use Rattle.refusal.specs.declared.Verdict.{Verdict}
-use Rattle.refusal.specs.declared.Verdict.TheVariants.{Accepted, Refused}
-use Rattle.refusal.specs.Answers.{lent_of}
+use Rattle.refusal.specs.Verdict.{Verdict}
+use Rattle.refusal.specs.Answers.{lent_of, Judged, judged_as}
 use Rattle.ga94.specs.declared.Record.{Record}
 use Rattle.ga94.specs.declared.Numbers.{Numbers}
-use Rattle.ga94.specs.declared.Head.{Head}
 use Rattle.ga94.specs.Value.{Content, CaptionUnit, none, stored}
 use Rattle.ga94.specs.Reading.{content_verdict, value_of}
 
@@ -64,15 +62,19 @@ numbers_of u =
       z = u.z;
     }
 
--- what reading answers beside the records: in a refusal all numbers are zero
-abbrev pub head_of : Verdict → Content → Head
-head_of Accepted c = record { verdict = Accepted; numbers = numbers_of (stored c) }
-head_of (Refused reason item) c = record { verdict = Refused reason item; numbers = numbers_of (stored none) }
+-- what reading answers beside the records: the value's numbers, or the refusal
+abbrev pub head_of : Verdict → Content → Judged Numbers
+head_of verdict c = judged_as verdict (numbers_of (stored c))
 
--- the promise of `read_into`: verdict and numbers, and in the lent array all the value's records, zeros beyond n; a
+-- the numbers that such an answer tells: in a refusal all are zero
+abbrev pub numbers_in : Judged Numbers → Numbers
+numbers_in (Ok v) = v
+numbers_in (Err why) = numbers_of (stored none)
+
+-- the promise of `read_into`: numbers or a refusal, and in the lent array all the value's records, zeros beyond n; a
 -- refusal leaves the array as it was. By its type the input is a list of bytes; the code shows that too, so that the
 -- theorems assume nothing
-pub record ReadsInto (body lent : List ℕ) (r : Head) (exit : List ℕ) : Type 0 where
+pub record ReadsInto (body lent : List ℕ) (r : Judged Numbers) (exit : List ℕ) : Type 0 where
   pub bytes : Bytes body
   pub answer : r ≡ head_of (content_verdict body) (value_of body)
   pub left : exit ≡ lent_of (content_verdict body) (records_bytes (stored (value_of body)).records) lent

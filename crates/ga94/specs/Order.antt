@@ -1,7 +1,7 @@
 -- RULES, "Order of checks", for GA94 content: all checks of reading and of writing, each of the input alone, in the
 -- order of RULES.
 use Rattle.std.specs.Prelude.{ℕ, zero, suc, ◌+◌, ◌*◌, ◌/◌, not, List, [], ◌∷◌, ◌++◌, eqb, ltb, length, get_or, drop}
-use Rattle.refusal.specs.declared.Verdict.{Verdict}
+use Rattle.refusal.specs.Verdict.{Verdict}
 use Rattle.refusal.specs.declared.Reason.TheVariants.{TooLong, Ends, Unfixed, NoRoom, Unholdable, AdditionalData}
 use Rattle.refusal.specs.declared.Fixed.TheVariants.{Marker, Stuffing, Identifier}
 use Rattle.refusal.specs.declared.Excess.TheVariants as excess

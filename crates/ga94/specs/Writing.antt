@@ -2,14 +2,13 @@
 -- "Order of checks": the whole value, the third flag, record after record, the length of the result, the room.
 use Rattle.std.specs.Prelude.{ℕ, ◌+◌, ◌≡◌, not, ◌⊎◌, List, [], ◌∷◌, eqb, ltb, length}
 use Rattle.refusal.specs.declared.Refusal.{Refusal}
-use Rattle.refusal.specs.declared.Laid.{Laid}
-use Rattle.refusal.specs.declared.Verdict.{Verdict}
-use Rattle.refusal.specs.declared.Verdict.TheVariants.{Accepted}
+use Rattle.refusal.specs.Verdict.{Verdict}
+use Rattle.refusal.specs.Verdict.{Accepted}
 use Rattle.refusal.specs.declared.Reason.TheVariants.{Unholdable, AdditionalData}
 use Rattle.refusal.specs.declared.Excess.TheVariants.{Count, Flag, EmData, Stuffing, CcValid, CcType}
 use Rattle.refusal.specs.declared.Item.TheVariants.{Whole, Bit}
 use Rattle.refusal.specs.Checks.{refuse_if, and_then, first, fit_verdict}
-use Rattle.refusal.specs.Answers.{refused, laid_of, body_left}
+use Rattle.refusal.specs.Answers.{refused, Judged, laid_of, body_left}
 use Rattle.ga94.specs.declared.Record.{Record}
 use Rattle.ga94.specs.Value.{CaptionUnit, held, Typed}
 use Rattle.ga94.specs.Layout.{layout}
@@ -61,7 +60,7 @@ body_verdict u before after room = write_verdict u (before + length (layout (hel
 
 -- the promise of `write_from`, of the value that it is told by numbers and a lent array (`unit_in`). By its type the
 -- data bytes are bytes and there are 31 places; the code shows that too
-pub record Writes (u : CaptionUnit) (before after : ℕ) (out : List ℕ) (answer : Laid) (exit : List ℕ) : Type 0 where
+pub record Writes (u : CaptionUnit) (before after : ℕ) (out : List ℕ) (answer : Judged ℕ) (exit : List ℕ) : Type 0 where
   pub typed : Typed u
   pub counted : answer ≡ laid_of (body_verdict u before after (length out)) (layout (held u))
   pub left : exit ≡ body_left (body_verdict u before after (length out)) before (layout (held u)) out

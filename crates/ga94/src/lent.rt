@@ -1,5 +1,5 @@
 // Records as bytes in a lent array.
-ghost use Rattle.std.specs.Prelude.{◌≡◌, get_or};
+ghost use Rattle.std.specs.Prelude.{◌≡◌, ◌+◌, ◌*◌, ◌≤◌, length, get_or};
 ghost use Rattle.ga94.specs.Value.{blank as Value·blank};
 ghost use Rattle.ga94.specs.Lent.{lent_records, stored_at};
 

@@ -6,7 +6,6 @@
 mod lent;
 
 pub use lent::{put_record, record_in};
-use refusal::Verdict;
 
 pub const MAX_RECORDS: usize = 31;
 
@@ -42,11 +41,4 @@ pub struct Numbers {
     pub em_data: u32,
     pub n: usize,
     pub z: usize,
-}
-
-// What `ga94_reader::read_into` answers: the verdict, and the numbers, all zero where it refuses.
-#[derive(Clone, Copy)]
-pub struct Head {
-    pub verdict: Verdict,
-    pub numbers: Numbers,
 }

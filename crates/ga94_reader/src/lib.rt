@@ -6,13 +6,13 @@
 ghost use Rattle.std.specs.Prelude.{◌≡◌, true, [], ◌∷◌, ◌+◌, ◌*◌, ◌/◌, ◌%◌, ◌≤◌, ◌<◌, length, get_or};
 ghost use Rattle.std.proofs.lemmas.List.Edits.{sets};
 ghost use Rattle.lists.specs.Room.{filled};
-ghost use Rattle.refusal.specs.declared.Verdict.TheVariants.{Accepted};
-ghost use Rattle.ga94.specs.Value.{blank, none, stored};
+ghost use Rattle.refusal.specs.Verdict.{Accepted};
+ghost use Rattle.ga94.specs.Value.{blank};
 ghost use Rattle.ga94.specs.Reading.{identifier_in, head_verdict, constructs_verdict, closing_verdict, content_verdict, records_at};
-ghost use Rattle.ga94.specs.Lent.{records_bytes, numbers_of, ReadsInto};
+ghost use Rattle.ga94.specs.Lent.{records_bytes, ReadsInto};
 
-use ga94::{CONSTRUCT_BYTES, CONSTRUCTS, Head, LENT_RECORD, LENT_RECORDS, MAX_BYTES, Numbers};
-use refusal::{Fixed, Item, Reason, Verdict};
+use ga94::{CONSTRUCT_BYTES, CONSTRUCTS, LENT_RECORD, LENT_RECORDS, MAX_BYTES, Numbers};
+use refusal::{Fixed, Item, Judged, Reason, Verdict};
 
 // Where the flags and cc_count stand, and em_data.
 const FLAGS: usize = 5;
@@ -20,31 +20,22 @@ const FLAGS: usize = 5;
 const EM_DATA: usize = 6;
 
 // Reads the body of a GA94 unit, its records into a lent array, which a refusal leaves as it is.
-pub fn read_into(body: &[u8], records: &mut [u8; LENT_RECORDS]) -> Head
+pub fn read_into(body: &[u8], records: &mut [u8; LENT_RECORDS]) -> Judged<Numbers>
     ensures { ReadsInto body.now records.old result records.new }
 {
-    let mut verdict = Verdict::Accepted;
-    if !is_clean(body) {
-        verdict = first_wrong(body);
-    }
-    if let Verdict::Refused(_, _) = verdict {
-        return refused(verdict);
-    }
+    judge(body)?;
     let flags = body[FLAGS];
     let em_data = body[EM_DATA];
     let n = (flags % 32) as usize;
     store(body, n, records);
-    Head {
-        verdict,
-        numbers: Numbers {
-            process_em_data_flag: (flags / 128) as u32,
-            process_cc_data_flag: (flags / 64 % 2) as u32,
-            additional_data_flag: 0,
-            em_data: em_data as u32,
-            n,
-            z: body.len() - (CONSTRUCTS + CONSTRUCT_BYTES * n + 1),
-        },
-    }
+    Ok(Numbers {
+        process_em_data_flag: (flags / 128) as u32,
+        process_cc_data_flag: (flags / 64 % 2) as u32,
+        additional_data_flag: 0,
+        em_data: em_data as u32,
+        n,
+        z: body.len() - (CONSTRUCTS + CONSTRUCT_BYTES * n + 1),
+    })
 }
 
 // All checks of a body, for one who does not ask for its records.
@@ -52,7 +43,7 @@ pub fn judge(body: &[u8]) -> Verdict
     ensures { result ≡ content_verdict body.now }
 {
     if is_clean(body) {
-        return Verdict::Accepted;
+        return Ok(());
     }
     first_wrong(body)
 }
@@ -101,12 +92,10 @@ fn are_marked(body: &[u8], n: usize) -> bool
     ensures { result ≡ true → constructs_verdict n 7 body.now ≡ Accepted }
 {
     let mut clean = true;
-    let mut i = 0;
-    while i < n {
+    for i in 0..n {
         if body[CONSTRUCTS + CONSTRUCT_BYTES * i] / 8 != 31 {
             clean = false;
         }
-        i += 1;
     }
     clean
 }
@@ -131,15 +120,9 @@ fn is_closed(body: &[u8], at: usize) -> bool
 fn first_wrong(body: &[u8]) -> Verdict
     ensures { result ≡ content_verdict body.now }
 {
-    let head = judge_head(body);
-    if let Verdict::Refused(_, _) = head {
-        return head;
-    }
+    judge_head(body)?;
     let n = (body[FLAGS] % 32) as usize;
-    let constructs = judge_constructs(body, n);
-    if let Verdict::Refused(_, _) = constructs {
-        return constructs;
-    }
+    judge_constructs(body, n)?;
     judge_closing(body, CONSTRUCTS + CONSTRUCT_BYTES * n)
 }
 
@@ -148,30 +131,30 @@ fn judge_head(body: &[u8]) -> Verdict
     ensures { result ≡ head_verdict body.now }
 {
     if MAX_BYTES < body.len() {
-        return Verdict::Refused(Reason::TooLong, Item::Whole);
+        return Err((Reason::TooLong, Item::Whole));
     }
     if body.len() < 4 {
-        return Verdict::Refused(Reason::Ends, Item::Bit(0));
+        return Err((Reason::Ends, Item::Bit(0)));
     }
     if !has_identifier(body) {
-        return Verdict::Refused(Reason::Unfixed(Fixed::Identifier), Item::Bit(0));
+        return Err((Reason::Unfixed(Fixed::Identifier), Item::Bit(0)));
     }
     if body.len() < 5 {
-        return Verdict::Refused(Reason::Ends, Item::Bit(32));
+        return Err((Reason::Ends, Item::Bit(32)));
     }
     if body[4] != 3 {
-        return Verdict::Refused(Reason::Unfixed(Fixed::Identifier), Item::Bit(32));
+        return Err((Reason::Unfixed(Fixed::Identifier), Item::Bit(32)));
     }
     if body.len() < 6 {
-        return Verdict::Refused(Reason::Ends, Item::Bit(40));
+        return Err((Reason::Ends, Item::Bit(40)));
     }
     if body[FLAGS] / 32 % 2 != 0 {
-        return Verdict::Refused(Reason::AdditionalData, Item::Bit(42));
+        return Err((Reason::AdditionalData, Item::Bit(42)));
     }
     if body.len() < 7 {
-        return Verdict::Refused(Reason::Ends, Item::Bit(48));
+        return Err((Reason::Ends, Item::Bit(48)));
     }
-    Verdict::Accepted
+    Ok(())
 }
 
 // Whether ATSC_identifier stands at the front.
@@ -196,18 +179,16 @@ fn judge_constructs(body: &[u8], n: usize) -> Verdict
     requires { n ≤ 31 }
     ensures { result ≡ constructs_verdict n 7 body.now }
 {
-    let mut i = 0;
-    while i < n {
+    for i in 0..n {
         let at = CONSTRUCTS + CONSTRUCT_BYTES * i;
         if body.len() < at + CONSTRUCT_BYTES {
-            return Verdict::Refused(Reason::Ends, Item::Bit(8 * at));
+            return Err((Reason::Ends, Item::Bit(8 * at)));
         }
         if body[at] / 8 != 31 {
-            return Verdict::Refused(Reason::Unfixed(Fixed::Marker), Item::Bit(8 * at));
+            return Err((Reason::Unfixed(Fixed::Marker), Item::Bit(8 * at)));
         }
-        i += 1;
     }
-    Verdict::Accepted
+    Ok(())
 }
 
 // The eight ones at byte `at`, and zero bytes from there up to the end.
@@ -217,20 +198,20 @@ fn judge_closing(body: &[u8], at: usize) -> Verdict
     ensures { result ≡ closing_verdict at body.now }
 {
     if body.len() < at + 1 {
-        return Verdict::Refused(Reason::Ends, Item::Bit(8 * at));
+        return Err((Reason::Ends, Item::Bit(8 * at)));
     }
     if body[at] != 0xFF {
-        return Verdict::Refused(Reason::Unfixed(Fixed::Marker), Item::Bit(8 * at));
+        return Err((Reason::Unfixed(Fixed::Marker), Item::Bit(8 * at)));
     }
     let wrong = bits::first_set(body, at + 1);
     if wrong < body.len() {
         let zeros = bits::leading(body[wrong]);
-        return Verdict::Refused(
+        return Err((
             Reason::Unfixed(Fixed::Stuffing),
             Item::Bit(8 * wrong + zeros as usize),
-        );
+        ));
     }
-    Verdict::Accepted
+    Ok(())
 }
 
 // Stores the records of n constructs that were judged, and zeros behind them. A byte follows the constructs, so that each can be taken with the
@@ -240,22 +221,12 @@ fn store(body: &[u8], n: usize, records: &mut [u8; LENT_RECORDS])
     requires n_in_bounds { 7 + 3 * n < length body.now }
     ensures { records.new ≡ records_bytes (filled (records_at n 7 body.now) 31 blank) }
 {
-    lists::known(body);
     *records = [0; LENT_RECORDS];
-    let mut i = 0;
-    while i < n {
+    for i in 0..n {
         let construct = four_at(body, CONSTRUCTS + CONSTRUCT_BYTES * i);
-        put_four(record_of(construct), LENT_RECORD * i, records);
-        i += 1;
+        let lent = LENT_RECORD * i;
+        records[lent..lent + LENT_RECORD].copy_from_slice(&record_of(construct).to_le_bytes());
     }
-}
-
-// Four bytes as one number, the first of them its lowest.
-fn four_at(s: &[u8], at: usize) -> u32
-    requires { at + 4 ≤ length s.now }
-    ensures { result ≡ get_or s.now at 0 + 256 * get_or s.now (at + 1) 0 + 65536 * (get_or s.now (at + 2) 0 + 256 * get_or s.now (at + 3) 0) }
-{
-    s[at] as u32 + 256 * s[at + 1] as u32 + 65536 * s[at + 2] as u32 + 16777216 * s[at + 3] as u32
 }
 
 // The four bytes of a construct's record: cc_valid and cc_type, which are the low three bits of its first byte, then the data bytes as they are.
@@ -265,30 +236,11 @@ fn record_of(construct: u32) -> u32
     construct / 4 % 2 + 256 * (construct % 4) + 65536 * (construct / 256 % 65536)
 }
 
-// Stores a number's four bytes, the lowest first.
-fn put_four(x: u32, at: usize, records: &mut [u8; LENT_RECORDS])
-    requires { at + 4 ≤ 124 }
-    ensures { records.new ≡ sets records.old at (x % 256 ∷ x / 256 % 256 ∷ x / 65536 % 256 ∷ x / 16777216 ∷ []) }
+// Four bytes as one number, the first of them its lowest. In a function of its own this becomes one load. It stands in ga94_writer too: a public one
+// would take every index, and test it at each record.
+fn four_at(s: &[u8], at: usize) -> u32
+    requires { at + 4 ≤ length s.now }
+    ensures { result ≡ get_or s.now at 0 + 256 * get_or s.now (at + 1) 0 + 65536 * (get_or s.now (at + 2) 0 + 256 * get_or s.now (at + 3) 0) }
 {
-    records[at] = (x % 256) as u8;
-    records[at + 1] = (x / 256 % 256) as u8;
-    records[at + 2] = (x / 65536 % 256) as u8;
-    records[at + 3] = (x / 16777216) as u8;
-}
-
-// A refusal, and no value beside it.
-fn refused(verdict: Verdict) -> Head
-    ensures { result ≡ record { verdict = verdict; numbers = numbers_of (stored none) } }
-{
-    Head {
-        verdict,
-        numbers: Numbers {
-            process_em_data_flag: 0,
-            process_cc_data_flag: 0,
-            additional_data_flag: 0,
-            em_data: 0,
-            n: 0,
-            z: 0,
-        },
-    }
+    u32::from_le_bytes([s[at], s[at + 1], s[at + 2], s[at + 3]])
 }

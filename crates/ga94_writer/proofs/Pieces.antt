@@ -9,7 +9,7 @@ use lib.ListN.{length, take, drop, set, replicate, length-append}
 use Rattle.lists.specs.Flat.{flat}
 use Rattle.lists.specs.Room.{over, over_at}
 use Rattle.lists.proofs.Lay.{length_over, take-over, store-next, over_at-over_at, cleared}
-use Rattle.refusal.specs.declared.Verdict.TheVariants.{Accepted}
+use Rattle.refusal.specs.Verdict.{Accepted}
 use Rattle.ga94.specs.Value.{CaptionUnit, held}
 use Rattle.ga94.specs.Layout.{construct_bytes, flags_byte, layout}
 use Rattle.ga94.specs.Writing.{value_verdict}

@@ -4,20 +4,19 @@ use Prim.Native.Nat.{ℕ, ◌≤◌, ◌<◌}
 use native.Mathlib.Omega.{arith}
 use mathlib.Core.Path.{◌≡◌, ◌∙◌, ap, sym, subst, refl}
 use mathlib.Core.List.{List, [], ◌∷◌}
+use Rattle.std.specs.Prelude.{Ok, Err}
 use lib.ListN.{length, take, drop, get_or, drop_of_length-le}
 use lib.Seq.{drop-cons, drop-nil, take_at}
 use Rattle.refusal.specs.declared.Refusal.{Refusal}
 use Rattle.refusal.specs.declared.Reason.{Reason}
 use Rattle.refusal.specs.declared.Item.{Item}
-use Rattle.refusal.specs.declared.Verdict.{Verdict}
-use Rattle.refusal.specs.declared.Verdict.TheVariants.{Accepted, Refused}
+use Rattle.refusal.specs.Verdict.{Verdict}
+use Rattle.refusal.specs.Verdict.{Accepted, Refused}
 use Rattle.refusal.specs.Numbers.{refusal_of}
 use Rattle.line21.specs.declared.AccessUnit.{AccessUnit}
 use Rattle.line21.specs.Value.{Line21, Legal, LegalPayload, blank, none, stored, held}
 use Rattle.refusal.proofs.Acceptance.{told-accepted}
-use Rattle.line21.specs.declared.One.{One}
-use Rattle.line21.specs.declared.One.TheVariants as one
-use Rattle.line21.specs.Reading.{length_verdict, value_of, answer_of, read_of, values_of}
+use Rattle.line21.specs.Reading.{length_verdict, value_of, answer_of, read_of, One, values_of}
 use Rattle.line21.proofs.Length.{WholeUnits, accepted-whole}
 
 -- a struct holds the value that was stored in it
@@ -75,15 +74,15 @@ units-shown : (a b : One) → values_of a ≡ values_of b → (values_of a).1 �
 units-shown a b e = ap (λ (x : Refusal × List AccessUnit). x.1) e
 
 pub shown-one : (a b : One) → values_of a ≡ values_of b → a ≡ b
-shown-one (one.Unit u) (one.Unit w) e = let us : u ∷ [] ≡ w ∷ [] = units-shown (one.Unit u) (one.Unit w) e in cc
-shown-one (one.Unit u) (one.None r) e =
-    let us : u ∷ [] ≡ [] = units-shown (one.Unit u) (one.None r) e in
+shown-one (Ok u) (Ok w) e = let us : u ∷ [] ≡ w ∷ [] = units-shown (Ok u) (Ok w) e in cc
+shown-one (Ok u) (Err r) e =
+    let us : u ∷ [] ≡ [] = units-shown (Ok u) (Err r) e in
     let z : ◌≡◌ {A = ℕ} 0 1 = cc in
     let f : ⊥ = omega arith in
     absurd f
-shown-one (one.None q) (one.Unit w) e =
-    let us : [] ≡ w ∷ [] = units-shown (one.None q) (one.Unit w) e in
+shown-one (Err q) (Ok w) e =
+    let us : [] ≡ w ∷ [] = units-shown (Err q) (Ok w) e in
     let z : ◌≡◌ {A = ℕ} 0 1 = cc in
     let f : ⊥ = omega arith in
     absurd f
-shown-one (one.None q) (one.None r) e = ap one.None (ap (λ (x : Refusal × List AccessUnit). x.0) e)
+shown-one (Err q) (Err r) e = ap Err (ap (λ (x : Refusal × List AccessUnit). x.0) e)

@@ -10,9 +10,8 @@ use Rattle.line21.specs.declared.AccessUnit.{AccessUnit}
 use Rattle.line21.specs.declared.Payload.{Payload}
 use Rattle.line21.specs.declared.Answer.{Answer}
 use Rattle.line21.specs.declared.Head.{Head}
-use Rattle.line21.specs.declared.One.{One}
 use Rattle.line21.specs.Value.{blank}
-use Rattle.line21.specs.Reading.{Reads, ReadsHead, ReadsUnit}
+use Rattle.line21.specs.Reading.{Reads, ReadsHead, ReadsUnit, One}
 use Rattle.line21.specs.Writing.{Writes}
 use Rattle.line21.specs.Lent.{access_units_bytes, run_in, ReadsInto}
 use Rattle.line21.proofs.Answers.{shown-one}

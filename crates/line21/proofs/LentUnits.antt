@@ -13,8 +13,8 @@ use Rattle.lists.specs.Flat.{taken}
 use Rattle.lists.proofs.Each.{each-drop}
 use Rattle.lists.proofs.Flat.{length_taken, get_d-taken, taken-take, taken-drop, flat-more, length-flat, flat-taken, flat-filled}
 use Rattle.lists.proofs.Lay.{length_over, take-over, over_at-over_at}
-use Rattle.refusal.specs.declared.Verdict.{Verdict}
-use Rattle.refusal.specs.declared.Verdict.TheVariants.{Accepted, Refused}
+use Rattle.refusal.specs.Verdict.{Verdict}
+use Rattle.refusal.specs.Verdict.{Accepted, Refused}
 use Rattle.refusal.specs.Answers.{lent_of}
 use Rattle.line21.specs.declared.AccessUnit.{AccessUnit}
 use Rattle.line21.specs.declared.Payload.{Payload}

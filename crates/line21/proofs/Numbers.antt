@@ -11,7 +11,7 @@ use lib.Seq.{drop-cons, length-take-le}
 use borrow.Author.Tests.{le-ltb}
 use Rattle.lists.specs.Each.{Each}
 use Rattle.lists.proofs.Each.{each_at, each_take, each_map, each_both}
-use Rattle.refusal.specs.declared.Verdict.TheVariants.{Accepted}
+use Rattle.refusal.specs.Verdict.{Accepted}
 use Rattle.refusal.specs.declared.Reason.TheVariants.{NoRoom, Unholdable}
 use Rattle.refusal.specs.declared.Excess.TheVariants.{Count}
 use Rattle.refusal.specs.declared.Item.TheVariants.{Whole}

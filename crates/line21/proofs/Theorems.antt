@@ -23,11 +23,10 @@ use Rattle.line21.specs.declared.AccessUnit.{AccessUnit}
 use Rattle.line21.specs.declared.Payload.{Payload}
 use Rattle.line21.specs.declared.Answer.{Answer}
 use Rattle.line21.specs.declared.Head.{Head}
-use Rattle.line21.specs.declared.One.{One}
 use Rattle.line21.specs.Value.{Line21, with_data, LegalAccessUnit}
 use Rattle.line21.specs.Value.{Legal, LegalPayload, Typed, blank, none, stored, held}
 use Rattle.line21.specs.Layout.{layout}
-use Rattle.line21.specs.Reading.{length_verdict, head_of, Reads, ReadsHead, ReadsUnit}
+use Rattle.line21.specs.Reading.{length_verdict, head_of, Reads, ReadsHead, ReadsUnit, One}
 use Rattle.line21.specs.Writing.{value_verdict, Writes}
 use Rattle.line21.specs.Lent.{access_units_bytes, run_in, payload_in, ReadsInto}
 use Rattle.line21.specs.Order.{reading_checks, writing_checks}

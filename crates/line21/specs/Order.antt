@@ -1,7 +1,7 @@
 -- RULES, "Order of checks", for the payload: all checks of reading and of writing, each of the input alone, in the
 -- order of RULES.
 use Rattle.std.specs.Prelude.{ℕ, ◌-◌, ◌%◌, not, List, [], ◌∷◌, ◌++◌, eqb, ltb, length}
-use Rattle.refusal.specs.declared.Verdict.{Verdict}
+use Rattle.refusal.specs.Verdict.{Verdict}
 use Rattle.refusal.specs.declared.Reason.TheVariants.{NoStart, TooLong, Unfit, NoRoom, Unholdable}
 use Rattle.refusal.specs.declared.Misfit.TheVariants.{PayloadLength}
 use Rattle.refusal.specs.declared.Excess.TheVariants.{Count, CcValid, Padding}

@@ -1,9 +1,9 @@
 -- What reading a Line 21 payload answers, for every list of bytes. RULES, "Order of checks": 2, 1, 13.
-use Rattle.std.specs.Prelude.{ℕ, ◌-◌, ◌/◌, ◌%◌, ◌≡◌, not, List, [], ◌∷◌, eqb, ltb, length, get_or, take, drop}
+use Rattle.std.specs.Prelude.{ℕ, ◌-◌, ◌/◌, ◌%◌, ◌≡◌, not, List, [], ◌∷◌, eqb, ltb, length, get_or, take, drop, Result, Ok, Err}
 use Rattle.lists.specs.Bytes.{Bytes}
 use Rattle.lists.specs.Flat.{taken}
-use Rattle.refusal.specs.declared.Verdict.{Verdict}
-use Rattle.refusal.specs.declared.Verdict.TheVariants.{Accepted, Refused}
+use Rattle.refusal.specs.Verdict.{Verdict}
+use Rattle.refusal.specs.Verdict.{Accepted, Refused}
 use Rattle.refusal.specs.declared.Refusal.{Refusal}
 use Rattle.refusal.specs.declared.Reason.TheVariants.{NoStart, TooLong, Unfit}
 use Rattle.refusal.specs.declared.Misfit.TheVariants.{PayloadLength}
@@ -13,8 +13,6 @@ use Rattle.refusal.specs.Numbers.{refusal_of}
 use Rattle.line21.specs.declared.AccessUnit.{AccessUnit}
 use Rattle.line21.specs.declared.Answer.{Answer}
 use Rattle.line21.specs.declared.Head.{Head}
-use Rattle.line21.specs.declared.One.{One}
-use Rattle.line21.specs.declared.One.TheVariants as one
 use Rattle.line21.specs.Value.{Line21, none, stored, held}
 
 -- 2 a payload of length 0; 1 longer than 1,456 bytes; 13 not one byte and whole units of 5
@@ -61,10 +59,14 @@ read_of s = answer_of (length_verdict (length s)) (value_of s)
 abbrev pub head_of : Answer → Head
 head_of r = record { refusal = r.refusal; flags = r.payload.flags; m = r.payload.m }
 
--- what an answer about one unit says: number and place, and the unit if there is one
+-- an answer about one unit: the unit; or, where none has that index, the payload's refusal
+abbrev pub One : Type 0
+One = Result AccessUnit Refusal
+
+-- what it says: number and place, and the unit if there is one
 abbrev pub values_of : One → Refusal × List AccessUnit
-values_of (one.Unit u) = (refusal_of Accepted, u ∷ [])
-values_of (one.None refusal) = (refusal, [])
+values_of (Ok u) = (refusal_of Accepted, u ∷ [])
+values_of (Err refusal) = (refusal, [])
 
 -- the promise of `read`. By its type the input is a list of bytes: the code shows it, so that no theorem assumes it
 pub record Reads (s : List ℕ) (r : Answer) : Type 0 where

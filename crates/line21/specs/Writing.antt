@@ -1,7 +1,7 @@
 -- What writing a Line 21 payload answers, and what the lent output then holds, for every value and output. RULES,
 -- "Order of checks": 15 of m, 15 unit by unit, 1, 14.
 use Rattle.std.specs.Prelude.{ℕ, List, [], ◌∷◌, map, ltb, length}
-use Rattle.refusal.specs.declared.Verdict.{Verdict}
+use Rattle.refusal.specs.Verdict.{Verdict}
 use Rattle.refusal.specs.declared.Reason.TheVariants.{Unholdable}
 use Rattle.refusal.specs.declared.Excess.TheVariants.{Count, CcValid, Padding}
 use Rattle.refusal.specs.declared.Item.TheVariants.{Whole}

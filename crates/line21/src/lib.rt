@@ -6,7 +6,7 @@
 mod lent;
 mod reading;
 
-pub use lent::{bytes_of, unit_in};
+pub use lent::{bytes_of, lent_bytes, unit_in};
 pub use reading::{read, read_head, read_into, read_unit};
 use refusal::Refusal;
 
@@ -23,7 +23,7 @@ pub const LENT_UNITS: usize = 2037;
 
 // One access unit (004, Table 2). A field's data bytes are carried whatever its flag says.
 #[repr(C)]
-#[derive(Clone, Copy)]
+#[derive(Clone, Copy, Default)]
 pub struct AccessUnit {
     pub cc_valid_1: u8,
     pub cc_valid_2: u8,
@@ -42,7 +42,7 @@ pub struct Payload {
     pub units: [AccessUnit; MAX_UNITS],
 }
 
-// What `read` answers: the value, or a refusal and zeros.
+// What `read` answers: the value, or a refusal and zeros. No Result: `Reads` promises the zeros.
 #[derive(Clone, Copy)]
 pub struct Answer {
     pub refusal: Refusal,
@@ -50,18 +50,11 @@ pub struct Answer {
 }
 
 // What `read_head` and `read_into` answer: the flags byte and how many units follow it, or a refusal and zeros.
+// No Result: C has this layout.
 #[repr(C)]
 #[derive(Clone, Copy)]
 pub struct Head {
     pub refusal: Refusal,
     pub flags: u8,
     pub m: usize,
-}
-
-// What `read_unit` answers.
-#[derive(Clone, Copy)]
-pub enum One {
-    Unit(AccessUnit),
-    // No unit of that index: the payload's refusal, of number 0 where it is accepted and has fewer.
-    None(Refusal),
 }

@@ -1,33 +1,28 @@
 // Reading a payload: whole, its head alone, or one access unit alone.
 ghost use Rattle.std.specs.Prelude.{◌≡◌, ◌+◌, ◌≤◌, length, drop};
 ghost use Rattle.lists.specs.Room.{over};
-ghost use Rattle.refusal.specs.declared.Verdict.TheVariants.{Accepted};
+ghost use Rattle.refusal.specs.Verdict.{Accepted};
 ghost use Rattle.line21.specs.Value.{blank as Value·blank, none, stored};
 ghost use Rattle.line21.specs.Reading.{length_verdict, read_unit, value_of, Reads, ReadsHead, ReadsUnit};
 ghost use Rattle.line21.specs.Lent.{access_units_bytes, ReadsInto};
 
 use crate::{
-    AccessUnit, Answer, Head, LENT_UNIT, LENT_UNITS, MAX_BYTES, MAX_UNITS, One, Payload,
-    UNIT_BYTES, lent,
+    AccessUnit, Answer, Head, LENT_UNIT, LENT_UNITS, MAX_BYTES, MAX_UNITS, Payload, UNIT_BYTES,
+    lent,
 };
-use refusal::{Item, Misfit, Reason, Verdict};
+use refusal::{Item, Misfit, Reason, Refusal, Verdict};
 
 // Reads a whole payload.
 pub fn read(s: &[u8]) -> Answer
     ensures { Reads s.now result }
 {
     let verdict = judge_length(s.len());
-    let refusal = refusal::told(verdict);
-    match verdict {
-        Verdict::Accepted => {
-            let payload = collect(s);
-            Answer { refusal, payload }
-        }
-        Verdict::Refused(_, _) => {
-            let payload = nothing();
-            Answer { refusal, payload }
-        }
-    }
+    let refusal = Refusal::from(verdict);
+    let payload = match verdict {
+        Ok(()) => collect(s),
+        Err(_) => nothing(),
+    };
+    Answer { refusal, payload }
 }
 
 // Reads what stands before the units, with no array of them.
@@ -35,14 +30,14 @@ pub fn read_head(s: &[u8]) -> Head
     ensures { ReadsHead s.now result }
 {
     let verdict = judge_length(s.len());
-    let refusal = refusal::told(verdict);
+    let refusal = Refusal::from(verdict);
     match verdict {
-        Verdict::Accepted => Head {
+        Ok(()) => Head {
             refusal,
             flags: s[0],
             m: (s.len() - 1) / UNIT_BYTES,
         },
-        Verdict::Refused(_, _) => Head {
+        Err(_) => Head {
             refusal,
             flags: 0,
             m: 0,
@@ -55,25 +50,27 @@ pub fn read_into(s: &[u8], units: &mut [u8; LENT_UNITS]) -> Head
     ensures { ReadsInto s.now units.old result units.new }
 {
     let head = read_head(s);
+    // By its number: of a refusal the head tells no more.
     if head.refusal.number != 0 {
         return head;
     }
     collect_into(s, units);
-    lent::clear_from(LENT_UNIT * head.m, units);
+    units[LENT_UNIT * head.m..].fill(0);
     head
 }
 
-// Reads the access unit of index i, counted from 0, with no array of them.
-pub fn read_unit(s: &[u8], i: usize) -> One
+// Reads the access unit of index i, counted from 0, with no array of them. Where there is none of that index it tells the
+// payload's refusal, of number 0 where the payload is accepted and has fewer.
+pub fn read_unit(s: &[u8], i: usize) -> Result<AccessUnit, Refusal>
     ensures { ReadsUnit s.now i result }
 {
     let verdict = judge_length(s.len());
-    if let Verdict::Accepted = verdict {
+    if let Ok(()) = verdict {
         if i < (s.len() - 1) / UNIT_BYTES {
-            return One::Unit(unit_at(s, 1 + UNIT_BYTES * i));
+            return Ok(unit_at(s, 1 + UNIT_BYTES * i));
         }
     }
-    One::None(refusal::told(verdict))
+    Err(Refusal::from(verdict))
 }
 
 // RULES, "Order of checks": 2, 1, 13.
@@ -82,15 +79,15 @@ fn judge_length(n: usize) -> Verdict
     ensures { result ≡ length_verdict n }
 {
     if n == 0 {
-        return Verdict::Refused(Reason::NoStart, Item::Length(n));
+        return Err((Reason::NoStart, Item::Length(n)));
     }
     if MAX_BYTES < n {
-        return Verdict::Refused(Reason::TooLong, Item::Length(n));
+        return Err((Reason::TooLong, Item::Length(n)));
     }
     if (n - 1) % UNIT_BYTES != 0 {
-        return Verdict::Refused(Reason::Unfit(Misfit::PayloadLength), Item::Length(n));
+        return Err((Reason::Unfit(Misfit::PayloadLength), Item::Length(n)));
     }
-    Verdict::Accepted
+    Ok(())
 }
 
 // The value of a payload whose length was judged.
@@ -99,11 +96,9 @@ fn collect(s: &[u8]) -> Payload
     ensures { result ≡ stored (value_of s.now) }
 {
     let m = (s.len() - 1) / UNIT_BYTES;
-    let mut units = [blank(); MAX_UNITS];
-    let mut i = 0;
-    while i < m {
+    let mut units = [AccessUnit::default(); MAX_UNITS];
+    for i in 0..m {
         units[i] = unit_at(s, 1 + UNIT_BYTES * i);
-        i += 1;
     }
     Payload {
         flags: s[0],
@@ -119,10 +114,8 @@ fn collect_into(s: &[u8], units: &mut [u8])
     ensures { units.new ≡ over (access_units_bytes (value_of s.now).units) units.old }
 {
     let count = (s.len() - 1) / UNIT_BYTES;
-    let mut i = 0;
-    while i < count {
+    for i in 0..count {
         lent::put_flat(unit_at(s, 1 + UNIT_BYTES * i), LENT_UNIT * i, units);
-        i += 1;
     }
 }
 
@@ -143,25 +136,11 @@ fn unit_at(s: &[u8], at: usize) -> AccessUnit
     }
 }
 
-pub(crate) fn blank() -> AccessUnit
-    ensures { result ≡ Value·blank }
-{
-    AccessUnit {
-        cc_valid_1: 0,
-        cc_valid_2: 0,
-        padding: 0,
-        field1_data1: 0,
-        field1_data2: 0,
-        field2_data1: 0,
-        field2_data2: 0,
-    }
-}
-
 // All zero, as in a refusal.
 fn nothing() -> Payload
     ensures { result ≡ stored none }
 {
-    let units = [blank(); MAX_UNITS];
+    let units = [AccessUnit::default(); MAX_UNITS];
     Payload {
         flags: 0,
         m: 0,

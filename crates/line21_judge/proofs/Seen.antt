@@ -5,7 +5,7 @@ use native.Mathlib.Omega.{arith}
 use mathlib.Core.Path.{◌≡◌, ◌∙◌, ap, subst, sym}
 use mathlib.Core.Logic.{◌↔◌}
 use lib.Bits.{bit_or, or_add_and, and_le_l, and_le_r, or_lt, or_shr, or_mod}
-use Rattle.refusal.specs.declared.Verdict.TheVariants.{Accepted}
+use Rattle.refusal.specs.Verdict.{Accepted}
 use Rattle.line21.specs.declared.AccessUnit.{AccessUnit}
 use Rattle.line21.specs.Writing.{unit_verdict}
 use Rattle.line21.proofs.Numbers.{unit-accepted, accepted-unit}

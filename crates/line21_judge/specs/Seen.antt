@@ -1,7 +1,7 @@
 -- The checks of many units at once. `seen` has in its lowest three bytes, bit by bit, what any of the units has in its
 -- first three: no number is too large exactly where none of these is. RULES, "Line 21 payload".
 use Rattle.std.specs.Prelude.{ℕ, ◌/◌, ◌%◌, ◌<◌, ◌≡◌, Bool, true, ◌↔◌, List}
-use Rattle.refusal.specs.declared.Verdict.TheVariants.{Accepted}
+use Rattle.refusal.specs.Verdict.{Accepted}
 use Rattle.line21.specs.declared.AccessUnit.{AccessUnit}
 use Rattle.line21.specs.Writing.{unit_verdict, units_verdict}
 use Rattle.line21.specs.Lent.{run_in}

@@ -1,7 +1,7 @@
 -- Writing with a flags byte that is told by a number of any size: before all else 15 for one that no byte holds. The C
 -- interface passes numbers so (RULES, "Calls from C").
 use Rattle.std.specs.Prelude.{ℕ, ◌<◌, List, []}
-use Rattle.refusal.specs.declared.Verdict.TheVariants.{Refused}
+use Rattle.refusal.specs.Verdict.{Refused}
 use Rattle.refusal.specs.declared.Reason.TheVariants.{Unholdable}
 use Rattle.refusal.specs.declared.Excess.TheVariants.{FlagsByte}
 use Rattle.refusal.specs.declared.Item.TheVariants.{Whole}

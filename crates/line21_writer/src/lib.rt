@@ -6,9 +6,10 @@
 mod plain;
 mod reels;
 
-ghost use Rattle.std.specs.Prelude.{◌≡◌, ◌+◌, ◌*◌, ◌≤◌, length, drop};
+ghost use Rattle.std.specs.Prelude.{◌≡◌, [], Err, ◌+◌, ◌*◌, ◌≤◌, length, drop};
 ghost use Rattle.lists.specs.Room.{over};
-ghost use Rattle.refusal.specs.declared.Verdict.TheVariants.{Accepted};
+ghost use Rattle.refusal.specs.Verdict.{Accepted};
+ghost use Rattle.refusal.specs.Answers.{counted_of, written as Answers·written};
 ghost use Rattle.line21.specs.Value.{held};
 ghost use Rattle.line21.specs.Layout.{layout, layout_access_unit};
 ghost use Rattle.line21.specs.Writing.{unit_verdict, value_verdict, Writes};
@@ -17,7 +18,7 @@ ghost use Rattle.line21.specs.Lent.{access_unit_in, payload_in};
 use line21::{AccessUnit, LENT_UNIT, LENT_UNITS, Payload, UNIT_BYTES};
 pub use plain::{write_plain, write_reel_plain};
 pub use reels::write_reel;
-use refusal::Written;
+use refusal::{Item, Reason, Refusal, Written};
 
 // Writes a payload at the front of out.
 pub fn write(p: Payload, out: &mut [u8]) -> Written
@@ -31,13 +32,11 @@ pub fn write(p: Payload, out: &mut [u8]) -> Written
 pub fn write_from(flags: u8, m: usize, units: &[u8; LENT_UNITS], out: &mut [u8]) -> Written
     ensures { Writes (payload_in flags m units.now) out.old result out.new }
 {
-    lists::known(units);
-    let refusal = refusal::told(line21_judge::judge_value(m, units, out.len()));
-    if refusal.number != 0 {
-        return Written { refusal, len: 0 };
+    if let Err(why) = line21_judge::judge_value(m, units, out.len()) {
+        return Written::from(Err(why));
     }
     let len = write_judged(flags, m, units, out);
-    Written { refusal, len }
+    Written::from(Ok(len))
 }
 
 // Writes a payload that was judged at the front of out, and tells its length.
@@ -48,18 +47,30 @@ pub(crate) fn write_judged(flags: u8, m: usize, units: &[u8], out: &mut [u8]) ->
     ensures out_after { out.new ≡ over (layout (held (payload_in flags m units.now))) out.old }
 {
     out[0] = flags;
-    let mut k = 0;
-    while k < m {
-        put_unit(
-            unit_at(units, LENT_UNIT * k),
-            &mut out[1 + UNIT_BYTES * k..],
-        );
-        k += 1;
+    for k in 0..m {
+        let at = 1 + UNIT_BYTES * k;
+        let unit = unit_at(units, LENT_UNIT * k);
+        out[at..at + UNIT_BYTES].copy_from_slice(&unit_bytes(unit));
     }
     1 + UNIT_BYTES * m
 }
 
-// The unit whose seven bytes stand from index at on.
+// A unit's bytes in a payload. It stands in reel_units too: a public one would take every unit, and have to cut what its bits cannot hold.
+fn unit_bytes(u: AccessUnit) -> [u8; UNIT_BYTES]
+    requires { unit_verdict u ≡ Accepted }
+    ensures { result ≡ layout_access_unit u }
+{
+    [
+        u.cc_valid_1 * 128 + u.cc_valid_2 * 64 + u.padding,
+        u.field1_data1,
+        u.field1_data2,
+        u.field2_data1,
+        u.field2_data2,
+    ]
+}
+
+// The unit whose seven bytes stand from index at on. Not line21::unit_in: it tests its index, and with it a payload of 291
+// units was written in 1.2 to 1.4 times what plain C takes.
 fn unit_at(units: &[u8], at: usize) -> AccessUnit
     requires { at + 7 ≤ length units.now }
     ensures { result ≡ access_unit_in (drop at units.now) }
@@ -73,17 +84,4 @@ fn unit_at(units: &[u8], at: usize) -> AccessUnit
         field2_data1: units[at + 5],
         field2_data2: units[at + 6],
     }
-}
-
-// Stores one unit's five bytes at the front of out.
-fn put_unit(u: AccessUnit, out: &mut [u8])
-    requires u_value { unit_verdict u ≡ Accepted }
-    requires in_bounds { 5 ≤ length out.old }
-    ensures { out.new ≡ over (layout_access_unit u) out.old }
-{
-    out[0] = u.cc_valid_1 * 128 + u.cc_valid_2 * 64 + u.padding;
-    out[1] = u.field1_data1;
-    out[2] = u.field1_data2;
-    out[3] = u.field2_data1;
-    out[4] = u.field2_data2;
 }

@@ -13,7 +13,7 @@ use scte20::{CaptionUnit, MAX_RECORDS, Record};
 // The longest text, of 31 records with three digits in each number, fits.
 pub const ROOM: usize = 640;
 
-// A text: its first len bytes.
+// A text: its first len bytes. A fixed buffer, since no library crate has a heap.
 #[derive(Clone, Copy)]
 pub struct Text {
     pub len: usize,
@@ -25,6 +25,7 @@ pub fn text_of(a: Answer) -> Text
     ensures { HoldsText (text_of a) result }
 {
     let refusal = a.refusal;
+    // By its number: `refused-zero` has zeros beside a refusal, so that the answer is no Result.
     if refusal.number != 0 {
         return refused(refusal);
     }
@@ -39,16 +40,10 @@ pub fn text_of(a: Answer) -> Text
 fn listed(unit: CaptionUnit) -> Text
     ensures { HoldsText (head_text ++ records_text (held unit).records) result }
 {
-    let n = unit.n;
+    let held = &unit.records[..unit.n.min(MAX_RECORDS)];
     let mut t = with(empty(), b"priority field line data\n");
-    let mut i = 0;
-    while i < MAX_RECORDS {
-        if i == n {
-            return t;
-        }
-        let r = unit.records[i];
-        t = with_record(t, r);
-        i += 1;
+    for r in held {
+        t = with_record(t, *r);
     }
     t
 }
@@ -106,7 +101,7 @@ fn character(d: u8) -> u8
     ensures { result ≡ digit d }
 {
     let characters = b"0123456789ABCDEF";
-    characters[d as usize]
+    characters[usize::from(d)]
 }
 
 // A text with bytes behind it.
@@ -114,10 +109,8 @@ fn with(t: Text, bytes: &[u8]) -> Text
     ensures { Appends bytes.now t result }
 {
     let mut r = t;
-    let mut i = 0;
-    while i < bytes.len() {
-        r = with_byte(r, bytes[i]);
-        i += 1;
+    for b in bytes {
+        r = with_byte(r, *b);
     }
     r
 }

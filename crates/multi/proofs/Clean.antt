@@ -14,7 +14,7 @@ use Rattle.lists.specs.Part.{part}
 use Rattle.lists.specs.Sum.{sum}
 use Rattle.lists.proofs.Part.{part-cons, length_part, part-front, take-join}
 use Rattle.lists.proofs.Sum.{sum-append, sum_more}
-use Rattle.refusal.specs.declared.Verdict.TheVariants.{Accepted}
+use Rattle.refusal.specs.Verdict.{Accepted}
 use Rattle.refusal.proofs.Checks.{refuse_if-accepted, all-accepted, and_then-accepted}
 use Rattle.anc.specs.Words.{parity_of, byte_of, word_verdict, words_verdict, sum_verdict, checksum_of}
 use Rattle.anc.specs.Inside.{cs_of}

@@ -11,7 +11,7 @@ use lib.ListN.{length, get_or, take, drop, length-append, length-map}
 use Rattle.lists.specs.Bytes.{Bytes}
 use Rattle.lists.specs.Part.{part}
 use Rattle.lists.proofs.Part.{length_part}
-use Rattle.refusal.specs.declared.Verdict.TheVariants.{Accepted}
+use Rattle.refusal.specs.Verdict.{Accepted}
 use Rattle.refusal.specs.Checks.{and_then, first}
 use Rattle.refusal.proofs.Checks.{both_hold, refuse_if-accepted, accepted-all, all-accepted, accepted-equal, accepted-within, accepted-and_then, and_then-assoc}
 use Rattle.anc.specs.Words.{word_of, byte_of, words_verdict, sum_verdict, checksum_of}

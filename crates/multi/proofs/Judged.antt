@@ -9,8 +9,8 @@ use borrow.Author.Tests.{eq-eqb, ne_eqb, lt-ltb, le-ltb}
 use lib.Dec.{eqb}
 use lib.ListN.{length, get_or, take}
 use Rattle.lists.specs.Part.{part}
-use Rattle.refusal.specs.declared.Verdict.{Verdict}
-use Rattle.refusal.specs.declared.Verdict.TheVariants.{Refused}
+use Rattle.refusal.specs.Verdict.{Verdict}
+use Rattle.refusal.specs.Verdict.{Refused}
 use Rattle.refusal.specs.declared.Reason.TheVariants.{Unfixed, InnerChecksum, Unholdable, InnerOverrun}
 use Rattle.refusal.specs.declared.Fixed.TheVariants.{LineField}
 use Rattle.refusal.specs.declared.Excess.TheVariants.{InnerLine, InnerField, InnerIdentifier, InnerPart}

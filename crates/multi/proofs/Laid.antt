@@ -13,7 +13,7 @@ use Rattle.lists.specs.Room.{over, over_at}
 use Rattle.lists.proofs.Each.{each_at, each_take}
 use Rattle.lists.proofs.Lay.{take-over, drop-over, over-over, laid-part}
 use Rattle.lists.proofs.Part.{length_part, part-front}
-use Rattle.refusal.specs.declared.Verdict.TheVariants.{Accepted}
+use Rattle.refusal.specs.Verdict.{Accepted}
 use Rattle.refusal.proofs.Checks.{accepted-each}
 use Rattle.anc.specs.Words.{word_of, byte_of, checksum_of}
 use Rattle.anc.proofs.Words.{accepted-words}

@@ -14,6 +14,5 @@ pub mod BothWays
 pub mod Determined
 pub mod Judged
 pub mod Laid
-pub mod Types
 pub mod Placed
 pub mod Theorems

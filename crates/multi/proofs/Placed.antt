@@ -20,8 +20,8 @@ use Rattle.refusal.specs.declared.Misfit.TheVariants.{DataCount}
 use Rattle.refusal.specs.declared.Item.{Item}
 use Rattle.refusal.specs.declared.Item.TheVariants.{Word, Length}
 use Rattle.refusal.specs.declared.Refusal.{Refusal}
-use Rattle.refusal.specs.declared.Verdict.{Verdict}
-use Rattle.refusal.specs.declared.Verdict.TheVariants.{Accepted}
+use Rattle.refusal.specs.Verdict.{Verdict}
+use Rattle.refusal.specs.Verdict.{Accepted}
 use Rattle.refusal.specs.Checks.{refuse_if}
 use Rattle.refusal.specs.Numbers.{number_of, place_of}
 use Rattle.refusal.proofs.Checks.{accepted-within, accepted-equal, accepted-and_then, accepted-all}

@@ -10,7 +10,7 @@ use Rattle.lists.specs.Part.{part}
 use Rattle.lists.specs.Room.{over_at}
 use Rattle.lists.proofs.Part.{length_part, part-front}
 use Rattle.lists.proofs.Lay.{sets-over_at, over_at-over_at}
-use Rattle.refusal.specs.declared.Verdict.TheVariants.{Accepted}
+use Rattle.refusal.specs.Verdict.{Accepted}
 use Rattle.multi.specs.Order.{size_in}
 use Rattle.multi.specs.Reading.{inners_verdict, read_inner}
 use Rattle.multi.specs.Lent.{heads_of}

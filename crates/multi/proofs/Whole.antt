@@ -9,8 +9,8 @@ use borrow.Author.Tests.{eq-eqb, ne_eqb, eqb-false, le-ltb}
 use lib.Dec.{eqb, ltb}
 use lib.ListN.{length, get_or}
 use Rattle.lists.specs.Part.{part}
-use Rattle.refusal.specs.declared.Verdict.{Verdict}
-use Rattle.refusal.specs.declared.Verdict.TheVariants.{Accepted}
+use Rattle.refusal.specs.Verdict.{Verdict}
+use Rattle.refusal.specs.Verdict.{Accepted}
 use Rattle.refusal.specs.declared.Reason.TheVariants.{TooLong, Ends, Checksum}
 use Rattle.refusal.specs.declared.Item.TheVariants.{Word, Length}
 use Rattle.refusal.specs.Checks.{refuse_if, and_then, first}

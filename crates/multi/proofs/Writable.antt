@@ -10,8 +10,8 @@ use lib.Dec.{eqb, ltb}
 use lib.ListN.{length, get_or, drop, length-map}
 use lib.Seq.{drop-cons}
 use Rattle.lists.specs.Each.{Each}
-use Rattle.refusal.specs.declared.Verdict.{Verdict}
-use Rattle.refusal.specs.declared.Verdict.TheVariants.{Accepted, Refused}
+use Rattle.refusal.specs.Verdict.{Verdict}
+use Rattle.refusal.specs.Verdict.{Accepted, Refused}
 use Rattle.refusal.specs.declared.Reason.TheVariants.{Unfit, NoRoom, Unholdable, NoInner}
 use Rattle.refusal.specs.declared.Misfit.TheVariants.{UserWords}
 use Rattle.refusal.specs.declared.Excess.TheVariants.{PriorityWord}

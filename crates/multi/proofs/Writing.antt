@@ -11,8 +11,8 @@ use lib.Dec.{eqb, ltb}
 use lib.ListN.{length, get_or}
 use Rattle.lists.specs.Room.{over}
 use Rattle.refusal.specs.declared.Refusal.{Refusal}
-use Rattle.refusal.specs.declared.Verdict.{Verdict}
-use Rattle.refusal.specs.declared.Verdict.TheVariants.{Accepted, Refused}
+use Rattle.refusal.specs.Verdict.{Verdict}
+use Rattle.refusal.specs.Verdict.{Accepted, Refused}
 use Rattle.refusal.specs.declared.Reason.TheVariants.{WordRange, WordParity, Unfit, NoRoom, Unholdable, NoInner}
 use Rattle.refusal.specs.declared.Misfit.TheVariants.{UserWords}
 use Rattle.refusal.specs.declared.Excess.TheVariants.{PriorityWord, InnerLine, InnerField, InnerIdentifier, InnerPart}

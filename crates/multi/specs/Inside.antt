@@ -1,9 +1,9 @@
 -- What functions promise each other. No theorem for a signer speaks of it.
-use Rattle.std.specs.Prelude.{ℕ, ◌+◌, ◌-◌, ◌*◌, ◌/◌, ◌%◌, ◌≤◌, ◌<◌, ◌≡◌, ◌⊎◌, Bool, true, false, List, [], ◌∷◌, map, eqb, length, get_or, take, drop}
+use Rattle.std.specs.Prelude.{ℕ, ◌+◌, ◌-◌, ◌*◌, ◌/◌, ◌%◌, ◌≤◌, ◌<◌, ◌≡◌, ◌⊎◌, Bool, true, false, List, [], ◌∷◌, map, eqb, length, get_or, take, drop, Option, IfSome}
 use Rattle.lists.specs.Part.{part}
 use Rattle.lists.specs.Sum.{sum}
-use Rattle.refusal.specs.declared.Verdict.{Verdict}
-use Rattle.refusal.specs.declared.Verdict.TheVariants.{Accepted}
+use Rattle.refusal.specs.Verdict.{Verdict}
+use Rattle.refusal.specs.Verdict.{Accepted}
 use Rattle.refusal.specs.Checks.{first}
 use Rattle.anc.specs.Words.{parity_of, word_of, byte_of, checksum_of}
 use Rattle.sdp.specs.User.{user_verdict}
@@ -88,6 +88,6 @@ pub record Sums (u : List ℕ) (n : ℕ) : Type 0 where
   pub total : n ≡ sum (take (size_in u) u) % 65536
   pub holds : strays (take (ncs_at u) u) ≡ 0 → (at : ℕ) → inner_verdict at u ≡ Accepted
 
--- 65,536 says nothing
-abbrev pub SumsInner : List ℕ → ℕ → Type 0
-SumsInner u r = r < 65536 → Sums u r
+-- none says nothing
+abbrev pub SumsInner : List ℕ → Option ℕ → Type 0
+SumsInner u r = IfSome r (Sums u)

@@ -3,8 +3,8 @@
 -- after word (`anc`), and the rules over a subtitling packet's user words are `user_verdict` (`sdp`), from left to right.
 use Rattle.std.specs.Prelude.{ℕ, zero, suc, ◌+◌, ◌-◌, ◌/◌, Bool, true, false, not, ◌&&◌, List, [], ◌∷◌, ◌++◌, map, eqb, ltb, length, get_or, take, drop}
 use Rattle.lists.specs.Part.{part}
-use Rattle.refusal.specs.declared.Verdict.{Verdict}
-use Rattle.refusal.specs.declared.Verdict.TheVariants.{Accepted, Refused}
+use Rattle.refusal.specs.Verdict.{Verdict}
+use Rattle.refusal.specs.Verdict.{Accepted, Refused}
 use Rattle.refusal.specs.declared.Reason.TheVariants.{TooLong, NoStart, Ends, Unfixed, Checksum, InnerChecksum, Unfit, NoRoom, Unholdable, NoInner, InnerOverrun}
 use Rattle.refusal.specs.declared.Fixed.TheVariants.{Identifier, LineField}
 use Rattle.refusal.specs.declared.Misfit.TheVariants.{DataCount, UserWords}

@@ -1,7 +1,7 @@
 -- What reading a multipacket answers, for every list of words. RULES, "Order of checks": 1; 5 under 8 words; 2; 11 of the
 -- header, the priority and CS; 6; 13; 26; inner packet by inner packet 26, 11, 6, a subtitling packet's own, 12; CS 12.
 use Rattle.std.specs.Prelude.{ℕ, zero, suc, ◌/◌, ◌%◌, List, [], ◌∷◌, map, length, get_or, take, drop}
-use Rattle.refusal.specs.declared.Verdict.{Verdict}
+use Rattle.refusal.specs.Verdict.{Verdict}
 use Rattle.refusal.specs.Checks.{first}
 use Rattle.anc.specs.Words.{byte_of}
 use Rattle.multi.specs.Value.{Inner, Multi}

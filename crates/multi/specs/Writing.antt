@@ -2,7 +2,7 @@
 -- checks": 15 of the priority; 26; inner packet by inner packet 15, 11, a subtitling packet's own; 13; 14.
 use Rattle.std.specs.Prelude.{ℕ, ◌<◌, ◌≡◌, List, [], ◌∷◌, map, length, get_or}
 use Rattle.refusal.specs.declared.Refusal.{Refusal}
-use Rattle.refusal.specs.declared.Verdict.{Verdict}
+use Rattle.refusal.specs.Verdict.{Verdict}
 use Rattle.refusal.specs.declared.Written.{Written}
 use Rattle.refusal.specs.Checks.{first}
 use Rattle.refusal.specs.Answers.{Wrote}

@@ -24,10 +24,12 @@ pub const INNER_WORDS: usize = 5;
 
 pub const MAX_INNERS: usize = 50;
 
-// What tells of an inner packet in lent memory: line, field (1 odd, 0 even), DID, SDID, at which word its user words begin, and how many they are.
+// What tells of an inner packet in lent memory: line, field (1 odd, 0 even), DID, SDID, at which word its user words begin, and how many they are. No
+// struct: the C interface lends it as six numbers.
 pub const HEAD: usize = 6;
 
-// What `multi_reader::read_into` answers: the priority and how many inner packets there are, or a refusal and zeros.
+// What `multi_reader::read_into` answers: the priority and how many inner packets there are, or a refusal and zeros. No Result: C is given
+// it as it stands.
 #[repr(C)]
 #[derive(Clone, Copy)]
 pub struct Answer {
@@ -40,18 +42,12 @@ pub struct Answer {
 pub fn is_subtitling(did: u16, sdid: u16) -> bool
     ensures { result ≡ subtitling_id did sdid }
 {
-    if did != 0x43 {
-        return false;
-    }
-    sdid == 0x02
+    did == 0x43 && sdid == 0x02
 }
 
 // A verdict without its place, as writing tells it.
 pub fn unplaced(verdict: Verdict) -> Verdict
     ensures { result ≡ Order·unplaced verdict }
 {
-    match verdict {
-        Verdict::Accepted => Verdict::Accepted,
-        Verdict::Refused(reason, _) => Verdict::Refused(reason, Item::Whole),
-    }
+    verdict.map_err(|(reason, _)| (reason, Item::Whole))
 }

@@ -7,15 +7,12 @@
 ghost use Rattle.std.specs.Prelude.{◌≡◌, ℕ, ◌%◌, ◌<◌, ◌≤◌, true, length};
 ghost use Rattle.lists.specs.Part.{part};
 ghost use Rattle.lists.specs.Sum.{sum as Sum·sum};
-ghost use Rattle.refusal.specs.declared.Verdict.TheVariants.{Accepted};
+ghost use Rattle.refusal.specs.Verdict.{Accepted};
 ghost use Rattle.anc.specs.Words.{parity_of};
 ghost use Rattle.multi.specs.Order.{ncs_at, size_in};
 ghost use Rattle.multi.specs.Inside.{own_verdict, Vouches, stray as Inside·stray, strays as Inside·strays, Framed, Filled, SumsInner};
 
 use multi::{HEADER_WORDS, INNERS, MAX_WORDS, MIN_WORDS};
-
-// What `inner_sum` answers for a no: no sum modulo 65,536.
-const NO: u32 = 65536;
 
 // Whether all checks of reading accept. Where it answers no, all may be well.
 pub fn is_clean(words: &[u16]) -> bool
@@ -63,17 +60,17 @@ fn rest_holds(words: &[u16]) -> bool
     ensures { result ≡ true → Filled words.now }
 {
     let end = words.len() - 1;
-    let found = strays(words, 5, end);
+    let found = strays(&words[5..end]);
     let mut total = anc::sum(&words[3..INNERS]);
     let mut excused: u16 = 0;
     let mut at = INNERS;
+    // A while: an inner packet says where the next one begins.
     while at < end {
-        let sum = inner_sum(&words[at..end]);
-        if NO <= sum {
+        let Some(sum) = inner_sum(&words[at..end]) else {
             return false;
-        }
+        };
         let ncs = at + HEADER_WORDS + (words[at + 3] % 256) as usize;
-        total = std::num::wrapping_add_u16(total, sum as u16);
+        total = total.wrapping_add(sum);
         excused += stray(words[ncs]);
         at = ncs + 1;
     }
@@ -83,31 +80,33 @@ fn rest_holds(words: &[u16]) -> bool
     words[end] == anc::cs(total)
 }
 
-// The sum of the inner packet with which the words begin, modulo 65,536.
-fn inner_sum(rest: &[u16]) -> u32
+// The sum of the inner packet with which the words begin, modulo 65,536. Where it answers none, all may be well.
+fn inner_sum(rest: &[u16]) -> Option<u16>
     ensures { SumsInner rest.now result }
 {
     let n = rest.len();
     if n < HEADER_WORDS {
-        return NO;
+        return None;
     }
     let ncs = HEADER_WORDS + (rest[3] % 256) as usize;
     if n <= ncs {
-        return NO;
+        return None;
     }
     if rest[0] % 256 / 64 != 0 {
-        return NO;
+        return None;
     }
     let user = anc::sum(&rest[HEADER_WORDS..ncs]);
     if !own_holds(rest, user) {
-        return NO;
+        return None;
     }
-    let ids = std::num::wrapping_add_u16(rest[1], rest[2]);
-    let covered = std::num::wrapping_add_u16(std::num::wrapping_add_u16(ids, rest[3]), user);
+    let covered = rest[1]
+        .wrapping_add(rest[2])
+        .wrapping_add(rest[3])
+        .wrapping_add(user);
     if rest[ncs] != anc::cs(covered) {
-        return NO;
+        return None;
     }
-    std::num::wrapping_add_u16(std::num::wrapping_add_u16(covered, rest[0]), rest[ncs]) as u32
+    Some(covered.wrapping_add(rest[0]).wrapping_add(rest[ncs]))
 }
 
 // The rules over the user words of a subtitling packet, of which the caller has the sum.
@@ -123,16 +122,14 @@ fn own_holds(rest: &[u16], user: u16) -> bool
     true
 }
 
-// How many of the words from index from up to, not including, index to are not words of bytes.
-fn strays(words: &[u16], from: usize, to: usize) -> u16
-    requires { (from ≤ to) × (to ≤ length words.now) × (to < 65536) }
-    ensures { result ≡ Inside·strays (part from to words.now) }
+// How many of the words are not words of bytes.
+fn strays(words: &[u16]) -> u16
+    requires { length words.now < 65536 }
+    ensures { result ≡ Inside·strays words.now }
 {
     let mut n: u16 = 0;
-    let mut i = from;
-    while i < to {
-        n += stray(words[i]);
-        i += 1;
+    for &w in words {
+        n += stray(w);
     }
     n
 }
@@ -147,7 +144,7 @@ fn stray(w: u16) -> u16
     1
 }
 
-// The parity of a byte, in the width of a word.
+// The parity of a byte, in the width of a word. It stands in anc too: a public one would take every number.
 fn parity(byte: u16) -> u16
     requires { byte < 256 }
     ensures { result ≡ parity_of byte }

@@ -6,21 +6,21 @@
 ghost use Rattle.std.specs.Prelude.{◌≡◌, ℕ, ◌+◌, ◌-◌, ◌≤◌, ◌<◌, [], length, get_or};
 ghost use Rattle.lists.specs.Part.{part};
 ghost use Rattle.lists.specs.Room.{over_at};
-ghost use Rattle.refusal.specs.declared.Verdict.TheVariants.{Accepted};
+ghost use Rattle.refusal.specs.Verdict.{Accepted};
 ghost use Rattle.multi.specs.Reading.{inners_verdict, cut};
 ghost use Rattle.multi.specs.Lent.{heads_of, ReadsInto, Hands};
 ghost use Rattle.multi.specs.Inside.{inners_from};
 
 use multi::{Answer, HEAD, INNER_WORDS, INNERS, MAX_INNERS};
-use refusal::Verdict;
+use refusal::{Refusal, Verdict};
 
 // Reads a multipacket, the heads of its inner packets into a lent array, which a refusal leaves as it is.
 pub fn read_into(words: &[u16], heads: &mut [[u16; HEAD]; MAX_INNERS]) -> Answer
     ensures { ReadsInto words.now heads.old result heads.new }
 {
     let verdict = multi_judge::judge(words);
-    let refusal = refusal::told(verdict);
-    if let Verdict::Refused(_, _) = verdict {
+    let refusal = Refusal::from(verdict);
+    if verdict.is_err() {
         return Answer {
             refusal,
             priority: 0,
@@ -38,6 +38,7 @@ pub fn read_into(words: &[u16], heads: &mut [[u16; HEAD]; MAX_INNERS]) -> Answer
 
 // Stores the heads of the inner packets, of which the first stands in word `at`, one behind the other from place i on, and answers how many there
 // are then. Those behind the first are stored by this function itself, from the word behind it on: fewer words are left, so that this ends.
+// A recursion: the form that RULES, F-6, names.
 fn put_heads(words: &[u16], at: usize, i: usize, heads: &mut [[u16; HEAD]; MAX_INNERS]) -> usize
     requires words_len_bound { (length words.now ≤ 262) × (at < length words.now - 1) }
     requires words_value { inners_verdict at (part at (length words.now - 1) words.now) ≡ Accepted }
@@ -66,13 +67,13 @@ fn put_heads(words: &[u16], at: usize, i: usize, heads: &mut [[u16; HEAD]; MAX_I
 pub fn inner<'a>(words: &'a [u16], i: usize) -> &'a [u16]
     ensures { Hands words.now i result.now }
 {
-    if let Verdict::Refused(_, _) = multi_judge::judge(words) {
+    if multi_judge::judge(words).is_err() {
         return &words[0..0];
     }
     hand(&words[INNERS..words.len() - 1], i)
 }
 
-// The part of the words that inner packet i is.
+// The part of the words that inner packet i is. A recursion: the form that RULES, F-6, names.
 fn hand<'a>(rest: &'a [u16], i: usize) -> &'a [u16]
     requires { (at : ℕ) × (inners_verdict at rest.now ≡ Accepted) }
     ensures { result.now ≡ get_or (cut (length rest.now) rest.now) i [] }

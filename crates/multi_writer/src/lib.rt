@@ -6,7 +6,7 @@
 ghost use Rattle.std.specs.Prelude.{◌≡◌, ◌+◌, ◌*◌, ◌%◌, ◌<◌, ◌≤◌, [], ◌∷◌, map, length, drop, slice_index};
 ghost use Rattle.lists.specs.Sum.{sum};
 ghost use Rattle.lists.specs.Room.{over};
-ghost use Rattle.refusal.specs.declared.Verdict.TheVariants.{Accepted};
+ghost use Rattle.refusal.specs.Verdict.{Accepted};
 ghost use Rattle.anc.specs.Words.{word_of};
 ghost use Rattle.multi.specs.Layout.{layout_inner, layout_inners};
 ghost use Rattle.multi.specs.Lent.{inner_of};
@@ -14,21 +14,22 @@ ghost use Rattle.multi.specs.Writing.{head_verdict, heads_verdict, value_verdict
 ghost use Rattle.multi.specs.Inside.{heads_words, CountsUser, header_words};
 
 use multi::{HEAD, HEADER_WORDS, INNER_WORDS, INNERS, MAX_USER_WORDS};
-use refusal::{Excess, Item, Misfit, Reason, Verdict, Written};
+use refusal::{Excess, Item, Misfit, Reason, Refusal, Verdict, Written};
 
 // Writes the multipacket of a priority and of an inner packet for each head at the front of out. A head says where in `words` the user words of
 // its packet begin, and how many they are.
 pub fn write_from(priority: u32, heads: &[[u16; HEAD]], words: &[u16], out: &mut [u16]) -> Written
     ensures { Writes (record { priority = priority; heads = heads.now; words = words.now }) out.old result out.new }
 {
-    let refusal = refusal::told(judge_value(priority, heads, words, out.len()));
-    if refusal.number != 0 {
+    let verdict = judge_value(priority, heads, words, out.len());
+    let refusal = Refusal::from(verdict);
+    if verdict.is_err() {
         return Written { refusal, len: 0 };
     }
     let user = user_words(heads);
     let front = put_header(priority as u8, user as u8, out);
     let inners = put_inners(heads, words, &mut out[INNERS..]);
-    out[6 + user] = anc::cs(std::num::wrapping_add_u16(front, inners));
+    out[6 + user] = anc::cs(front.wrapping_add(inners));
     Written {
         refusal,
         len: 7 + user,
@@ -40,27 +41,22 @@ fn judge_value(priority: u32, heads: &[[u16; HEAD]], words: &[u16], room: usize)
     ensures { result ≡ value_verdict (record { priority = priority; heads = heads.now; words = words.now }) room }
 {
     if 255 < priority {
-        return Verdict::Refused(Reason::Unholdable(Excess::PriorityWord), Item::Whole);
+        return Err((Reason::Unholdable(Excess::PriorityWord), Item::Whole));
     }
-    if heads.len() == 0 {
-        return Verdict::Refused(Reason::NoInner, Item::Whole);
+    if heads.is_empty() {
+        return Err((Reason::NoInner, Item::Whole));
     }
-    let mut i = 0;
-    while i < heads.len() {
-        let verdict = judge_head(heads[i], words);
-        if let Verdict::Refused(_, _) = verdict {
-            return verdict;
-        }
-        i += 1;
+    for i in 0..heads.len() {
+        judge_head(heads[i], words)?;
     }
     let user = user_words(heads);
     if MAX_USER_WORDS < user {
-        return Verdict::Refused(Reason::Unfit(Misfit::UserWords), Item::Whole);
+        return Err((Reason::Unfit(Misfit::UserWords), Item::Whole));
     }
     if room < 7 + user {
-        return Verdict::Refused(Reason::NoRoom, Item::Whole);
+        return Err((Reason::NoRoom, Item::Whole));
     }
-    Verdict::Accepted
+    Ok(())
 }
 
 // One inner packet: 15, 11, and the rules over the user words of a subtitling packet.
@@ -68,30 +64,27 @@ fn judge_head(head: [u16; HEAD], words: &[u16]) -> Verdict
     ensures { result ≡ head_verdict words.now head }
 {
     if 31 < head[0] {
-        return Verdict::Refused(Reason::Unholdable(Excess::InnerLine), Item::Whole);
+        return Err((Reason::Unholdable(Excess::InnerLine), Item::Whole));
     }
     if 1 < head[1] {
-        return Verdict::Refused(Reason::Unholdable(Excess::InnerField), Item::Whole);
+        return Err((Reason::Unholdable(Excess::InnerField), Item::Whole));
     }
     if 255 < head[2] {
-        return Verdict::Refused(Reason::Unholdable(Excess::InnerIdentifier), Item::Whole);
+        return Err((Reason::Unholdable(Excess::InnerIdentifier), Item::Whole));
     }
     if 255 < head[3] {
-        return Verdict::Refused(Reason::Unholdable(Excess::InnerIdentifier), Item::Whole);
+        return Err((Reason::Unholdable(Excess::InnerIdentifier), Item::Whole));
     }
     let at = head[4] as usize;
     let end = at + head[5] as usize;
     if words.len() < end {
-        return Verdict::Refused(Reason::Unholdable(Excess::InnerPart), Item::Whole);
+        return Err((Reason::Unholdable(Excess::InnerPart), Item::Whole));
     }
-    let form = multi::unplaced(anc::judge_part(&words[at..end], 0));
-    if let Verdict::Refused(_, _) = form {
-        return form;
-    }
+    multi::unplaced(anc::judge_part(&words[at..end], 0))?;
     if multi::is_subtitling(head[2], head[3]) {
         return multi::unplaced(sdp_reader::judge_user(&words[at..end], 0));
     }
-    Verdict::Accepted
+    Ok(())
 }
 
 // How many user words the multipacket has, the priority among them. It stops counting above 255.
@@ -99,13 +92,11 @@ fn user_words(heads: &[[u16; HEAD]]) -> usize
     ensures { CountsUser heads.now result }
 {
     let mut user = 1;
-    let mut i = 0;
-    while i < heads.len() {
+    for i in 0..heads.len() {
         if MAX_USER_WORDS < user {
             return user;
         }
         user += inner_words(heads[i]);
-        i += 1;
     }
     user
 }
@@ -146,12 +137,10 @@ fn put_inners(heads: &[[u16; HEAD]], words: &[u16], out: &mut [u16]) -> u16
 {
     let mut total: u16 = 0;
     let mut at = 0;
-    let mut i = 0;
-    while i < heads.len() {
+    for i in 0..heads.len() {
         let inner = put_inner(heads[i], words, &mut out[at..]);
-        total = std::num::wrapping_add_u16(total, inner);
+        total = total.wrapping_add(inner);
         at += inner_words(heads[i]);
-        i += 1;
     }
     total
 }
@@ -169,10 +158,10 @@ fn put_inner(head: [u16; HEAD], words: &[u16], out: &mut [u16]) -> u16
     let ncs = HEADER_WORDS + head[5] as usize;
     let ids = put_head(head, out);
     let user = carry(&words[at..end], &mut out[HEADER_WORDS..ncs]);
-    let covered = std::num::wrapping_add_u16(ids, user);
+    let covered = ids.wrapping_add(user);
     let word = anc::cs(covered);
     out[ncs] = word;
-    std::num::wrapping_add_u16(std::num::wrapping_add_u16(covered, word), out[0])
+    covered.wrapping_add(word).wrapping_add(out[0])
 }
 
 // LINE/FIELD, NDID, NSDID and NDC. Answers the sum of those that NCS covers.
@@ -199,13 +188,6 @@ fn carry(user: &[u16], out: &mut [u16]) -> u16
     ensures out_after { out.new ≡ user.now }
     ensures value { result ≡ sum user.now % 65536 }
 {
-    let mut total: u16 = 0;
-    let mut i = 0;
-    while i < out.len() {
-        let w = user[i];
-        out[i] = w;
-        total = std::num::wrapping_add_u16(total, w);
-        i += 1;
-    }
-    total
+    out.copy_from_slice(user);
+    anc::sum(user)
 }

@@ -3,21 +3,14 @@
 use Prim.Native.Nat.{ℕ, ◌+◌, ◌-◌, ◌*◌, ◌≤◌, ◌<◌, min}
 use native.Mathlib.Numerals.{add-one}
 use native.Mathlib.Omega.{arith}
-use mathlib.Core.Bool.{Bool, true, false, not, ◌&&◌, and-eq-true_iff, and-false, false≢true}
+use mathlib.Core.Bool.{Bool, true, false, not, ◌&&◌, and-eq-true_iff, and-false}
 use mathlib.Core.List.{List, [], ◌∷◌}
 use mathlib.Core.Path.{◌≡◌, ◌∙◌, ap, ap₂, sym, refl}
 use borrow.Author.Tests.{leb-true, leb-false, ltb-false, lt-ltb, le-ltb, not-true}
 use lib.Dec.{leb, ltb}
 use lib.ListN.{length, get_or, drop, drop_of_length-le}
 use lib.Seq.{drop-cons}
-use Rattle.notation.specs.declared.Number.{Number}
-use Rattle.notation.specs.Inside.{ReadsNumber}
 use Rattle.notation.specs.Value.{all_digits, between, capped_of, decimal_from, hex_digit, is_decimal, is_digit, is_hex}
-
--- no number, which the code answers for a word that is none
-pub unread-reads : (is_number : Bool) (number : ℕ) (n : Number) → n ≡ record { is_readable = false; value = 0 } → is_number ≡ false → ReadsNumber is_number number n
-unread-reads is_number number n e none =
-    record { told = ap (λ (m : Number). m.is_readable) e ∙ sym none; value = λ is. absurd (false≢true (sym none ∙ is)) }
 
 leb-not : (a b : ℕ) → leb a b ≡ not (ltb b a)
 leb-not a b = go (leb a b) refl

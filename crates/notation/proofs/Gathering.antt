@@ -12,8 +12,7 @@ use Rattle.lists.specs.Room.{filled}
 use Rattle.lists.proofs.Fill.{filled_more}
 use Rattle.scte20.specs.declared.Record.{Record}
 use Rattle.scte20.specs.Value.{blank}
-use Rattle.notation.specs.declared.Entry.{Entry}
-use Rattle.notation.specs.Inside.{Skips, TakesEntry, entry_of, is_entry}
+use Rattle.notation.specs.Inside.{Skips, Takes, entry_of, is_entry}
 use Rattle.notation.specs.Value.{are_records, is_record, records_of}
 use Rattle.notation.specs.Words.{is_space, words_of}
 use Rattle.notation.proofs.Cutting.{words-end, words-some}
@@ -80,43 +79,43 @@ held-full passed r full = ap (λ (front : List Record). filled front 31 blank) (
 
 module _ (text : List ℕ) (words : List (List ℕ)) (records : List Record) (n at : ℕ) (g : Gathered text words records n at) where
   -- five words that are no record
-  pub gathered-other : (e : Entry) → TakesEntry text at e → at < length text → e.is_readable ≡ false → are_records words ≡ false
-  gathered-other e takes h other =
+  pub gathered-other : is_entry (words_of (drop at text)) ≡ false → at < length text → are_records words ≡ false
+  gathered-other other h =
       g.same
       ∙ entry_first (words_of (drop at text)) (words-some text at h (g.stops h))
-      ∙ ap (λ (t : Bool). t && are_records (drop 5 (words_of (drop at text)))) (sym takes.told ∙ other)
+      ∙ ap (λ (t : Bool). t && are_records (drop 5 (words_of (drop at text)))) other
 
   -- five words that are one
-  module _ (e : Entry) (takes : TakesEntry text at e) (h : at < length text) (is : e.is_readable ≡ true) where
-    here : are_records (words_of (drop at text)) ≡ are_records (words_of (drop e.end text))
+  module _ (e : Record × ℕ) (takes : Takes is_entry entry_of 5 text at e) (h : at < length text) where
+    here : are_records (words_of (drop at text)) ≡ are_records (words_of (drop e.1 text))
     here =
         entry_first (words_of (drop at text)) (words-some text at h (g.stops h))
-        ∙ ap₂ (λ (t : Bool) (rest : List (List ℕ)). t && are_records rest) (sym takes.told ∙ is) (sym takes.rest)
+        ∙ ap₂ (λ (t : Bool) (rest : List (List ℕ)). t && are_records rest) takes.told (sym takes.rest)
 
-    first : records_of (words_of (drop at text)) ≡ e.«record» ∷ records_of (words_of (drop e.end text))
+    first : records_of (words_of (drop at text)) ≡ e.0 ∷ records_of (words_of (drop e.1 text))
     first =
-        entry-records (words_of (drop at text)) (sym takes.told ∙ is)
-        ∙ ap₂ (λ (r : Record) (rest : List (List ℕ)). r ∷ records_of rest) (sym (takes.value is)) (sym takes.rest)
+        entry-records (words_of (drop at text)) takes.told
+        ∙ ap₂ (λ (r : Record) (rest : List (List ℕ)). r ∷ records_of rest) (sym takes.value) (sym takes.rest)
 
-    pub gathered-more : (next : ℕ) (more : List Record) → Skips text e.end next
-        → ((n < 31) × (more ≡ set records n e.«record»)) ⊎ ((31 ≤ n) × (more ≡ records)) → Gathered text words more (n + 1) next
+    pub gathered-more : (next : ℕ) (more : List Record) → Skips text e.1 next
+        → ((n < 31) × (more ≡ set records n e.0)) ⊎ ((31 ≤ n) × (more ≡ records)) → Gathered text words more (n + 1) next
     gathered-more next more skips came =
         record {
           inside = skips.inside;
-          counted = omega (arith, g.counted, takes.onward is, skips.from);
+          counted = omega (arith, g.counted, takes.onward, skips.from);
           stops = skips.stops;
           same = g.same ∙ here ∙ ap are_records skips.same;
-          passed = g.passed ++ (e.«record» ∷ []);
-          long = length-append g.passed (e.«record» ∷ []) ∙ ap (λ (k : ℕ). k + 1) g.long;
+          passed = g.passed ++ (e.0 ∷ []);
+          long = length-append g.passed (e.0 ∷ []) ∙ ap (λ (k : ℕ). k + 1) g.long;
           held =
               ⊎_elim
-              (λ w. w.1 ∙ ap (λ (rs : List Record). set rs n e.«record») g.held ∙ held_more g.passed e.«record» n g.long w.0)
-              (λ w. w.1 ∙ g.held ∙ held-full g.passed e.«record» (omega (arith, w.0, g.long)))
+              (λ w. w.1 ∙ ap (λ (rs : List Record). set rs n e.0) g.held ∙ held_more g.passed e.0 n g.long w.0)
+              (λ w. w.1 ∙ g.held ∙ held-full g.passed e.0 (omega (arith, w.0, g.long)))
               came;
           told =
               g.told
-              ∙ ap (λ (rs : List Record). g.passed ++ rs) (first ∙ ap (λ (ws : List (List ℕ)). e.«record» ∷ records_of ws) skips.same)
-              ∙ sym (append_assoc g.passed (e.«record» ∷ []) (records_of (words_of (drop next text))));
+              ∙ ap (λ (rs : List Record). g.passed ++ rs) (first ∙ ap (λ (ws : List (List ℕ)). e.0 ∷ records_of ws) skips.same)
+              ∙ sym (append_assoc g.passed (e.0 ∷ []) (records_of (words_of (drop next text))));
         }
 
   -- no word is left

@@ -12,7 +12,8 @@ use Rattle.lists.specs.Room.{filled}
 use Rattle.scte20.specs.declared.Record.{Record}
 use Rattle.scte20.specs.Value.{Content, blank, field_of, stored}
 use Rattle.listing.specs.Texts.{decimal, hex, line_feed, record_text, records_text, space}
-use Rattle.notation.specs.declared.Meant.{Meant}
+use Rattle.std.proofs.Common.{Option, Some}
+use Rattle.scte20.specs.declared.CaptionUnit.{CaptionUnit}
 use Rattle.notation.specs.Value.{InBytes, are_records, is_record, record_of, records_of, meant_if, meant_of, meant_words, unit_of, unit_text}
 use Rattle.notation.specs.Words.{words_of}
 use Rattle.notation.proofs.Cutting.{words-end}
@@ -85,16 +86,15 @@ module _ (c : Content) (reserved : c.reserved < 256) (flag : c.flag < 256) (z : 
       (byte_next c.flag flag 0x20 _ refl
       ∙ ap (λ (rest : List (List ℕ)). decimal c.flag ∷ rest) (decimal-next c.z z 0x20 (records_text c.records) refl))
 
-  pub listed-meant : meant_of (unit_text c) ≡ record { is_readable = true; unit = stored c }
+  pub listed-meant : meant_of (unit_text c) ≡ Some (stored c)
   listed-meant =
       ap meant_words text-words
       ∙ (λ i. meant_if
       (byte-is c.reserved reserved i && (byte-is c.flag flag i && (decimal-is c.z z i && lines_are c.records bytes i)))
       (unit_of (byte-value c.reserved reserved i) (byte-value c.flag flag i) (decimal-value c.z z i) (lines-records c.records bytes i)))
-      ∙ ap (λ (rs : List Record). record {
-        is_readable = true;
-        unit = record { reserved = c.reserved; vbi_data_flag = c.flag; n = length c.records; records = filled rs 31 blank; z = c.z };
-      }) (take_all 31 c.records few)
+      ∙ ap
+      (λ (rs : List Record). Some (record { reserved = c.reserved; vbi_data_flag = c.flag; n = length c.records; records = filled rs 31 blank; z = c.z }))
+      (take_all 31 c.records few)
 
-pub unit-determined : (text : List ℕ) (a b : Meant) → a ≡ meant_of text → b ≡ meant_of text → a ≡ b
+pub unit-determined : (text : List ℕ) (a b : Option CaptionUnit) → a ≡ meant_of text → b ≡ meant_of text → a ≡ b
 unit-determined text a b p q = p ∙ sym q

@@ -3,21 +3,21 @@
 -- How to read it: docs/NOTATION.md.
 -- Assumes nothing.
 use Prim.Native.Nat.{ℕ, ◌≤◌, ◌<◌}
-use mathlib.Core.Bool.{true}
 use mathlib.Core.List.{List}
 use mathlib.Core.Path.{◌≡◌}
 use lib.ListN.{length}
 use Rattle.lists.specs.Each.{Each}
+use Rattle.std.proofs.Common.{Option, Some}
+use Rattle.scte20.specs.declared.CaptionUnit.{CaptionUnit}
 use Rattle.scte20.specs.Value.{Content, stored}
-use Rattle.notation.specs.declared.Meant.{Meant}
 use Rattle.notation.specs.Value.{InBytes, unit_text, meant_of}
 use Rattle.notation.proofs.Listed as listed
 
 -- What `cclist` prints of a value's records, typed behind reserved, flag and z, tells that value.
 pub listed-meant : (c : Content) → c.reserved < 256 → c.flag < 256 → c.z < 1000000000 → length c.records ≤ 31
-    → Each InBytes c.records → meant_of (unit_text c) ≡ record { is_readable = true; unit = stored c }
+    → Each InBytes c.records → meant_of (unit_text c) ≡ Some (stored c)
 listed-meant = listed.listed-meant
 
 -- Two answers that keep the promise of `unit_of` are equal.
-pub unit-determined : (text : List ℕ) (a b : Meant) → a ≡ meant_of text → b ≡ meant_of text → a ≡ b
+pub unit-determined : (text : List ℕ) (a b : Option CaptionUnit) → a ≡ meant_of text → b ≡ meant_of text → a ≡ b
 unit-determined = listed.unit-determined

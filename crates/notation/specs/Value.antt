@@ -1,12 +1,11 @@
 -- The value that a text tells (RULES, "Programs", PR-2): three words for reserved, flag and z, then five for each
 -- record, as `cclist` prints them: priority, field and line in decimal, the two data bytes in hex.
-use Rattle.std.specs.Prelude.{ℕ, ◌+◌, ◌-◌, ◌*◌, ◌<◌, min, Bool, true, false, not, ◌&&◌, List, [], ◌∷◌, ◌++◌, ltb, length, take}
+use Rattle.std.specs.Prelude.{ℕ, ◌+◌, ◌-◌, ◌*◌, ◌<◌, min, Bool, true, false, not, ◌&&◌, List, [], ◌∷◌, ◌++◌, ltb, length, take, Option, Some, None}
 use Rattle.lists.specs.Room.{filled}
 use Rattle.scte20.specs.declared.Record.{Record}
 use Rattle.scte20.specs.declared.CaptionUnit.{CaptionUnit}
-use Rattle.scte20.specs.Value.{Content, blank, field_of, none, stored}
+use Rattle.scte20.specs.Value.{Content, blank, field_of}
 use Rattle.listing.specs.Texts.{decimal, records_text, space}
-use Rattle.notation.specs.declared.Meant.{Meant}
 use Rattle.notation.specs.Words.{words_of}
 
 -- a character from one to another
@@ -100,14 +99,15 @@ abbrev pub unit_of : ℕ → ℕ → ℕ → List Record → CaptionUnit
 unit_of reserved flag z rs =
     record { reserved = reserved; vbi_data_flag = flag; n = length rs; records = filled (take 31 rs) 31 blank; z = z }
 
-abbrev pub unreadable : Meant
-unreadable = record { is_readable = false; unit = stored none }
+-- what a text that cannot be read tells
+abbrev pub unreadable : Option CaptionUnit
+unreadable = None
 
-abbrev pub meant_if : Bool → CaptionUnit → Meant
-meant_if true u = record { is_readable = true; unit = u }
+abbrev pub meant_if : Bool → CaptionUnit → Option CaptionUnit
+meant_if true u = Some u
 meant_if false u = unreadable
 
-abbrev pub meant_words : List (List ℕ) → Meant
+abbrev pub meant_words : List (List ℕ) → Option CaptionUnit
 meant_words [] = unreadable
 meant_words (r ∷ []) = unreadable
 meant_words (r ∷ f ∷ []) = unreadable
@@ -115,7 +115,7 @@ meant_words (r ∷ f ∷ z ∷ words) =
     meant_if (is_decimal r && (is_decimal f && (is_decimal z && are_records words)))
     (unit_of (capped_byte_of r) (capped_byte_of f) (capped_of z) (records_of words))
 
-abbrev pub meant_of : List ℕ → Meant
+abbrev pub meant_of : List ℕ → Option CaptionUnit
 meant_of text = meant_words (words_of text)
 
 -- a value as it is typed: reserved, flag and z, then the lines that `cclist` prints of its records

@@ -1,110 +1,87 @@
 // Words that write a number.
-ghost use Rattle.std.specs.Prelude.{◌≡◌, false, ◌≤◌, min, length};
-ghost use Rattle.notation.specs.Inside.{ReadsNumber, ReadsByte, Takes, TakesByte};
+ghost use Rattle.std.specs.Prelude.{◌≡◌, ◌≤◌, length, min, not, ltb};
+ghost use Rattle.notation.specs.Inside.{TakesWord, told_if};
 ghost use Rattle.notation.specs.Value.{between, capped_of, hex_digit, hex_of, is_decimal, is_hex};
 
-use crate::{Number, Taken, words};
+use crate::words;
 
 // No number of a unit's value is as large: a larger one becomes this.
 const CAP: usize = 999_999_999;
 
-// The next word of a text from `at` on, in decimal.
-pub(crate) fn decimal_at(text: &[u8], at: usize) -> Taken
+// The next word of a text from `at` on, in decimal, and the first character behind it.
+pub(crate) fn decimal_at(text: &[u8], at: usize) -> Option<(usize, usize)>
     requires { at ≤ length text.now }
-    ensures { Takes is_decimal capped_of text.now at result }
+    ensures { TakesWord is_decimal capped_of text.now at result }
 {
     let word = words::next(text, at);
     let start = word.start;
     let end = word.end;
-    let number = decimal(&text[start..end]);
-    Taken {
-        is_readable: number.is_readable,
-        value: number.value,
-        end,
-    }
+    let value = decimal(&text[start..end])?;
+    Some((value, end))
 }
 
 // The same in hex.
-pub(crate) fn hex_at(text: &[u8], at: usize) -> Taken
+pub(crate) fn hex_at(text: &[u8], at: usize) -> Option<(u8, usize)>
     requires { at ≤ length text.now }
-    ensures { TakesByte is_hex hex_of text.now at result }
+    ensures { TakesWord is_hex hex_of text.now at result }
 {
     let word = words::next(text, at);
     let start = word.start;
     let end = word.end;
-    let number = hex(&text[start..end]);
-    Taken {
-        is_readable: number.is_readable,
-        value: number.value,
-        end,
-    }
+    let value = hex(&text[start..end])?;
+    Some((value, end))
 }
 
 // One digit or more.
-fn decimal(word: &[u8]) -> Number
-    ensures { ReadsNumber (is_decimal word.now) (capped_of word.now) result }
+fn decimal(word: &[u8]) -> Option<usize>
+    ensures { result ≡ told_if (is_decimal word.now) (capped_of word.now) }
 {
-    if word.len() < 1 {
-        return unread();
+    if word.is_empty() {
+        return None;
     }
     let mut value = 0;
-    let mut i = 0;
-    while i < word.len() {
-        let c = word[i];
-        if !between(b'0', b'9', c) {
-            return unread();
+    for c in word {
+        if !between(b'0', b'9', *c) {
+            return None;
         }
-        value = capped(value * 10 + (c - b'0') as usize);
-        i += 1;
+        value = capped(value * 10 + (*c - b'0') as usize);
     }
-    Number {
-        is_readable: true,
-        value,
-    }
+    Some(value)
 }
 
 // What is held of a number: a larger one becomes the cap.
 fn capped(n: usize) -> usize
     ensures { result ≡ min n 999999999 }
 {
-    if n < CAP { n } else { CAP }
+    n.min(CAP)
 }
 
 // Two hex digits.
-fn hex(word: &[u8]) -> Number
-    ensures { ReadsByte (is_hex word.now) (hex_of word.now) result }
+fn hex(word: &[u8]) -> Option<u8>
+    ensures { result ≡ told_if (is_hex word.now) (hex_of word.now) }
 {
     if word.len() != 2 {
-        return unread();
+        return None;
     }
-    let high = hex_digit(word[0]);
-    if 15 < high {
-        return unread();
-    }
-    let low = hex_digit(word[1]);
-    if 15 < low {
-        return unread();
-    }
-    Number {
-        is_readable: true,
-        value: (high * 16 + low) as usize,
-    }
+    let high = hex_digit(word[0])?;
+    let low = hex_digit(word[1])?;
+    Some(high * 16 + low)
 }
 
-// The value of a hex digit, and 16 of any other character.
-fn hex_digit(c: u8) -> u8
-    ensures { result ≡ hex_digit c }
+// The value of a hex digit. The definition has 16 for any other character.
+fn hex_digit(c: u8) -> Option<u8>
+    ensures { result ≡ told_if (not (ltb 15 (hex_digit c))) (hex_digit c) }
 {
     if between(b'0', b'9', c) {
-        return c - b'0';
+        return Some(c - b'0');
     }
     if between(b'A', b'F', c) {
-        return c - 0x37;
+        return Some(c - 0x37);
     }
     if between(b'a', b'f', c) {
-        return c - 0x57;
+        return Some(c - 0x57);
     }
-    16
+    None
 }
 
 // A character from one to another.
@@ -112,14 +89,4 @@ fn between(low: u8, high: u8, c: u8) -> bool
     ensures { result ≡ between low high c }
 {
     low <= c && c <= high
-}
-
-// No number.
-fn unread() -> Number
-    ensures { result ≡ record { is_readable = false; value = 0 } }
-{
-    Number {
-        is_readable: false,
-        value: 0,
-    }
 }

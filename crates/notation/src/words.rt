@@ -20,14 +20,12 @@ pub(crate) fn skipped(text: &[u8], at: usize) -> usize
     requires { at ≤ length text.now }
     ensures { Skips text.now at result }
 {
-    let mut i = at;
-    while i < text.len() {
+    for i in at..text.len() {
         if !is_space(text[i]) {
             return i;
         }
-        i += 1;
     }
-    i
+    text.len()
 }
 
 // The first character from `at` on that is a space, or the end.
@@ -35,14 +33,12 @@ fn ended(text: &[u8], at: usize) -> usize
     requires { at ≤ length text.now }
     ensures { EndsWord text.now at result }
 {
-    let mut i = at;
-    while i < text.len() {
+    for i in at..text.len() {
         if is_space(text[i]) {
             return i;
         }
-        i += 1;
     }
-    i
+    text.len()
 }
 
 fn is_space(c: u8) -> bool

@@ -10,8 +10,8 @@ use lib.Seq.{take_at}
 use Rattle.lists.specs.Bytes.{Bytes}
 use Rattle.lists.proofs.Each.{each_append, append-each}
 use Rattle.refusal.specs.declared.Refusal.{Refusal}
-use Rattle.refusal.specs.declared.Verdict.{Verdict}
-use Rattle.refusal.specs.declared.Verdict.TheVariants.{Accepted, Refused}
+use Rattle.refusal.specs.Verdict.{Verdict}
+use Rattle.refusal.specs.Verdict.{Accepted, Refused}
 use Rattle.refusal.specs.Checks.{first}
 use Rattle.refusal.specs.Numbers.{refusal_of}
 use Rattle.refusal.specs.Answers.{accepted, lent_of}

@@ -12,8 +12,8 @@ use Rattle.lists.specs.Each.{Each}
 use Rattle.lists.specs.Bytes.{Bytes}
 use Rattle.lists.specs.Flat.{taken}
 use Rattle.lists.proofs.FlatOf.{length_taken}
-use Rattle.refusal.specs.declared.Verdict.{Verdict}
-use Rattle.refusal.specs.declared.Verdict.TheVariants.{Accepted}
+use Rattle.refusal.specs.Verdict.{Verdict}
+use Rattle.refusal.specs.Verdict.{Accepted}
 use Rattle.refusal.specs.declared.Reason.TheVariants.{Ends, Unfixed}
 use Rattle.refusal.specs.declared.Fixed.TheVariants.{Identifier}
 use Rattle.refusal.specs.declared.Item.TheVariants.{Byte}

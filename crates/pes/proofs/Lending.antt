@@ -2,21 +2,23 @@
 -- Assumes nothing.
 use Prim.Native.Nat.{ℕ, ◌+◌, ◌-◌, ◌*◌, ◌/◌, ◌%◌, ◌≤◌, ◌<◌}
 use native.Mathlib.Omega.{arith}
-use mathlib.Core.Path.{◌≡◌, ◌∙◌, ap, sym, subst, refl}
+use mathlib.Core.Path.{◌≡◌, ◌∙◌, ap, ap₂, sym, subst, refl}
 use mathlib.Core.Logic.{⊎_elim}
 use mathlib.Core.Bool.{Bool, true, false}
 use mathlib.Core.List.{List, [], ◌∷◌, ◌++◌, map}
 use borrow.Author.Tests.{eq-eqb, ne_eqb, eqb-true, eqb-false}
+use borrow.Rule.Slice.PartMut.{put_mid}
 use lib.Dec.{eqb}
 use lib.ListN.{length, get_or, take, drop, replicate, length-map, length-drop}
 use lib.Seq.{length-take-le, take_at}
 use Rattle.lists.specs.Each.{Each}
 use Rattle.lists.specs.Bytes.{Bytes}
 use Rattle.lists.specs.Part.{part}
-use Rattle.lists.specs.Room.{filled, over}
+use Rattle.lists.specs.Room.{filled, over, over_at}
 use Rattle.lists.specs.Flat.{taken}
 use Rattle.lists.proofs.Each.{each-of, each_take, each-drop, each_map, each_append, each-replicate}
 use Rattle.lists.proofs.Fill.{length-filled}
+use Rattle.lists.proofs.Lay.{take-over, drop-over, over-over}
 use Rattle.lists.proofs.FlatOf.{length_taken, get_d-taken, length-flat, flat-taken, flat-whole, flat-filled, flat-over, taken-take, taken-flat, taken-each}
 use Rattle.bits.specs.Bits.{reversed}
 use Rattle.pes.specs.Value.{Teletext, DataUnit, DataField, teletext, stuffing, LegalUnit, Legal, Told, TypedUnit, Typed, blank, stored, held}
@@ -24,6 +26,15 @@ use Rattle.pes.specs.Layout.{layout_unit, layout_units, layout}
 use Rattle.pes.specs.Reading.{unit_of, read_unit}
 use Rattle.pes.specs.Lent.{unit_bytes, units_bytes, told_unit, unit_in, units_in, field_in}
 use Rattle.pes.proofs.Unit.{Sized, length-layout}
+
+-- a piece that fills a part of just its length, right behind what is laid at the front, is laid behind it
+pub laid-behind : (front piece out xs part : List ℕ) (a n : ℕ) → xs ≡ over front out → length front ≡ a → length piece ≡ n → part ≡ piece
+    → put_mid a n xs part ≡ over (front ++ piece) out
+laid-behind front piece out xs part a n e before long same =
+    ap₂ (λ (p : List ℕ) (k : ℕ). take a xs ++ (p ++ drop k (drop a xs))) same (sym long)
+    ∙ ap (over_at a piece) e
+    ∙ ap₂ (λ (f r : List ℕ). f ++ over piece r) (take-over front out a before) (drop-over front out a before)
+    ∙ over-over front piece out
 
 -- ONE UNIT
 

@@ -18,12 +18,11 @@ use Rattle.refusal.specs.declared.Misfit.TheVariants.{UnitLength}
 use Rattle.refusal.specs.declared.Item.{Item}
 use Rattle.refusal.specs.declared.Item.TheVariants.{Byte}
 use Rattle.refusal.specs.declared.Refusal.{Refusal}
-use Rattle.refusal.specs.declared.Verdict.{Verdict}
-use Rattle.refusal.specs.declared.Verdict.TheVariants.{Accepted}
-use Rattle.refusal.specs.Checks.{first}
+use Rattle.refusal.specs.Verdict.{Verdict}
+use Rattle.refusal.specs.Verdict.{Accepted}
+use Rattle.refusal.specs.Checks.{first, outside}
 use Rattle.refusal.specs.Numbers.{number_of, place_of}
 use Rattle.refusal.proofs.Checks.{refused-not-accepted, accepted-refuse_if, accepted-equal, accepted-within, accepted-and_then, accepted-all}
-use Rattle.refusal.proofs.Lines.{outside}
 use Rattle.refusal.proofs.Only.{Only, accepted-only, refused-only, refuse_if-only, and_then-only, told-only}
 use Rattle.pes.specs.declared.Head.{Head}
 use Rattle.pes.specs.Value.{DataField, LegalLine, Legal}
@@ -156,6 +155,7 @@ module _ (s : List ℕ) where
       (λ end. subst (Only Placed) (sym (behind-end s j end)) (accepted-only Placed))
 
   field-only : Only Placed (field_verdict s)
+  unfolding behind
   field-only =
       subst (Only Placed) (sym (field-parts s))
       (and_then-only Placed _ _ (refuse_if-only Placed (eqb (length s) 0) Ends (Byte 0) (λ e. empty_5 refl refl (eqb-true (length s) 0 e))) (λ some.
@@ -189,6 +189,7 @@ module _ (s : List ℕ) where
     each = accepted-all (parts s) (sym (field-parts s) ∙ e)
 
     whole : (i : ℕ) → unit_at i < length s → WholeAt i
+    unfolding behind
     whole i there = whole-at 31 0 refl each.1.1.0 i (omega arith) there
 
     -- it has all its bytes

@@ -14,8 +14,8 @@ use lib.Seq.{length-take-le, take_at}
 use Rattle.lists.specs.Each.{Each}
 use Rattle.lists.specs.Bytes.{Bytes}
 use Rattle.lists.proofs.Each.{each_take}
-use Rattle.refusal.specs.declared.Verdict.{Verdict}
-use Rattle.refusal.specs.declared.Verdict.TheVariants.{Accepted}
+use Rattle.refusal.specs.Verdict.{Verdict}
+use Rattle.refusal.specs.Verdict.{Accepted}
 use Rattle.refusal.specs.declared.Item.{Item}
 use Rattle.refusal.proofs.Checks.{accepted-refuse_if, refuse_if-accepted, accepted-all, all-accepted, accepted-equal, accepted-within}
 use Rattle.refusal.proofs.Lines.{not-outside, among-inside}

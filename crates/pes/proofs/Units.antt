@@ -12,7 +12,7 @@ use Rattle.lists.specs.Bytes.{Bytes}
 use Rattle.lists.specs.Flat.{taken}
 use Rattle.lists.proofs.Each.{each-drop, each_map}
 use Rattle.lists.proofs.FlatOf.{length-flat, flat-taken}
-use Rattle.refusal.specs.declared.Verdict.TheVariants.{Accepted, Refused}
+use Rattle.refusal.specs.Verdict.{Accepted, Refused}
 use Rattle.refusal.specs.declared.Reason.TheVariants.{SurplusUnit}
 use Rattle.refusal.specs.declared.Item.TheVariants.{Byte}
 use Rattle.refusal.specs.Checks.{and_then}

@@ -11,16 +11,15 @@ use lib.Dec.{eqb, ltb}
 use lib.ListN.{length}
 use Rattle.lists.specs.Room.{over}
 use Rattle.refusal.specs.declared.Refusal.{Refusal}
-use Rattle.refusal.specs.declared.Verdict.{Verdict}
+use Rattle.refusal.specs.Verdict.{Verdict}
 use Rattle.refusal.specs.declared.Reason.TheVariants.{NoRoom, Unholdable, UnitLine}
 use Rattle.refusal.specs.declared.Excess.TheVariants.{Count, DataIdentifier, DataUnitId, FieldParity, LineOffset}
 use Rattle.refusal.specs.declared.Item.TheVariants.{Whole}
 use Rattle.refusal.specs.declared.Written.{Written}
-use Rattle.refusal.specs.Checks.{refuse_if, and_then, first}
+use Rattle.refusal.specs.Checks.{refuse_if, and_then, first, outside}
 use Rattle.refusal.specs.Numbers.{refusal_of}
 use Rattle.refusal.specs.Answers.{refused, written}
 use Rattle.refusal.proofs.Gives.{Gives, refuse_if-gives, and_then-gives, each-gives, all-gives, refused-gives, gives_as, Unplaced, refused-unplaced, gives-unplaced}
-use Rattle.refusal.proofs.Lines.{outside}
 use Rattle.refusal.proofs.Outputs.{wrote-refusal, wrote-accepted, accepted-wrote, success-left, refusal-left}
 use Rattle.pes.specs.Value.{DataUnit, teletext, stuffing, Told, LegalTold, held}
 use Rattle.pes.specs.Layout.{layout}

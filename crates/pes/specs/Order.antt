@@ -1,8 +1,8 @@
 -- RULES, "Order of checks", for the data field: all checks of reading and of writing, each of the input alone, in the
 -- order of RULES. Reading and writing give the first that finds a fault.
 use Rattle.std.specs.Prelude.{ℕ, zero, suc, ◌+◌, ◌/◌, ◌%◌, Bool, true, false, not, ◌&&◌, ◌||◌, List, [], ◌∷◌, ◌++◌, eqb, ltb, length, get_or, drop}
-use Rattle.refusal.specs.declared.Verdict.{Verdict}
-use Rattle.refusal.specs.declared.Verdict.TheVariants.{Refused}
+use Rattle.refusal.specs.Verdict.{Verdict}
+use Rattle.refusal.specs.Verdict.{Refused}
 use Rattle.refusal.specs.declared.Reason.TheVariants.{Ends, Unfixed, UnknownUnit, SurplusUnit, UnitLine, Unfit, NoRoom, Unholdable}
 use Rattle.refusal.specs.declared.Fixed.TheVariants.{Identifier, UnitReserved, UnitFraming}
 use Rattle.refusal.specs.declared.Misfit.TheVariants.{UnitLength}

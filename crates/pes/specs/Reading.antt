@@ -4,7 +4,7 @@
 use Rattle.std.specs.Prelude.{ℕ, ◌-◌, ◌/◌, ◌%◌, Bool, true, false, List, map, eqb, length, get_or, drop}
 use Rattle.lists.specs.Part.{part}
 use Rattle.lists.specs.Flat.{taken}
-use Rattle.refusal.specs.declared.Verdict.{Verdict}
+use Rattle.refusal.specs.Verdict.{Verdict}
 use Rattle.refusal.specs.declared.Item.{Item}
 use Rattle.refusal.specs.Checks.{first}
 use Rattle.bits.specs.Bits.{reversed}

@@ -1,7 +1,7 @@
 -- What writing a PES data field answers, and what the lent output then holds, for every value and output. RULES, "Order
 -- of checks": 15 of data_identifier and of n; unit by unit 15, then 7; 14.
 use Rattle.std.specs.Prelude.{ℕ, List, map, length}
-use Rattle.refusal.specs.declared.Verdict.{Verdict}
+use Rattle.refusal.specs.Verdict.{Verdict}
 use Rattle.refusal.specs.declared.Written.{Written}
 use Rattle.refusal.specs.Checks.{first}
 use Rattle.refusal.specs.Answers.{Wrote}

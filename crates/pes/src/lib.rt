@@ -25,7 +25,7 @@ pub const FRAMING_CODE: u8 = 0xE4;
 
 pub const STUFFING_ID: u8 = 0xFF;
 
-// What `pes_reader::read_into` answers: data_identifier and how many units follow it, or a refusal and zeros.
+// What `pes_reader::read_into` answers: data_identifier and how many units follow it, or a refusal and zeros. No Result: C is given it as it stands.
 #[repr(C)]
 #[derive(Clone, Copy)]
 pub struct Head {
@@ -38,34 +38,19 @@ pub struct Head {
 pub fn is_teletext(id: u8) -> bool
     ensures { result ≡ teletext_id id }
 {
-    if id == 0x02 {
-        return true;
-    }
-    id == 0x03
+    id == 0x02 || id == 0x03
 }
 
 // Whether a data_unit_id is that of teletext or of stuffing.
 pub fn is_known(id: u8) -> bool
     ensures { result ≡ known_id id }
 {
-    if is_teletext(id) {
-        return true;
-    }
-    id == STUFFING_ID
+    is_teletext(id) || id == STUFFING_ID
 }
 
 // 7 of a line_offset.
 pub fn judge_line(line: u8, item: Item) -> Verdict
     ensures { result ≡ line_verdict item line }
 {
-    if line == 0 {
-        return Verdict::Accepted;
-    }
-    if line < 7 {
-        return Verdict::Refused(Reason::UnitLine, item);
-    }
-    if 22 < line {
-        return Verdict::Refused(Reason::UnitLine, item);
-    }
-    Verdict::Accepted
+    refusal::judge_line::<7>(line, Reason::UnitLine, item)
 }

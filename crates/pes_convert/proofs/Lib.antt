@@ -1,6 +1,5 @@
 pub mod Full
 pub mod Judged
-pub mod Stored
 pub mod Packets
 pub mod Units
 pub mod Lines
@@ -10,3 +9,4 @@ pub mod Values
 pub mod Legal
 pub mod Determined
 pub mod Theorems
+pub mod Walked

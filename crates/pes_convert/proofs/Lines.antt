@@ -9,14 +9,13 @@ use lib.ListN.{get_or}
 use Rattle.lists.specs.Each.{Each}
 use Rattle.lists.proofs.Each.{each-of, each_at}
 use Rattle.refusal.specs.declared.Refusal.{Refusal}
-use Rattle.refusal.specs.declared.Verdict.{Verdict}
-use Rattle.refusal.specs.declared.Verdict.TheVariants.{Accepted}
+use Rattle.refusal.specs.Verdict.{Verdict}
+use Rattle.refusal.specs.Verdict.{Accepted}
 use Rattle.refusal.specs.declared.Reason.TheVariants.{UnitLine}
 use Rattle.refusal.specs.declared.Item.TheVariants.{Whole}
-use Rattle.refusal.specs.Checks.{first}
+use Rattle.refusal.specs.Checks.{first, outside}
 use Rattle.refusal.specs.Answers.{refused}
 use Rattle.refusal.proofs.Checks.{accepted-and_then, and_then-accepted}
-use Rattle.refusal.proofs.Lines.{outside}
 use Rattle.refusal.proofs.Gives.{Gives, refuse_if-gives, and_then-gives}
 use Rattle.sdp.specs.Value.{SlotRow, Sdp, Legal, LegalSlot, empty_row, LegalLine as PacketLine}
 use Rattle.pes.specs.Value.{LegalLine}

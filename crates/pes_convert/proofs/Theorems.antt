@@ -20,7 +20,7 @@ use Rattle.lists.specs.Part.{part}
 use Rattle.lists.specs.Sum.{sum}
 use Rattle.lists.specs.Room.{over}
 use Rattle.refusal.specs.declared.Written.{Written}
-use Rattle.refusal.specs.declared.Verdict.{Verdict}
+use Rattle.refusal.specs.Verdict.{Verdict}
 use Rattle.refusal.specs.Checks.{first}
 use Rattle.refusal.specs.Numbers.{refusal_of}
 use Rattle.refusal.specs.Answers.{accepted, refused, written}

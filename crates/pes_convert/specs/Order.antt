@@ -1,7 +1,7 @@
 -- RULES, "Order of checks", for the conversion: all its checks as one list, and which values a data field carries.
 use Rattle.std.specs.Prelude.{ℕ, ◌≤◌, ◌≡◌, List, [], ◌∷◌, ◌++◌, ltb, length}
 use Rattle.lists.specs.Each.{Each}
-use Rattle.refusal.specs.declared.Verdict.{Verdict}
+use Rattle.refusal.specs.Verdict.{Verdict}
 use Rattle.refusal.specs.declared.Reason.TheVariants.{NoRoom}
 use Rattle.refusal.specs.declared.Item.TheVariants.{Whole}
 use Rattle.refusal.specs.Checks.{refuse_if}

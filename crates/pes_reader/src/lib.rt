@@ -12,15 +12,15 @@ ghost use Rattle.pes.specs.Reading.{read_unit};
 ghost use Rattle.pes.specs.Lent.{unit_bytes, units_bytes, ReadsInto};
 
 use pes::{Head, LENT_UNIT, LENT_UNITS, STUFFING_ID, UNIT_BYTES};
-use refusal::Verdict;
+use refusal::{Refusal, Verdict};
 
 // Reads a data field, its units into a lent array, which a refusal leaves as it is.
 pub fn read_into(s: &[u8], units: &mut [u8; LENT_UNITS]) -> Head
     ensures { ReadsInto s.now units.old result units.new }
 {
     let verdict = pes_judge::judge(s);
-    let refusal = refusal::told(verdict);
-    if let Verdict::Refused(_, _) = verdict {
+    let refusal = Refusal::from(verdict);
+    if verdict.is_err() {
         return Head {
             refusal,
             data_identifier: 0,
@@ -53,10 +53,8 @@ fn put_units(s: &[u8], n: usize, units: &mut [u8])
     ensures { units.new ≡ over (units_bytes (taken read_unit 46 n s.now)) units.old }
 {
     let table = bits::reversed_bytes();
-    let mut i = 0;
-    while i < n {
+    for i in 0..n {
         put_unit(&s[UNIT_BYTES * i..], &table, &mut units[LENT_UNIT * i..]);
-        i += 1;
     }
 }
 
@@ -69,7 +67,7 @@ fn put_unit(u: &[u8], table: &[u8; 256], out: &mut [u8])
 {
     out[0] = u[0];
     if u[0] == STUFFING_ID {
-        lists::copy(&u[2..46], &mut out[1..45]);
+        out[1..45].copy_from_slice(&u[2..46]);
         return;
     }
     out[1] = u[2] / 32 % 2;

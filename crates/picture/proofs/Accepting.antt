@@ -5,8 +5,8 @@ use mathlib.Core.Path.{◌≡◌, ◌∙◌, ap, sym, subst, refl}
 use mathlib.Core.Logic.{◌↔◌}
 use mathlib.Core.List.{List, [], ◌∷◌}
 use Rattle.refusal.specs.declared.Refusal.{Refusal}
-use Rattle.refusal.specs.declared.Verdict.{Verdict}
-use Rattle.refusal.specs.declared.Verdict.TheVariants.{Accepted, Refused}
+use Rattle.refusal.specs.Verdict.{Verdict}
+use Rattle.refusal.specs.Verdict.{Accepted, Refused}
 use Rattle.refusal.specs.Numbers.{refusal_of}
 use Rattle.refusal.specs.Checks.{first}
 use Rattle.refusal.proofs.Acceptance.{told-accepted}

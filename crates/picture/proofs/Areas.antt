@@ -10,8 +10,8 @@ use Rattle.lists.specs.Each.{Each}
 use Rattle.lists.specs.Bytes.{Bytes}
 use Rattle.lists.specs.Part.{part}
 use Rattle.lists.proofs.Each.{each_both, each_map, each_append, append-each}
-use Rattle.refusal.specs.declared.Verdict.{Verdict}
-use Rattle.refusal.specs.declared.Verdict.TheVariants.{Accepted, Refused}
+use Rattle.refusal.specs.Verdict.{Verdict}
+use Rattle.refusal.specs.Verdict.{Accepted, Refused}
 use Rattle.refusal.specs.declared.Reason.TheVariants.{SecondUnit}
 use Rattle.refusal.specs.declared.Item.TheVariants.{Whole}
 use Rattle.refusal.proofs.Checks.{refused-not-accepted}

@@ -13,7 +13,7 @@ use Rattle.refusal.specs.declared.Reason.{Reason}
 use Rattle.refusal.specs.declared.Reason.TheVariants.{TooLong, NoRoom}
 use Rattle.refusal.specs.declared.Item.{Item}
 use Rattle.refusal.specs.declared.Item.TheVariants.{Whole}
-use Rattle.refusal.specs.declared.Verdict.TheVariants.{Accepted, Refused}
+use Rattle.refusal.specs.Verdict.{Accepted, Refused}
 use Rattle.refusal.specs.Numbers.{refusal_of}
 use Rattle.refusal.specs.Checks.{first}
 use Rattle.refusal.specs.Answers.{refused, AtBit}
@@ -178,6 +178,11 @@ cleared Ga94 = ga94-lending.lent-filled [] (omega arith)
 pub lent-unit : (k : Kind) (u : CaptionUnit k) → room_of k u ≡ 31 → unit_in k (numbers_of k u) (bytes_of k u) ≡ u
 lent-unit Scte20 u e = scte20-lending.lent-unit u e
 lent-unit Ga94 u e = ga94-lending.lent-unit u e
+
+-- a lent array is a list of bytes, so that the value it tells is one of the code's
+pub lent-typed : (k : Kind) (v : Numbers k) (s : List ℕ) → Bytes s → length s ≡ places k → Typed k (unit_in k v s)
+lent-typed Scte20 v s bytes e = scte20-lending.lent-typed v s bytes e
+lent-typed Ga94 v s bytes e = ga94-lending.lent-typed v s bytes e
 
 pub legal-few : (k : Kind) (v : Numbers k) (s : List ℕ) → LegalCaptionUnit k (unit_in k v s) → count k v ≤ 31
 legal-few Scte20 v s h = h.few

@@ -9,7 +9,7 @@ use lib.ListN.{length, get_or, take, length-append, get_or-append}
 use Rattle.lists.specs.Each.{Each}
 use Rattle.lists.specs.Bytes.{Bytes}
 use Rattle.lists.proofs.Each.{each_append, each_both}
-use Rattle.refusal.specs.declared.Verdict.TheVariants.{Accepted}
+use Rattle.refusal.specs.Verdict.{Accepted}
 use Rattle.refusal.specs.declared.Written.{Written}
 use Rattle.refusal.specs.Answers.{refused}
 use Rattle.kind.specs.declared.Kind.{Kind}

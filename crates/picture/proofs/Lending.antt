@@ -1,5 +1,6 @@
 -- What `read_into` answers and leaves in the lent array, by what was found; and that `read`'s answer is made of it.
 -- Assumes nothing.
+use Rattle.std.specs.Prelude.{Ok, Err}
 use Prim.Native.Nat.{ℕ, ◌+◌}
 use mathlib.Core.Path.{◌≡◌, ◌∙◌, ap, ap₂, sym, refl}
 use mathlib.Core.Bool.{false}
@@ -7,19 +8,33 @@ use mathlib.Core.List.{List, [], ◌∷◌}
 use lib.ListN.{replicate}
 use Rattle.lists.specs.Bytes.{Bytes}
 use Rattle.lists.specs.Part.{part}
-use Rattle.refusal.specs.declared.Verdict.{Verdict}
-use Rattle.refusal.specs.declared.Verdict.TheVariants.{Accepted, Refused}
-use Rattle.refusal.specs.Answers.{lent_of}
+use Rattle.refusal.specs.Verdict.{Verdict}
+use Rattle.refusal.specs.Verdict.{Accepted, Refused}
+use Rattle.refusal.specs.Answers.{Judged, verdict_of, judged_as, lent_of}
+use Rattle.refusal.proofs.Outputs.{judged-verdict}
 use Rattle.refusal.specs.Numbers.{refusal_of}
 use Rattle.units.specs.declared.Found.{Found}
 use Rattle.units.specs.declared.Found.TheVariants as found
 use Rattle.kind.specs.declared.Kind.{Kind}
-use Rattle.picture.specs.Kinds.{Content, none, content_verdict, value_of, CaptionUnit, stored, places, unit_in, numbers_of, bytes_of}
+use Rattle.picture.specs.Kinds.{Content, Numbers, none, content_verdict, value_of, CaptionUnit, stored, places, unit_in, numbers_of, bytes_of}
 use Rattle.picture.specs.Value.{Area, uncaptioned, captioned, Legal}
 use Rattle.picture.specs.Reading.{placed, captions_in, found_verdict, area_verdict, found_content, Answer, answer_of, read_of, shown}
+use Rattle.picture.specs.Inside.{ReadsContent}
 use Rattle.picture.specs.Lent.{Head, head_of, ReadsInto}
 use Rattle.picture.proofs.Contents.{room_of, stored-room, none-room, cleared, lent-unit}
 use Rattle.picture.proofs.Areas.{accepted-back}
+
+-- WHAT A KIND'S READER ANSWERS
+
+module _ (k : Kind) {body lent : List ℕ} {r : Judged (Numbers k)} {exit : List ℕ} (p : ReadsContent k body lent r exit) where
+  pub content-told : content_verdict k body ≡ verdict_of r
+  content-told = sym (ap verdict_of p.answer ∙ judged-verdict (content_verdict k body) (numbers_of k (stored k (value_of k body))))
+
+  pub content-value : (v : Numbers k) → r ≡ Ok v → v ≡ numbers_of k (stored k (value_of k body))
+  content-value v e =
+      let numbers = numbers_of k (stored k (value_of k body)) in
+      let placed : Judged (Numbers k) → Numbers k = elim [ Ok x ↦ x | Err why ↦ v ] in
+      ap placed (sym e ∙ p.answer ∙ ap (λ (w : Verdict). judged_as w numbers) (content-told ∙ ap verdict_of e))
 
 module _ (k : Kind) where
   -- an answer without a caption unit

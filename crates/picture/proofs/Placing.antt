@@ -10,8 +10,8 @@ use Rattle.lists.specs.Part.{part}
 use Rattle.lists.proofs.Part.{length_part}
 use Rattle.refusal.specs.declared.Reason.{Reason}
 use Rattle.refusal.specs.declared.Item.{Item}
-use Rattle.refusal.specs.declared.Verdict.{Verdict}
-use Rattle.refusal.specs.declared.Verdict.TheVariants.{Accepted, Refused}
+use Rattle.refusal.specs.Verdict.{Verdict}
+use Rattle.refusal.specs.Verdict.{Accepted, Refused}
 use Rattle.units.specs.declared.Found.TheVariants as found
 use Rattle.units.proofs.Splits.{length-around}
 use Rattle.units.proofs.Spans.{Alone, found_at}

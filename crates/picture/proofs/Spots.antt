@@ -1,22 +1,25 @@
 -- Where an area is accepted, a new caption unit has a place in it, and `replace` keeps its promise as `exchange` does there.
 -- Assumes nothing.
+use Rattle.std.specs.Prelude.{Ok, Err}
 use Prim.Native.Nat.{ℕ, ◌≤◌}
 use native.Mathlib.Omega.{arith}
 use mathlib.Core.Path.{◌≡◌, ◌∙◌, ap, ap₂, sym, subst, refl}
 use mathlib.Core.List.{List, ◌++◌, append-nil}
 use lib.ListN.{length}
+use Rattle.lists.specs.Bytes.{Bytes}
 use lib.Seq.{take-length, drop-length}
 use Rattle.refusal.specs.declared.Reason.TheVariants.{SecondUnit}
 use Rattle.refusal.specs.declared.Item.TheVariants.{Whole}
-use Rattle.refusal.specs.declared.Refusal.{Refusal}
-use Rattle.refusal.specs.declared.Verdict.{Verdict}
-use Rattle.refusal.specs.declared.Verdict.TheVariants.{Accepted}
+use Rattle.refusal.specs.declared.Reason.{Reason}
+use Rattle.refusal.specs.declared.Item.{Item}
+use Rattle.refusal.specs.Verdict.{Verdict}
+use Rattle.refusal.specs.Verdict.{Accepted}
 use Rattle.refusal.specs.declared.Written.{Written}
 use Rattle.refusal.specs.Numbers.{refusal_of}
 use Rattle.refusal.specs.Checks.{and_then}
-use Rattle.refusal.specs.Answers.{Wrote}
-use Rattle.refusal.proofs.Checks.{refused-not-accepted, and_then-refused}
-use Rattle.refusal.proofs.Outputs.{wrote_nothing}
+use Rattle.refusal.specs.Answers.{Wrote, Judged, verdict_of, judged_as}
+use Rattle.refusal.proofs.Outputs.{judged-verdict}
+use Rattle.refusal.proofs.Checks.{refused-not-accepted}
 use Rattle.units.specs.declared.Found.{Found}
 use Rattle.units.specs.declared.Found.TheVariants.{NotUnits, Nowhere, At, Many}
 use Rattle.units.proofs.Spans.{nowhere-exactly}
@@ -25,7 +28,7 @@ use Rattle.picture.specs.declared.Spot.{Spot}
 use Rattle.kind.specs.Ours.{ours}
 use Rattle.picture.specs.Kinds.{CaptionUnit, held, write_verdict}
 use Rattle.picture.specs.Reading.{captions_in, found_verdict, area_verdict}
-use Rattle.picture.specs.Inside.{spot_of}
+use Rattle.picture.specs.Inside.{spot_of, ReadsOld}
 use Rattle.around.specs.Around.{exchanged}
 use Rattle.picture.specs.Writing.{unit_bytes, replaced_in, replaced_of, replace_verdict}
 use Rattle.picture.proofs.Placing.{unit-within}
@@ -46,6 +49,32 @@ module _ (k : Kind) where
   pub spot-within : (s : List ℕ) → area_verdict k s ≡ Accepted → Within s (spot_of (captions_in k s) (length s))
   spot-within s ok = found_within s (captions_in k s) refl ok
 
+  -- what such an answer tells of the area
+  pub old-told : (s : List ℕ) (r : Judged Spot) → ReadsOld k s r → area_verdict k s ≡ verdict_of r
+  old-told s r old = sym (ap verdict_of old.answer ∙ judged-verdict (area_verdict k s) (spot_of (captions_in k s) (length s)))
+
+  pub old-spot : (s : List ℕ) (spot : Spot) → ReadsOld k s (Ok spot) → spot ≡ spot_of (captions_in k s) (length s)
+  old-spot s spot old =
+      let placed : Judged Spot → Spot = elim [ Ok p ↦ p | Err why ↦ spot ] in
+      ap placed (old.answer ∙ ap (λ (v : Verdict). judged_as v (spot_of (captions_in k s) (length s))) (old-told s (Ok spot) old))
+
+  -- what is answered of an area that is to be changed, by what was found
+  module _ (s : List ℕ) (bytes : Bytes s) (f : Found) (same : captions_in k s ≡ f) where
+    pub old-refused : (why : Reason × Item) (r : Judged Spot) → r ≡ Err why → found_verdict k f s ≡ Err why → ReadsOld k s r
+    old-refused why r refused told =
+        let all : area_verdict k s ≡ Err why = ap (λ (f : Found). found_verdict k f s) same ∙ told in
+        record { bytes = bytes; answer = refused ∙ ap (λ (v : Verdict). judged_as v (spot_of (captions_in k s) (length s))) (sym all) }
+
+    pub old-placed : (spot : Spot) → spot ≡ spot_of f (length s) → found_verdict k f s ≡ Accepted → ReadsOld k s (Ok spot)
+    old-placed spot placed told =
+        let all : area_verdict k s ≡ Accepted = ap (λ (f : Found). found_verdict k f s) same ∙ told in
+        record {
+          bytes = bytes;
+          answer =
+              ap Ok (placed ∙ ap (λ (f : Found). spot_of f (length s)) (sym same))
+              ∙ ap (λ (v : Verdict). judged_as v (spot_of (captions_in k s) (length s))) (sym all);
+        }
+
   -- what is exchanged there is what is replaced
   found-replaced : (s new : List ℕ) (f : Found) → found_verdict k f s ≡ Accepted
       → exchanged s (spot_of f (length s)).start (spot_of f (length s)).end new ≡ replaced_in f s new
@@ -56,15 +85,11 @@ module _ (k : Kind) where
 
   module _ (s : List ℕ) (u : CaptionUnit k) (out : List ℕ) where
     -- the area's own refusal comes first, and nothing was stored
-    pub replace-refused : (refusal : Refusal) → refusal ≡ refusal_of (area_verdict k s) → (refusal.number ≡ 0 → ⊥)
-        → Wrote (replace_verdict k s u (length out)) (replaced_of k s (held k u)) out (record { refusal = refusal; len = 0 }) out
-    replace-refused refusal told h =
-        let verdict = replace_verdict k s u (length out) in
-        let number : area_verdict k s ≡ Accepted → ⊥ = λ e. h (ap (λ (r : Refusal). r.number) (told ∙ ap refusal_of e)) in
-        let first : verdict ≡ area_verdict k s = and_then-refused (area_verdict k s) (write_verdict k u (length (replaced_of k s (held k u))) (length out)) number in
-        let same : refusal_of verdict ≡ refusal = ap refusal_of first ∙ sym told in
-        subst (λ (r : Refusal). Wrote verdict (replaced_of k s (held k u)) out (record { refusal = r; len = 0 }) out) same
-        (wrote_nothing verdict (replaced_of k s (held k u)) out (λ e. h (sym (ap (λ (r : Refusal). r.number) same) ∙ e)))
+    pub replace-refused : (why : Reason × Item) → area_verdict k s ≡ Err why → (answer : Written) → answer ≡ record { refusal = refusal_of (Err why); len = 0 }
+        → Wrote (replace_verdict k s u (length out)) (replaced_of k s (held k u)) out answer out
+    replace-refused (reason, item) told answer refused =
+        subst (λ (v : Verdict). Wrote (and_then v (write_verdict k u (length (replaced_of k s (held k u))) (length out))) (replaced_of k s (held k u)) out answer out) (sym told)
+        (record { counted = refused; left = refl })
 
     -- an area that is accepted leaves it to the exchange
     pub replace-accepted : (answer : Written) (exit : List ℕ) (spot : Spot) → area_verdict k s ≡ Accepted → spot ≡ spot_of (captions_in k s) (length s)

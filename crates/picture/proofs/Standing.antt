@@ -17,8 +17,8 @@ use Rattle.refusal.specs.declared.Reason.TheVariants.{TooLong, NoStart, StartCod
 use Rattle.refusal.specs.declared.Item.{Item}
 use Rattle.refusal.specs.declared.Item.TheVariants.{Whole}
 use Rattle.refusal.specs.declared.Refusal.{Refusal}
-use Rattle.refusal.specs.declared.Verdict.{Verdict}
-use Rattle.refusal.specs.declared.Verdict.TheVariants.{Accepted, Refused}
+use Rattle.refusal.specs.Verdict.{Verdict}
+use Rattle.refusal.specs.Verdict.{Accepted, Refused}
 use Rattle.refusal.specs.Numbers.{number_of, refusal_of}
 use Rattle.refusal.specs.Answers.{AtBit}
 use Rattle.refusal.proofs.Checks.{both_hold, refused-not-accepted}

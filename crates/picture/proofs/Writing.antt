@@ -8,7 +8,7 @@ use mathlib.Core.List.{List, [], append-nil}
 use lib.ListN.{length, take}
 use Rattle.lists.specs.Room.{over}
 use Rattle.refusal.specs.declared.Refusal.{Refusal}
-use Rattle.refusal.specs.declared.Verdict.TheVariants.{Accepted}
+use Rattle.refusal.specs.Verdict.{Accepted}
 use Rattle.refusal.specs.declared.Written.{Written}
 use Rattle.refusal.specs.Numbers.{refusal_of}
 use Rattle.refusal.specs.Checks.{first}

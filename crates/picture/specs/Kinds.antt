@@ -2,7 +2,7 @@
 -- once, over the kind.
 use Rattle.std.specs.Prelude.{ℕ, List}
 use Rattle.refusal.specs.declared.Refusal.{Refusal}
-use Rattle.refusal.specs.declared.Verdict.{Verdict}
+use Rattle.refusal.specs.Verdict.{Verdict}
 use Rattle.bits.specs.Bits.{bits_of}
 use Rattle.kind.specs.declared.Kind.{Kind}
 use Rattle.kind.specs.declared.Kind.TheVariants.{Scte20, Ga94}

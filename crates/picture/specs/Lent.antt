@@ -6,8 +6,9 @@ use Rattle.refusal.specs.Answers.{lent_of}
 use Rattle.kind.specs.declared.Kind.{Kind}
 use Rattle.kind.specs.declared.Kind.TheVariants.{Scte20, Ga94}
 use Rattle.picture.specs.declared.Answer as scte20-answer
-use Rattle.picture.specs.declared.Head as scte20-head
-use Rattle.picture.specs.declared.Ga94Head.{Ga94Head}
+use Rattle.picture.specs.declared.Head as code
+use Rattle.scte20.specs.declared.Numbers as scte20-numbers
+use Rattle.ga94.specs.declared.Numbers as ga94-numbers
 use Rattle.picture.specs.Kinds.{Numbers, numbers_of, bytes_of}
 use Rattle.picture.specs.Reading.{area_verdict, Answer, read_of}
 
@@ -31,8 +32,11 @@ pub record ReadsInto (k : Kind) (s lent : List ℕ) (r : Head k) (exit : List �
 abbrev pub answered : scte20-answer.Answer → Answer Scte20
 answered r = record { refusal = r.refusal; present = r.present; unit = r.unit }
 
-abbrev pub headed : scte20-head.Head → Head Scte20
-headed r = record { refusal = r.refusal; present = r.present; numbers = r.numbers }
+abbrev pub headed_by : {k : Kind} → {T : Type 0} → (T → Numbers k) → code.Head T → Head k
+headed_by told r = record { refusal = r.refusal; present = r.present; numbers = told r.numbers }
 
-abbrev pub ga94_headed : Ga94Head → Head Ga94
-ga94_headed r = record { refusal = r.refusal; present = r.present; numbers = r.numbers }
+abbrev pub headed : code.Head scte20-numbers.Numbers → Head Scte20
+headed r = headed_by (λ v. v) r
+
+abbrev pub ga94_headed : code.Head ga94-numbers.Numbers → Head Ga94
+ga94_headed r = headed_by (λ v. v) r

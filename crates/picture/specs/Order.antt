@@ -2,7 +2,7 @@
 -- of the input alone, in the order of RULES. The checks of a caption unit's body, and those of a value, are listed in
 -- crates `scte20` and `ga94`.
 use Rattle.std.specs.Prelude.{ℕ, ◌+◌, not, ◌&&◌, List, [], ◌∷◌, ◌++◌, map, ltb, length, drop}
-use Rattle.refusal.specs.declared.Verdict.{Verdict}
+use Rattle.refusal.specs.Verdict.{Verdict}
 use Rattle.refusal.specs.declared.Reason.TheVariants.{TooLong, NoStart, StartCode, SecondUnit}
 use Rattle.refusal.specs.declared.Item.TheVariants.{Whole}
 use Rattle.refusal.specs.Checks.{refuse_if}

@@ -2,7 +2,7 @@
 -- every value, area and output. RULES, "Picture area", "GA94" and "Order of checks".
 use Rattle.std.specs.Prelude.{ℕ, List, ◌++◌, length}
 use Rattle.lists.specs.Bytes.{Bytes}
-use Rattle.refusal.specs.declared.Verdict.{Verdict}
+use Rattle.refusal.specs.Verdict.{Verdict}
 use Rattle.refusal.specs.declared.Written.{Written}
 use Rattle.refusal.specs.Checks.{and_then}
 use Rattle.refusal.specs.Answers.{Wrote}

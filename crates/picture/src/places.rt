@@ -11,15 +11,12 @@ use units::{Found, START_BYTES};
 pub(crate) fn spot_of(found: Found, len: usize) -> Spot
     ensures { result ≡ spot_of found len }
 {
-    let behind = Spot {
-        start: len,
-        end: len,
-    };
     match found {
         Found::At { unit, end } => Spot { start: unit, end },
-        Found::Nowhere => behind,
-        Found::NotUnits(_, _) => behind,
-        Found::Many(_) => behind,
+        Found::Nowhere | Found::NotUnits(_, _) | Found::Many(_) => Spot {
+            start: len,
+            end: len,
+        },
     }
 }
 
@@ -29,9 +26,10 @@ pub(crate) fn placed_verdict(unit: usize, verdict: Verdict) -> Verdict
     requires near_verdict { NearVerdict verdict }
     ensures { result ≡ placed_of unit verdict }
 {
+    // A match: a closure for map_err would repeat both of the clauses above.
     match verdict {
-        Verdict::Accepted => verdict,
-        Verdict::Refused(reason, item) => Verdict::Refused(reason, placed(unit, item)),
+        Ok(()) => verdict,
+        Err((reason, item)) => Err((reason, placed(unit, item))),
     }
 }
 
@@ -46,10 +44,10 @@ pub(crate) fn placed(unit: usize, item: Item) -> Item
             unit,
             bit: 8 * (unit + START_BYTES) + bit,
         },
-        Item::Whole => item,
-        Item::Body { unit: _, bit: _ } => item,
-        Item::Word(_) => item,
-        Item::Byte(_) => item,
-        Item::Length(_) => item,
+        Item::Whole
+        | Item::Body { unit: _, bit: _ }
+        | Item::Word(_)
+        | Item::Byte(_)
+        | Item::Length(_) => item,
     }
 }

@@ -3,10 +3,7 @@
 // Each function answers whether all of it was written, and stops at the first write that was not.
 #![tactic(auto)]
 
-ghost use Rattle.std.specs.Prelude.{◌≡◌, ◌%◌};
-ghost use Rattle.print.specs.Digits.{digit_of};
-
-use refusal::{Item, Reason, Refusal, Verdict};
+use refusal::{Item, Reason, Refusal};
 use std::io::{Cursor, Stderr, Stdout, Write};
 use std::{io, str};
 
@@ -20,31 +17,20 @@ pub fn decimal(out: Stdout, n: u64) -> io::Result<()> {
 
 // A byte as two upper-case hex digits.
 pub fn hex(out: Stdout, b: u8) -> io::Result<()> {
-    let digits = [digit(b / 16), digit(b)];
-    text(out, &digits)
+    print!(out; "{b:02X}")
 }
 
 // A refusal and a line feed.
 pub fn refused(out: Stdout, r: Refusal) -> io::Result<()> {
-    text(out, b"refused ")?;
-    decimal(out, r.number as u64)?;
-    text(out, b" at ")?;
-    decimal(out, r.place as u64)?;
-    text(out, b"\n")
+    println!(out; "{r}")
 }
 
 // The refusal of input that is longer than its carriage allows: the place is its length.
 pub fn too_long(out: Stdout, length: usize) -> io::Result<()> {
-    let verdict = Verdict::Refused(Reason::TooLong, Item::Length(length));
-    refused(out, refusal::told(verdict))
-}
-
-// The character of the hex digit that d is, modulo 16.
-fn digit(d: u8) -> u8
-    ensures { result ≡ digit_of (d % 16) }
-{
-    let n = d % 16;
-    if n < 10 { b'0' + n } else { b'A' + (n - 10) }
+    refused(
+        out,
+        Refusal::from(Err((Reason::TooLong, Item::Length(length)))),
+    )
 }
 
 // What failed, to standard error: its name, a colon and why, as the system says it.
@@ -53,19 +39,12 @@ pub fn failed(err: Stderr, what: &str, why: io::Error) -> io::Result<()> {
     let mut to = Cursor::new(&mut words[..]);
     write!(to, "{why}")?;
     let len = (to.position() as usize).min(words.len());
-    let said = match str::from_utf8(&words[..len]) {
-        Ok(said) => without_number(said),
-        Err(_) => "",
-    };
-    err.print(what)?;
-    err.print(": ")?;
-    err.println(said)
+    let said = str::from_utf8(&words[..len]).map_or("", without_number);
+    println!(err; "{what}: {said}")
 }
 
 // The system's words without the number that the library puts behind them.
 fn without_number(said: &str) -> &str {
-    match said.split_once(" (os error ") {
-        Some((words, _)) => words,
-        None => said,
-    }
+    said.split_once(" (os error ")
+        .map_or(said, |(words, _)| words)
 }

@@ -11,29 +11,22 @@ use Rattle.lists.specs.Each.{Each}
 use Rattle.lists.proofs.Each.{each_append, append-each}
 use Rattle.reel.specs.Cut.{pieces, cut, joined, Sized}
 
--- the smaller of two numbers, as the code takes it
-abbrev pub least : ℕ → ℕ → ℕ
-least a b = a - (a - b)
-
-min-least : (a b : ℕ) → min a b ≡ least a b
-min-least a b = omega arith
-
 module _ {A : Type 0} where
   -- taking more than there is takes all
-  take-least : (k : ℕ) (xs : List A) → take k xs ≡ take (least k (length xs)) xs
-  take-least zero xs = let none : 0 ≡ least 0 (length xs) = omega arith in ap (λ (n : ℕ). take n xs) none
-  take-least (suc k) [] = sym (take-nil (least (suc k) 0))
+  take-least : (k : ℕ) (xs : List A) → take k xs ≡ take (min k (length xs)) xs
+  take-least zero xs = let none : 0 ≡ min 0 (length xs) = omega arith in ap (λ (n : ℕ). take n xs) none
+  take-least (suc k) [] = sym (take-nil (min (suc k) 0))
   take-least (suc k) (x ∷ xs) =
-      let m = least k (length xs) in
-      let far : suc m ≡ least (suc k) (suc (length xs)) = omega arith in
+      let m = min k (length xs) in
+      let far : suc m ≡ min (suc k) (suc (length xs)) = omega arith in
       ap (λ (rest : List A). x ∷ rest) (take-least k xs) ∙ ap (λ (n : ℕ). take n (x ∷ xs)) far
 
-  drop-least : (k : ℕ) (xs : List A) → drop k xs ≡ drop (least k (length xs)) xs
-  drop-least zero xs = let none : 0 ≡ least 0 (length xs) = omega arith in ap (λ (n : ℕ). drop n xs) none
-  drop-least (suc k) [] = sym (drop-nil (least (suc k) 0))
+  drop-least : (k : ℕ) (xs : List A) → drop k xs ≡ drop (min k (length xs)) xs
+  drop-least zero xs = let none : 0 ≡ min 0 (length xs) = omega arith in ap (λ (n : ℕ). drop n xs) none
+  drop-least (suc k) [] = sym (drop-nil (min (suc k) 0))
   drop-least (suc k) (x ∷ xs) =
-      let m = least k (length xs) in
-      let far : suc m ≡ least (suc k) (suc (length xs)) = omega arith in
+      let m = min k (length xs) in
+      let far : suc m ≡ min (suc k) (suc (length xs)) = omega arith in
       drop-least k xs ∙ ap (λ (n : ℕ). drop n (x ∷ xs)) far
 
   none : (most size : ℕ) → ◌≡◌ {A = List (List A)} (pieces most size []) []
@@ -62,7 +55,7 @@ module _ {A : Type 0} where
         (enough (length xs) (length (drop size (x ∷ xs))) (drop size (x ∷ xs)) (shorter x xs) (omega arith))
 
     -- the same with the count of the first piece as the code has it,
-    cut-least : (xs : List A) (m : ℕ) → 0 < length xs → m ≡ least size (length xs) → cut size xs ≡ take m xs ∷ cut size (drop m xs)
+    pub cut-least : (xs : List A) (m : ℕ) → 0 < length xs → m ≡ min size (length xs) → cut size xs ≡ take m xs ∷ cut size (drop m xs)
     cut-least [] m h e = let f : ⊥ = omega arith in absurd f
     cut-least (x ∷ xs) m h e =
         let short = sym e in
@@ -72,12 +65,12 @@ module _ {A : Type 0} where
         (drop-least size (x ∷ xs) ∙ ap (λ (n : ℕ). drop n (x ∷ xs)) short)
 
     -- and from an index on
-    pub cut-next : (xs : List A) (i m : ℕ) → i < length xs → m ≡ least size (length xs - i)
+    pub cut-next : (xs : List A) (i m : ℕ) → i < length xs → m ≡ min size (length xs - i)
         → cut size (drop i xs) ≡ take m (drop i xs) ∷ cut size (drop (i + m) xs)
     cut-next xs i m h e =
         let count = length-drop i xs in
         let left : 0 < length (drop i xs) = omega arith in
-        let few : m ≡ least size (length (drop i xs)) = omega arith in
+        let few : m ≡ min size (length (drop i xs)) = omega arith in
         cut-least (drop i xs) m left few ∙ ap (λ (rest : List A). take m (drop i xs) ∷ cut size rest) (drop-drop m i xs)
 
     -- the pieces joined are the list
@@ -112,8 +105,8 @@ module _ {A : Type 0} where
             let front = length-take size all in
             let back = length-drop size all in
             let less = shorter x xs in
-            joint f (take size all) (drop size all) (omega (arith, min-least size (length all))) (omega (arith, min-least size (length all)))
-            (λ more. omega (arith, min-least size (length all)))
+            joint f (take size all) (drop size all) (omega arith) (omega arith)
+            (λ more. omega arith)
             (omega arith)
             (sized-from f (drop size all) (omega arith))
 
@@ -124,13 +117,13 @@ module _ {A : Type 0} where
     cut-only ((x ∷ xs) ∷ []) h =
         let all = joined ((x ∷ xs) ∷ []) in
         let long : length all ≡ suc (length xs) = simp length-append (omega arith) in
-        let few : suc (length xs) ≡ least size (length all) = omega (arith, h.1) in
+        let few : suc (length xs) ≡ min size (length all) = omega (arith, h.1) in
         cut-least all (suc (length xs)) (omega arith) few
         ∙ ap₂ (λ (piece rest : List A). piece ∷ cut size rest) (take_at (x ∷ xs) [] (suc (length xs)) refl) (drop_at (x ∷ xs) [] (suc (length xs)) refl)
     cut-only (p ∷ q ∷ ps) h =
         let rest = joined (q ∷ ps) in
         let long : length (p ++ rest) ≡ length p + length rest = length-append p rest in
-        let few : size ≡ least size (length (p ++ rest)) = omega (arith, h.0) in
+        let few : size ≡ min size (length (p ++ rest)) = omega (arith, h.0) in
         cut-least (p ++ rest) size (omega (arith, h.0)) few
         ∙ ap₂ (λ (piece left : List A). piece ∷ cut size left) (take_at p rest size h.0) (drop_at p rest size h.0)
         ∙ ap (λ (pieces : List (List A)). p ∷ pieces) (cut-only (q ∷ ps) h.1)

@@ -1,6 +1,6 @@
 -- What the checks of a reel say, payload after payload.
 -- Assumes nothing.
-use Prim.Native.Nat.{ℕ, ◌+◌, ◌-◌, ◌*◌, ◌/◌, ◌%◌, ◌≤◌, ◌<◌}
+use Prim.Native.Nat.{ℕ, ◌+◌, ◌-◌, ◌*◌, ◌/◌, ◌%◌, ◌≤◌, ◌<◌, min}
 use native.Mathlib.Omega.{arith}
 use mathlib.Core.Path.{◌≡◌, ◌∙◌, ap, ap₂, sym, refl}
 use mathlib.Core.Bool.{Bool, true, false, not}
@@ -10,8 +10,8 @@ use lib.Dec.{eqb, ltb}
 use lib.ListN.{length, take, drop, length-drop, drop_of_length-le}
 use lib.Seq.{length-take-le}
 use Rattle.lists.proofs.Flat.{length_taken}
-use Rattle.refusal.specs.declared.Verdict.{Verdict}
-use Rattle.refusal.specs.declared.Verdict.TheVariants.{Accepted, Refused}
+use Rattle.refusal.specs.Verdict.{Verdict}
+use Rattle.refusal.specs.Verdict.{Accepted, Refused}
 use Rattle.refusal.specs.declared.Reason.TheVariants.{Unholdable}
 use Rattle.refusal.specs.declared.Excess.TheVariants.{PayloadSize, RunLength}
 use Rattle.refusal.specs.declared.Item.TheVariants.{Whole}
@@ -31,7 +31,7 @@ use Rattle.line21.proofs.Numbers.{verdict-same}
 use Rattle.reel.specs.Cut.{cut}
 use Rattle.reel.specs.Writing.{payload, reel, reel_layout, size_verdict, reel_verdict, call_verdict}
 use Rattle.reel.specs.Lent.{run_verdict}
-use Rattle.reel.proofs.Cutting.{least, cut-next}
+use Rattle.reel.proofs.Cutting.{cut-next}
 
 -- the size is let through exactly where it is 1 to 291
 pub accepted-size : (size : ℕ) → size_verdict size ≡ Accepted → (1 ≤ size) × (size ≤ 291)
@@ -100,7 +100,7 @@ accepted-run flags size s room e =
     }
 
 -- no flags byte is refused
-same_flags : (f g : ℕ) (ps : List (List AccessUnit)) (room : ℕ) → reel_verdict (map (payload f) ps) room ≡ reel_verdict (map (payload g) ps) room
+pub same_flags : (f g : ℕ) (ps : List (List AccessUnit)) (room : ℕ) → reel_verdict (map (payload f) ps) room ≡ reel_verdict (map (payload g) ps) room
 same_flags f g [] room = refl
 same_flags f g (us ∷ ps) room =
     ap₂ and_then
@@ -121,7 +121,7 @@ module _ (flags size : ℕ) (some : 1 ≤ size) (few : size ≤ 291) (s : List �
   units : length run ≡ length s / 7
   units = length_taken access_unit_in 7 (length s / 7) s
 
-  module _ (i m : ℕ) (below : i < length s / 7) (next : m ≡ least size (length s / 7 - i)) where
+  module _ (i m : ℕ) (below : i < length s / 7) (next : m ≡ min size (length s / 7 - i)) where
     abbrev piece : List AccessUnit
     piece = take m (drop i run)
 

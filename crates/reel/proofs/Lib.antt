@@ -1,6 +1,7 @@
 pub mod Cutting
 pub mod Judging
-pub mod UnitByUnit
+pub mod Chunks
+pub mod LentChunks
 pub mod Writing
 pub mod Fitting
 pub mod Single

@@ -10,7 +10,7 @@ use Rattle.refusal.specs.declared.Refusal.{Refusal}
 use Rattle.refusal.specs.declared.Reason.TheVariants.{Unholdable}
 use Rattle.refusal.specs.declared.Excess.TheVariants.{PayloadSize}
 use Rattle.refusal.specs.declared.Item.TheVariants.{Whole}
-use Rattle.refusal.specs.declared.Verdict.{Verdict}
+use Rattle.refusal.specs.Verdict.{Verdict}
 use Rattle.refusal.specs.declared.Written.{Written}
 use Rattle.refusal.specs.Checks.{refuse_if, and_then, first}
 use Rattle.refusal.specs.Numbers.{refusal_of}

@@ -10,8 +10,8 @@ use Rattle.lists.specs.Room.{over}
 use Rattle.lists.proofs.Each.{each_append, each-replicate, each_map, each_both}
 use Rattle.lists.proofs.Lay.{take-over, drop-over, over-over}
 use Rattle.refusal.specs.declared.Refusal.{Refusal}
-use Rattle.refusal.specs.declared.Verdict.{Verdict}
-use Rattle.refusal.specs.declared.Verdict.TheVariants.{Accepted, Refused}
+use Rattle.refusal.specs.Verdict.{Verdict}
+use Rattle.refusal.specs.Verdict.{Accepted, Refused}
 use Rattle.refusal.specs.declared.Written.{Written}
 use Rattle.refusal.specs.Checks.{and_then}
 use Rattle.refusal.specs.Numbers.{refusal_of}

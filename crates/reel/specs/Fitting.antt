@@ -1,6 +1,6 @@
 -- Whether a run fits its output, told by its count of units alone, and whether all its checks are passed. RULES, "Reel".
 use Rattle.std.specs.Prelude.{ℕ, ◌≤◌, ◌≡◌, Bool, true, ◌↔◌, List, length}
-use Rattle.refusal.specs.declared.Verdict.TheVariants.{Accepted}
+use Rattle.refusal.specs.Verdict.{Accepted}
 use Rattle.line21.specs.declared.AccessUnit.{AccessUnit}
 use Rattle.line21.specs.Lent.{run_in}
 use Rattle.reel.specs.Writing.{reel, reel_layout, reel_verdict}

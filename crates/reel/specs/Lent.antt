@@ -1,8 +1,8 @@
 -- Writing a reel of a run that is lent as bytes, seven for each unit.
 use Rattle.std.specs.Prelude.{ℕ, ◌%◌, ◌≡◌, not, List, [], ◌∷◌, eqb, length}
 use Rattle.lists.specs.Bytes.{Bytes}
-use Rattle.refusal.specs.declared.Verdict.{Verdict}
-use Rattle.refusal.specs.declared.Verdict.TheVariants.{Refused}
+use Rattle.refusal.specs.Verdict.{Verdict}
+use Rattle.refusal.specs.Verdict.{Refused}
 use Rattle.refusal.specs.declared.Reason.TheVariants.{Unholdable}
 use Rattle.refusal.specs.declared.Excess.TheVariants.{RunLength}
 use Rattle.refusal.specs.declared.Item.TheVariants.{Whole}

@@ -1,6 +1,6 @@
 -- RULES, "Order of checks", for the reel: all checks of writing, each of the input alone, in the order of RULES.
 use Rattle.std.specs.Prelude.{ℕ, ◌-◌, List, [], ◌∷◌, ◌++◌, eqb, ltb, length}
-use Rattle.refusal.specs.declared.Verdict.{Verdict}
+use Rattle.refusal.specs.Verdict.{Verdict}
 use Rattle.refusal.specs.declared.Reason.TheVariants.{Unholdable}
 use Rattle.refusal.specs.declared.Excess.TheVariants.{PayloadSize}
 use Rattle.refusal.specs.declared.Item.TheVariants.{Whole}

@@ -3,8 +3,8 @@
 use Rattle.std.specs.Prelude.{ℕ, ◌-◌, ◌<◌, List, [], ◌∷◌, map, eqb, ltb, length}
 use Rattle.lists.specs.Each.{Each}
 use Rattle.lists.specs.Flat.{flat}
-use Rattle.refusal.specs.declared.Verdict.{Verdict}
-use Rattle.refusal.specs.declared.Verdict.TheVariants.{Accepted}
+use Rattle.refusal.specs.Verdict.{Verdict}
+use Rattle.refusal.specs.Verdict.{Accepted}
 use Rattle.refusal.specs.declared.Reason.TheVariants.{Unholdable}
 use Rattle.refusal.specs.declared.Excess.TheVariants.{PayloadSize}
 use Rattle.refusal.specs.declared.Item.TheVariants.{Whole}

@@ -15,13 +15,10 @@ use refusal::{Excess, Item, Reason, Verdict};
 pub fn judge_size(size: usize) -> Verdict
     ensures { result ≡ size_verdict size }
 {
-    if size == 0 {
-        return Verdict::Refused(Reason::Unholdable(Excess::PayloadSize), Item::Whole);
+    if size == 0 || MAX_UNITS < size {
+        return Err((Reason::Unholdable(Excess::PayloadSize), Item::Whole));
     }
-    if MAX_UNITS < size {
-        return Verdict::Refused(Reason::Unholdable(Excess::PayloadSize), Item::Whole);
-    }
-    Verdict::Accepted
+    Ok(())
 }
 
 // RULES, "Order of checks": 15 of the size, 15 of a run that ends within a unit, then each payload's own checks in its
@@ -29,63 +26,35 @@ pub fn judge_size(size: usize) -> Verdict
 pub fn judge_reel(size: usize, units: &[u8], room: usize) -> Verdict
     ensures { result ≡ run_verdict 0 size units.now room }
 {
-    let sized = judge_size(size);
-    if let Verdict::Refused(_, _) = sized {
-        return sized;
-    }
+    judge_size(size)?;
     if units.len() % LENT_UNIT != 0 {
-        return Verdict::Refused(Reason::Unholdable(Excess::RunLength), Item::Whole);
+        return Err((Reason::Unholdable(Excess::RunLength), Item::Whole));
     }
     if passes(size, units, room) {
-        return Verdict::Accepted;
+        return Ok(());
     }
-    let n = units.len() / LENT_UNIT;
     let mut left = room;
-    let mut i = 0;
-    while i < n {
-        let m = least(size, n - i);
-        let verdict = line21_judge::judge_value(m, &units[LENT_UNIT * i..], left);
-        if let Verdict::Refused(_, _) = verdict {
-            return verdict;
-        }
+    for payload in units.chunks(LENT_UNIT * size) {
+        let m = payload.len() / LENT_UNIT;
+        line21_judge::judge_value(m, payload, left)?;
         left -= 1 + UNIT_BYTES * m;
-        i += m;
     }
-    Verdict::Accepted
+    Ok(())
 }
 
 // Whether no check is failed. After a no, the checks in their order tell which is.
 fn passes(size: usize, units: &[u8], room: usize) -> bool
     ensures { Vouches size units.now room result }
 {
-    if fits(size, units.len() / LENT_UNIT, room) {
-        return line21_judge::all_hold(units);
-    }
-    false
+    fits(size, units.len() / LENT_UNIT, room) && line21_judge::all_hold(units)
 }
 
 // Whether n units fit the room: five bytes each, and a flags byte for each payload.
 pub fn fits(size: usize, n: usize, room: usize) -> bool
     ensures { Fits size n room result }
 {
-    if size == 0 {
+    if size == 0 || room / UNIT_BYTES < n {
         return false;
     }
-    if n == 0 {
-        return true;
-    }
-    if room / UNIT_BYTES < n {
-        return false;
-    }
-    (n - 1) / size < room - UNIT_BYTES * n
-}
-
-// The smaller of two numbers.
-pub fn least(a: usize, b: usize) -> usize
-    ensures { result ≡ a - (a - b) }
-{
-    if a < b {
-        return a;
-    }
-    b
+    n == 0 || (n - 1) / size < room - UNIT_BYTES * n
 }

@@ -1,6 +1,6 @@
 -- What writing a reel of a slice of access unit structs means. RULES, "Reel".
 use Rattle.std.specs.Prelude.{ℕ, ◌<◌, List, []}
-use Rattle.refusal.specs.declared.Verdict.TheVariants.{Refused}
+use Rattle.refusal.specs.Verdict.{Refused}
 use Rattle.refusal.specs.declared.Reason.TheVariants.{Unholdable}
 use Rattle.refusal.specs.declared.Excess.TheVariants.{FlagsByte}
 use Rattle.refusal.specs.declared.Item.TheVariants.{Whole}

@@ -6,8 +6,8 @@ use mathlib.Core.Bool.{Bool, true, false}
 use Rattle.refusal.specs.declared.Reason.{Reason}
 use Rattle.refusal.specs.declared.Item.{Item}
 use Rattle.refusal.specs.declared.Item.TheVariants.{Bit}
-use Rattle.refusal.specs.declared.Verdict.{Verdict}
-use Rattle.refusal.specs.declared.Verdict.TheVariants.{Accepted, Refused}
+use Rattle.refusal.specs.Verdict.{Verdict}
+use Rattle.refusal.specs.Verdict.{Accepted, Refused}
 use Rattle.refusal.specs.Numbers.{number_of, place_of, refusal_of}
 use Rattle.refusal.specs.Checks.{refuse_if, and_then}
 use Rattle.refusal.specs.Answers.{AtBit}

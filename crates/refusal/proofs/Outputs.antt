@@ -6,11 +6,11 @@ use mathlib.Core.List.{List}
 use lib.ListN.{length}
 use Rattle.lists.specs.Room.{over}
 use Rattle.refusal.specs.declared.Refusal.{Refusal}
-use Rattle.refusal.specs.declared.Verdict.{Verdict}
-use Rattle.refusal.specs.declared.Verdict.TheVariants.{Accepted, Refused}
+use Rattle.refusal.specs.Verdict.{Verdict}
+use Rattle.refusal.specs.Verdict.{Accepted, Refused}
 use Rattle.refusal.specs.declared.Written.{Written}
 use Rattle.refusal.specs.Numbers.{refusal_of}
-use Rattle.refusal.specs.Answers.{written, counted_of, left_of, Wrote, lent_of, laid_of, body_left}
+use Rattle.refusal.specs.Answers.{written, counted_of, left_of, Wrote, lent_of, verdict_of, len_of, judged_as, laid_of, body_left}
 use Rattle.refusal.proofs.Acceptance.{told-accepted}
 use Rattle.refusal.proofs.Checks.{refused-not-accepted}
 
@@ -22,12 +22,15 @@ refused-left : (verdict : Verdict) (laid out : List ℕ) → ((counted_of verdic
 refused-left Accepted laid out h = absurd (h refl)
 refused-left (Refused reason item) laid out h = (refl, refl)
 
--- what the verdict makes of the answer of a body's writer, and of what it leaves
-pub laid-verdict : (verdict : Verdict) (laid : List ℕ) → (laid_of verdict laid).verdict ≡ verdict
-laid-verdict Accepted laid = refl
-laid-verdict (Refused reason item) laid = refl
+-- what the verdict makes of an answer, of that of a body's writer, and of what this leaves
+pub judged-verdict : {A : Type 0} (verdict : Verdict) (value : A) → verdict_of (judged_as verdict value) ≡ verdict
+judged-verdict Accepted value = refl
+judged-verdict (Refused reason item) value = refl
 
-pub refused-laid : (verdict : Verdict) (at : ℕ) (laid out : List ℕ) → (verdict ≡ Accepted → ⊥) → ((laid_of verdict laid).len ≡ 0) × (body_left verdict at laid out ≡ out)
+pub laid-verdict : (verdict : Verdict) (laid : List ℕ) → verdict_of (laid_of verdict laid) ≡ verdict
+laid-verdict verdict laid = judged-verdict verdict (length laid)
+
+pub refused-laid : (verdict : Verdict) (at : ℕ) (laid out : List ℕ) → (verdict ≡ Accepted → ⊥) → (len_of (laid_of verdict laid) ≡ 0) × (body_left verdict at laid out ≡ out)
 refused-laid Accepted at laid out h = absurd (h refl)
 refused-laid (Refused reason item) at laid out h = (refl, refl)
 

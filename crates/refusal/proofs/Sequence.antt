@@ -3,8 +3,8 @@
 use mathlib.Core.Path.{◌≡◌, ◌∙◌, ap, sym, refl}
 use mathlib.Core.List.{List, [], ◌∷◌, ◌++◌, map}
 use Rattle.lists.specs.Each.{Each}
-use Rattle.refusal.specs.declared.Verdict.{Verdict}
-use Rattle.refusal.specs.declared.Verdict.TheVariants.{Accepted, Refused}
+use Rattle.refusal.specs.Verdict.{Verdict}
+use Rattle.refusal.specs.Verdict.{Accepted, Refused}
 use Rattle.refusal.specs.Checks.{and_then, first}
 use Rattle.refusal.specs.Order.{each_of}
 use Rattle.refusal.proofs.Checks.{and_then-assoc, and_then-refused}

@@ -6,11 +6,11 @@ use Prim.Native.Nat.{ℕ, ◌+◌}
 use mathlib.Core.Path.{◌≡◌}
 use Rattle.refusal.specs.declared.Reason.{Reason}
 use Rattle.refusal.specs.declared.Item.{Item}
-use Rattle.refusal.specs.declared.Verdict.{Verdict}
-use Rattle.refusal.specs.declared.Verdict.TheVariants.{Accepted}
+use Rattle.refusal.specs.Verdict.{Verdict}
+use Rattle.refusal.specs.Verdict.{Accepted}
 use Rattle.refusal.specs.declared.Refusal.{Refusal}
 use Rattle.refusal.specs.Numbers.{number_of, place_of, refusal_of}
-use Rattle.refusal.specs.Checks.{fit_verdict}
+use Rattle.refusal.specs.Checks.{fit_verdict, line_verdict}
 use Rattle.refusal.proofs.Acceptance as acceptance
 use Rattle.refusal.proofs.Determined as determined
 
@@ -32,3 +32,7 @@ told-determined = determined.told-determined
 pub judge-fit-determined : (limit before body after room : ℕ) (a b : Verdict)
     → a ≡ fit_verdict limit (before + body + after) room → b ≡ fit_verdict limit (before + body + after) room → a ≡ b
 judge-fit-determined = determined.judge-fit-determined
+
+pub judge-line-determined : (low : ℕ) (reason : Reason) (item : Item) (line : ℕ) (a b : Verdict)
+    → a ≡ line_verdict low reason item line → b ≡ line_verdict low reason item line → a ≡ b
+judge-line-determined = determined.judge-line-determined

@@ -1,15 +1,14 @@
 -- RULES, "Refusals": what a call answers, and what a writer's lent output then holds. A success changes only what it
 -- counts as written, at the front; a refusal leaves the output as it was and counts nothing.
-use Rattle.std.specs.Prelude.{ℕ, ◌≤◌, ◌≡◌, List, length}
+use Rattle.std.specs.Prelude.{ℕ, ◌≤◌, ◌≡◌, List, length, Result, Ok, Err}
 use Rattle.lists.specs.Room.{over, over_at}
 use Rattle.refusal.specs.declared.Reason.{Reason}
 use Rattle.refusal.specs.declared.Item.{Item}
 use Rattle.refusal.specs.declared.Item.TheVariants.{Bit}
-use Rattle.refusal.specs.declared.Verdict.{Verdict}
-use Rattle.refusal.specs.declared.Verdict.TheVariants.{Accepted, Refused}
+use Rattle.refusal.specs.Verdict.{Verdict}
+use Rattle.refusal.specs.Verdict.{Accepted, Refused}
 use Rattle.refusal.specs.declared.Refusal.{Refusal}
 use Rattle.refusal.specs.declared.Written.{Written}
-use Rattle.refusal.specs.declared.Laid.{Laid}
 use Rattle.refusal.specs.Numbers.{number_of, refusal_of}
 
 -- accepted: number and place 0
@@ -42,11 +41,33 @@ abbrev pub lent_of : {A : Type 0} → Verdict → List A → List A → List A
 lent_of Accepted new lent = new
 lent_of (Refused reason item) new lent = lent
 
+-- what a call answers that may refuse: its value, or why it refuses and what failed
+abbrev pub Judged : Type 0 → Type 0
+Judged A = Result A (Reason × Item)
+
+-- the verdict that such an answer tells
+abbrev pub verdict_of : {A : Type 0} → Judged A → Verdict
+verdict_of (Ok value) = Accepted
+verdict_of (Err why) = Err why
+
+-- and how many bytes it counts: none where it refuses
+abbrev pub len_of : Judged ℕ → ℕ
+len_of (Ok len) = len
+len_of (Err why) = 0
+
+-- what a writer tells of it
+abbrev pub written_of : Judged ℕ → Written
+written_of judged = record { refusal = refusal_of (verdict_of judged); len = len_of judged }
+
+-- the answer of a call that has this verdict, and this value where it accepts
+abbrev pub judged_as : {A : Type 0} → Verdict → A → Judged A
+judged_as Accepted value = Ok value
+judged_as (Refused reason item) value = Err ((reason, item))
+
 -- what a writer of a unit's body answers, and what it leaves in the output, from index `at` on: a refusal counts
 -- nothing and leaves the output as it was
-abbrev pub laid_of : Verdict → List ℕ → Laid
-laid_of Accepted laid = record { verdict = Accepted; len = length laid }
-laid_of (Refused reason item) laid = record { verdict = Refused reason item; len = 0 }
+abbrev pub laid_of : Verdict → List ℕ → Judged ℕ
+laid_of verdict laid = judged_as verdict (length laid)
 
 abbrev pub body_left : Verdict → ℕ → List ℕ → List ℕ → List ℕ
 body_left Accepted at laid out = over_at at laid out

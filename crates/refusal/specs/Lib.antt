@@ -1,3 +1,4 @@
+pub mod Verdict
 pub mod Numbers
 pub mod Checks
 pub mod Answers

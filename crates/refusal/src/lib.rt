@@ -6,7 +6,10 @@
 
 ghost use Rattle.std.specs.Prelude.{◌≡◌, ◌+◌};
 ghost use Rattle.refusal.specs.Numbers.{fixed_number, number_of, place_of, refusal_of};
-ghost use Rattle.refusal.specs.Checks.{fit_verdict};
+ghost use Rattle.refusal.specs.Answers.{written_of};
+ghost use Rattle.refusal.specs.Checks.{fit_verdict, line_verdict};
+
+use std::fmt;
 
 // Which fixed bit, byte or word is another.
 #[derive(Clone, Copy)]
@@ -151,12 +154,11 @@ pub enum Item {
     Length(usize),
 }
 
+// What a call answers that may refuse: its value, or why it refuses and what failed.
+pub type Judged<T> = Result<T, (Reason, Item)>;
+
 // What the checks of one call found.
-#[derive(Clone, Copy)]
-pub enum Verdict {
-    Accepted,
-    Refused(Reason, Item),
-}
+pub type Verdict = Judged<()>;
 
 // What a caller is told: number and place, both 0 where the call is accepted.
 #[repr(C)]
@@ -166,18 +168,19 @@ pub struct Refusal {
     pub place: usize,
 }
 
+// As the programs print it.
+impl fmt::Display for Refusal {
+    fn fmt<W: fmt::Write>(&self, f: &mut fmt::Formatter<W>) -> fmt::Result {
+        let Refusal { number, place } = *self;
+        write!(f, "refused {number} at {place}")
+    }
+}
+
 // What a writer tells: a refusal, or how many bytes or words it wrote at the front of its output.
 #[repr(C)]
 #[derive(Clone, Copy)]
 pub struct Written {
     pub refusal: Refusal,
-    pub len: usize,
-}
-
-// What a writer of a unit's body answers: the verdict, and how many bytes the body has, 0 where it refuses.
-#[derive(Clone, Copy)]
-pub struct Laid {
-    pub verdict: Verdict,
     pub len: usize,
 }
 
@@ -249,18 +252,38 @@ pub fn place(item: Item) -> usize
 }
 
 // The refusal that a verdict is to a caller.
-pub fn told(verdict: Verdict) -> Refusal
-    ensures { result ≡ refusal_of verdict }
-{
-    match verdict {
-        Verdict::Accepted => Refusal {
-            number: 0,
-            place: 0,
-        },
-        Verdict::Refused(reason, item) => Refusal {
-            number: number(reason),
-            place: place(item),
-        },
+impl From<Verdict> for Refusal {
+    ghost from_gives = { λ verdict told. told ≡ refusal_of verdict };
+
+    fn from(verdict: Verdict) -> Refusal {
+        match verdict {
+            Ok(()) => Refusal {
+                number: 0,
+                place: 0,
+            },
+            Err((reason, item)) => Refusal {
+                number: number(reason),
+                place: place(item),
+            },
+        }
+    }
+}
+
+// What a writer tells a caller of how many it wrote, or of why it refused.
+impl From<Judged<usize>> for Written {
+    ghost from_gives = { λ judged told. told ≡ written_of judged };
+
+    fn from(judged: Judged<usize>) -> Written {
+        match judged {
+            Ok(len) => Written {
+                refusal: Refusal::from(Ok(())),
+                len,
+            },
+            Err(why) => Written {
+                refusal: Refusal::from(Err(why)),
+                len: 0,
+            },
+        }
     }
 }
 
@@ -270,16 +293,29 @@ pub fn judge_fit(limit: usize, before: usize, body: usize, after: usize, room: u
 {
     // Each is compared with what is left of the limit, so that no sum is too large to hold.
     if limit < before {
-        return Verdict::Refused(Reason::TooLong, Item::Whole);
+        return Err((Reason::TooLong, Item::Whole));
     }
     if limit - before < body {
-        return Verdict::Refused(Reason::TooLong, Item::Whole);
+        return Err((Reason::TooLong, Item::Whole));
     }
     if limit - before - body < after {
-        return Verdict::Refused(Reason::TooLong, Item::Whole);
+        return Err((Reason::TooLong, Item::Whole));
     }
     if room < before + body + after {
-        return Verdict::Refused(Reason::NoRoom, Item::Whole);
+        return Err((Reason::NoRoom, Item::Whole));
     }
-    Verdict::Accepted
+    Ok(())
+}
+
+// 7 of a line: it is 0, or one of those from LOW to 22.
+pub fn judge_line<const LOW: u8>(line: u8, reason: Reason, item: Item) -> Verdict
+    ensures { result ≡ line_verdict LOW reason item line }
+{
+    if line == 0 {
+        return Ok(());
+    }
+    if line < LOW || 22 < line {
+        return Err((reason, item));
+    }
+    Ok(())
 }

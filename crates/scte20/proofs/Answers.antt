@@ -1,5 +1,6 @@
 -- The answer of reading, by how far reading came: the head refused, flag 0, or flag 1.
 -- Assumes nothing.
+use Rattle.std.specs.Prelude.{Ok, Err}
 use Prim.Native.Nat.{ℕ, ◌+◌, ◌-◌, ◌*◌, ◌/◌, ◌≤◌}
 use native.Mathlib.Omega.{arith}
 use mathlib.Core.Path.{◌≡◌, ◌∙◌, ap, ap₂, sym}
@@ -8,14 +9,14 @@ use lib.ListN.{length, get_or}
 use Rattle.lists.specs.Bytes.{Bytes}
 use Rattle.refusal.specs.declared.Reason.{Reason}
 use Rattle.refusal.specs.declared.Item.{Item}
-use Rattle.refusal.specs.declared.Verdict.{Verdict}
-use Rattle.refusal.specs.declared.Verdict.TheVariants.{Accepted, Refused}
+use Rattle.refusal.specs.Verdict.{Verdict}
+use Rattle.refusal.specs.Verdict.{Accepted, Refused}
 use Rattle.refusal.specs.Checks.{and_then, first}
 use Rattle.refusal.specs.Answers.{lent_of}
 use Rattle.refusal.proofs.Checks.{accepted-and_then, and_then-last}
 use Rattle.bits.specs.Bits.{bits_of}
 use Rattle.bits.proofs.Stream.{length-bits_of}
-use Rattle.scte20.specs.Value.{Content, none, stored}
+use Rattle.scte20.specs.Value.{Content, stored}
 use Rattle.scte20.specs.Reading.{missing, head_verdict, flag_in, count_in, flag_verdict, rest_verdict, constructs_verdict, records_at, sampled_verdict, content_verdict, value_of}
 use Rattle.scte20.specs.Lent.{records_bytes, numbers_of, head_of, ReadsInto}
 use Rattle.scte20.proofs.Constructs.{accepted-missing}
@@ -23,31 +24,23 @@ use Rattle.scte20.proofs.Contents.{accepted-head}
 use Rattle.scte20.proofs.Bytewise.{reserved-in}
 
 -- reading into a lent array, by the verdict: a refusal leaves the array as it was
-module _ (body lent : List ℕ) (bytes : Bytes body) (verdict : Verdict) (same : verdict ≡ content_verdict body) where
-  pub refused-into : (reason : Reason) (item : Item) → verdict ≡ Refused reason item
-      → ReadsInto body lent record { verdict = verdict; numbers = numbers_of (stored none) } lent
-  refused-into reason item told =
+module _ (body lent : List ℕ) (bytes : Bytes body) where
+  pub refused-into : (why : Reason × Item) → content_verdict body ≡ Err why → ReadsInto body lent (Err why) lent
+  refused-into (reason, item) told =
       record {
         bytes = bytes;
-        answer =
-            ap (λ (v : Verdict). record { verdict = v; numbers = numbers_of (stored none) }) told
-            ∙ ap (λ (v : Verdict). head_of v (value_of body)) (sym told ∙ same);
-        left = ap (λ (v : Verdict). lent_of v (records_bytes (stored (value_of body)).records) lent) (sym told ∙ same);
+        answer = ap (λ (v : Verdict). head_of v (value_of body)) (sym told);
+        left = ap (λ (v : Verdict). lent_of v (records_bytes (stored (value_of body)).records) lent) (sym told);
       }
 
   -- and else all of it is the value's records
-  pub accepted-into : (c : Content) (found : List ℕ) → verdict ≡ Accepted → value_of body ≡ c → found ≡ records_bytes (stored c).records
-      → ReadsInto body lent record { verdict = verdict; numbers = numbers_of (stored c) } found
+  pub accepted-into : (c : Content) (found : List ℕ) → content_verdict body ≡ Accepted → value_of body ≡ c → found ≡ records_bytes (stored c).records
+      → ReadsInto body lent (Ok (numbers_of (stored c))) found
   accepted-into c found told value laid =
       record {
         bytes = bytes;
-        answer =
-            ap₂ (λ (v : Verdict) (d : Content). record { verdict = v; numbers = numbers_of (stored d) }) told (sym value)
-            ∙ ap (λ (v : Verdict). head_of v (value_of body)) (sym told ∙ same);
-        left =
-            laid
-            ∙ ap (λ (d : Content). records_bytes (stored d).records) (sym value)
-            ∙ ap (λ (v : Verdict). lent_of v (records_bytes (stored (value_of body)).records) lent) (sym told ∙ same);
+        answer = ap₂ head_of (sym told) (sym value);
+        left = laid ∙ ap₂ (λ (v : Verdict) (d : Content). lent_of v (records_bytes (stored d).records) lent) (sym told) (sym value);
       }
 
 -- what an accepted check has shown of the length

@@ -11,7 +11,7 @@ use lib.ListN.{length, take, drop, length-append, length-drop}
 use lib.Seq.{drop-drop}
 use Rattle.lists.specs.Each.{Each}
 use Rattle.lists.proofs.Part.{take-join}
-use Rattle.refusal.specs.declared.Verdict.TheVariants.{Accepted}
+use Rattle.refusal.specs.Verdict.{Accepted}
 use Rattle.refusal.specs.declared.Reason.TheVariants.{Ends, Unfixed}
 use Rattle.refusal.specs.declared.Fixed.TheVariants.{Marker}
 use Rattle.refusal.specs.declared.Item.TheVariants.{Bit}

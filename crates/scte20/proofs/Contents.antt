@@ -12,7 +12,7 @@ use Rattle.lists.specs.Bytes.{Bytes}
 use Rattle.lists.specs.Each.{Each}
 use Rattle.lists.proofs.Part.{take-join}
 use Rattle.lists.proofs.Each.{each_both}
-use Rattle.refusal.specs.declared.Verdict.TheVariants.{Accepted}
+use Rattle.refusal.specs.Verdict.{Accepted}
 use Rattle.refusal.specs.declared.Reason.TheVariants.{TooLong, Unfixed, SampledVideo}
 use Rattle.refusal.specs.declared.Fixed.TheVariants.{Alignment, Stuffing, Identifier}
 use Rattle.refusal.specs.declared.Item.TheVariants.{Whole, Bit}

@@ -1,5 +1,7 @@
 -- What stands at a place is a fault: the layout of a legal value has none, so that reading refuses.
 -- Assumes nothing.
+use Rattle.scte20.specs.declared.Numbers.{Numbers}
+use Rattle.refusal.specs.Answers.{Judged, verdict_of}
 use Prim.Native.Nat.{ℕ, zero, suc, ◌+◌, ◌*◌, ◌≤◌, ◌<◌}
 use native.Mathlib.Omega.{arith}
 use mathlib.Core.Path.{◌≡◌, ◌∙◌, ap, ap₂, sym, subst, refl}
@@ -12,11 +14,10 @@ use lib.ListN.{length, get_or, drop, length-append}
 use lib.Seq.{drop-cons}
 use Rattle.lists.specs.Bytes.{Bytes}
 use Rattle.lists.proofs.Each.{each_at}
-use Rattle.refusal.specs.declared.Verdict.TheVariants.{Accepted}
+use Rattle.refusal.specs.Verdict.{Accepted}
 use Rattle.bits.specs.Bits.{bits_of}
 use Rattle.kind.specs.Ours.{group_type}
 use Rattle.scte20.specs.declared.Record.{Record}
-use Rattle.scte20.specs.declared.Head.{Head}
 use Rattle.scte20.specs.Value.{Content, flag_byte, Legal, LegalRecord, Follows, InOrder, blank, field_of, count_if, urgent}
 use Rattle.scte20.specs.Layout.{item_bits, layout}
 use Rattle.scte20.specs.Reading.{content_verdict, value_of}
@@ -164,6 +165,6 @@ pub content-stands : (body : List ℕ) → Bytes body → (number bit : ℕ) →
 content-stands body bytes number bit stands e =
     nothing-stands (value_of body) (value-legal body bytes e) number bit (subst (λ (s : List ℕ). Stands (bits_of s) number bit) (sym (value-layout body bytes e)) stands)
 
-pub stands-refused : (body lent : List ℕ) (r : Head) (exit : List ℕ) → ReadsInto body lent r exit → (number bit : ℕ) → Stands (bits_of body) number bit
-    → r.verdict ≡ Accepted → ⊥
+pub stands-refused : (body lent : List ℕ) (r : Judged Numbers) (exit : List ℕ) → ReadsInto body lent r exit → (number bit : ℕ) → Stands (bits_of body) number bit
+    → verdict_of r ≡ Accepted → ⊥
 stands-refused body lent r exit p number bit stands e = content-stands body p.bytes number bit stands (sym (refused-in-order body lent r exit p) ∙ e)

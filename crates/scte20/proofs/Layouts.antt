@@ -11,8 +11,8 @@ use lib.ListN.{length, take, drop, replicate, length-replicate}
 use lib.Seq.{drop-drop, drop_at, take_at}
 use Rattle.lists.specs.Each.{Each}
 use Rattle.lists.proofs.Each.{each_map}
-use Rattle.refusal.specs.declared.Verdict.{Verdict}
-use Rattle.refusal.specs.declared.Verdict.TheVariants.{Accepted}
+use Rattle.refusal.specs.Verdict.{Verdict}
+use Rattle.refusal.specs.Verdict.{Accepted}
 use Rattle.refusal.specs.declared.Reason.TheVariants.{TooLong, Unfixed, SampledVideo}
 use Rattle.refusal.specs.declared.Fixed.TheVariants.{Alignment, Stuffing, Identifier}
 use Rattle.refusal.specs.declared.Item.TheVariants.{Whole, Bit}

@@ -15,8 +15,8 @@ use Rattle.refusal.specs.declared.Reason.TheVariants.{TooLong, Ends, Unfixed, Fi
 use Rattle.refusal.specs.declared.Fixed.TheVariants.{Marker, Alignment, Stuffing, Identifier}
 use Rattle.refusal.specs.declared.Item.{Item}
 use Rattle.refusal.specs.declared.Item.TheVariants.{Whole, Bit}
-use Rattle.refusal.specs.declared.Verdict.{Verdict}
-use Rattle.refusal.specs.declared.Verdict.TheVariants.{Accepted, Refused}
+use Rattle.refusal.specs.Verdict.{Verdict}
+use Rattle.refusal.specs.Verdict.{Accepted, Refused}
 use Rattle.refusal.specs.Numbers.{number_of}
 use Rattle.refusal.specs.Checks.{refuse_if, and_then, first}
 use Rattle.refusal.specs.Answers.{AtBit}

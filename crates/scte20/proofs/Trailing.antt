@@ -9,7 +9,7 @@ use lib.Pow.{shl_lt}
 use lib.Seq.{length-take-le}
 use Rattle.lists.specs.Bytes.{Bytes}
 use Rattle.refusal.specs.declared.Fixed.TheVariants.{Alignment, Stuffing}
-use Rattle.refusal.specs.declared.Verdict.TheVariants.{Accepted, Refused}
+use Rattle.refusal.specs.Verdict.{Accepted, Refused}
 use Rattle.refusal.specs.declared.Reason.TheVariants.{Unfixed}
 use Rattle.refusal.specs.declared.Item.TheVariants.{Bit}
 use Rattle.bits.specs.Bits.{bits, bits_of, field, zeros}

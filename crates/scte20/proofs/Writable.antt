@@ -11,8 +11,8 @@ use lib.ListN.{length, take}
 use Rattle.lists.specs.Each.{Each}
 use Rattle.lists.proofs.Each.{each_take, each_both, each_map}
 use Rattle.refusal.specs.declared.Refusal.{Refusal}
-use Rattle.refusal.specs.declared.Verdict.{Verdict}
-use Rattle.refusal.specs.declared.Verdict.TheVariants.{Accepted, Refused}
+use Rattle.refusal.specs.Verdict.{Verdict}
+use Rattle.refusal.specs.Verdict.{Accepted, Refused}
 use Rattle.refusal.specs.declared.Reason.TheVariants.{TooLong, NoRoom, FieldNumberZero, FieldFalls, LineDoesNotRise, FifthPriority, Unholdable}
 use Rattle.refusal.specs.declared.Excess.TheVariants.{Count, Reserved, Flag, Stuffing, FlagWithRecords, GroupType, Priority, FieldNumber, LineOffset}
 use Rattle.refusal.specs.declared.Item.TheVariants.{Whole, Bit}

@@ -2,8 +2,8 @@
 -- signer may pass it over: it decides as `record_verdict` does.
 use Rattle.std.specs.Prelude.{ℕ, ◌+◌, ◌/◌, ◌%◌, ◌^◌, ◌≤◌, min, ◌≡◌, Bool, true, false, not, ◌&&◌, List, [], ◌∷◌, eqb, ltb}
 use Rattle.lists.specs.Room.{over}
-use Rattle.refusal.specs.declared.Verdict.{Verdict}
-use Rattle.refusal.specs.declared.Verdict.TheVariants.{Accepted}
+use Rattle.refusal.specs.Verdict.{Verdict}
+use Rattle.refusal.specs.Verdict.{Accepted}
 use Rattle.refusal.specs.declared.Reason.TheVariants.{FieldNumberZero, FieldFalls, LineDoesNotRise, FifthPriority}
 use Rattle.refusal.specs.declared.Item.TheVariants.{Bit}
 use Rattle.refusal.specs.Checks.{refuse_if, first}

@@ -3,8 +3,8 @@
 --
 -- A refusal has the bit of the body at which the failing item begins.
 use Rattle.std.specs.Prelude.{ℕ, zero, suc, ◌+◌, ◌-◌, ◌*◌, not, List, [], ◌∷◌, eqb, ltb, length, take, drop}
-use Rattle.refusal.specs.declared.Verdict.{Verdict}
-use Rattle.refusal.specs.declared.Verdict.TheVariants.{Accepted}
+use Rattle.refusal.specs.Verdict.{Verdict}
+use Rattle.refusal.specs.Verdict.{Accepted}
 use Rattle.refusal.specs.declared.Reason.TheVariants.{TooLong, Ends, Unfixed, SampledVideo}
 use Rattle.refusal.specs.declared.Fixed.TheVariants.{Marker, Alignment, Stuffing, Identifier}
 use Rattle.refusal.specs.declared.Item.TheVariants.{Whole, Bit}

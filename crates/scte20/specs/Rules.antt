@@ -1,6 +1,6 @@
 -- The rules over a record and those before it: 7, 8, 9. RULES, "Picture area" and "Order of checks".
 use Rattle.std.specs.Prelude.{ℕ, ◌+◌, Bool, false, not, ◌&&◌, List, [], ◌∷◌, eqb, ltb}
-use Rattle.refusal.specs.declared.Verdict.{Verdict}
+use Rattle.refusal.specs.Verdict.{Verdict}
 use Rattle.refusal.specs.declared.Reason.TheVariants.{FieldNumberZero, FieldFalls, LineDoesNotRise, FifthPriority}
 use Rattle.refusal.specs.declared.Item.TheVariants.{Bit}
 use Rattle.refusal.specs.Checks.{refuse_if, first}

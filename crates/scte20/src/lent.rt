@@ -39,15 +39,13 @@ pub fn put_record(r: Record, i: usize, records: &mut [u8; LENT_RECORDS])
     records[at + 4] = r.cc_data_2;
 }
 
-// The struct that numbers and a lent array tell.
+// The struct that numbers and a lent array tell. No `From`: docs/MATRIX.md names this function, as it does the next two and `nothing`.
 pub fn unit_of(v: Numbers, bytes: &[u8; LENT_RECORDS]) -> CaptionUnit
     ensures { result ≡ unit_in v bytes.now }
 {
     let mut records = [blank(); MAX_RECORDS];
-    let mut i = 0;
-    while i < MAX_RECORDS {
+    for i in 0..MAX_RECORDS {
         records[i] = record_in(bytes, i);
-        i += 1;
     }
     CaptionUnit {
         reserved: v.reserved,
@@ -75,11 +73,8 @@ pub fn bytes_of(unit: CaptionUnit) -> [u8; LENT_RECORDS]
     ensures { result ≡ records_bytes unit.records }
 {
     let mut bytes = [0; LENT_RECORDS];
-    let mut i = 0;
-    while i < MAX_RECORDS {
-        let record = unit.records[i];
-        put_record(record, i, &mut bytes);
-        i += 1;
+    for i in 0..MAX_RECORDS {
+        put_record(unit.records[i], i, &mut bytes);
     }
     bytes
 }
@@ -88,7 +83,7 @@ pub fn bytes_of(unit: CaptionUnit) -> [u8; LENT_RECORDS]
 pub fn narrow(n: usize) -> u8
     ensures { result ≡ min n 255 }
 {
-    if n < 255 { n as u8 } else { 255 }
+    n.min(255) as u8
 }
 
 // No value: what an answer without one holds.

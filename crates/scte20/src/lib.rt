@@ -7,7 +7,6 @@ mod lent;
 
 use fields::DisplayField;
 pub use lent::{bytes_of, narrow, nothing, numbers_of, put_record, record_in, unit_of};
-use refusal::Verdict;
 
 pub const MAX_RECORDS: usize = 31;
 
@@ -39,6 +38,7 @@ pub struct Record {
 
 // A unit's value: the reserved bits as they are, the flag, the first n of the records, and how many zero
 // bytes of stuffing follow the content.
+// A count beside the places: the library uses no heap, and `LegalCaptionUnit` and `stored`, which docs/MATRIX.md names, speak of both.
 #[derive(Clone, Copy)]
 pub struct CaptionUnit {
     pub reserved: u8,
@@ -55,13 +55,6 @@ pub struct Numbers {
     pub vbi_data_flag: u8,
     pub n: usize,
     pub z: usize,
-}
-
-// What `scte20_reader::read_into` answers: the verdict, and the numbers, all zero where it refuses.
-#[derive(Clone, Copy)]
-pub struct Head {
-    pub verdict: Verdict,
-    pub numbers: Numbers,
 }
 
 // What the rules need of the records before one: the latest's field and line, and how many records of that

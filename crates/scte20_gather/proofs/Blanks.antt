@@ -13,7 +13,7 @@ use Rattle.lists.specs.Each.{Each}
 use Rattle.lists.proofs.Each.{each_take, each-drop, each_append, each_same, each-replicate}
 use Rattle.refusal.specs.declared.Fixed.{Fixed}
 use Rattle.refusal.specs.declared.Fixed.TheVariants.{Alignment, Stuffing}
-use Rattle.refusal.specs.declared.Verdict.TheVariants.{Accepted}
+use Rattle.refusal.specs.Verdict.{Accepted}
 use Rattle.bits.specs.Bits.{bits, num, bits_of, field}
 use Rattle.bits.proofs.Stream.{length-bits_of, bits_of-are, drop-bits_of}
 use Rattle.bits.proofs.Fields.{field-bits, field-byte}

@@ -8,7 +8,7 @@ use mathlib.Core.List.{List, []}
 use borrow.Author.Tests.{ne_eqb, eqb-true, lt-ltb, le-ltb}
 use lib.Dec.{eqb}
 use lib.ListN.{length, get_or}
-use Rattle.refusal.specs.declared.Verdict.TheVariants.{Accepted}
+use Rattle.refusal.specs.Verdict.{Accepted}
 use Rattle.bits.specs.Bits.{bits_of, field}
 use Rattle.bits.proofs.Stream.{length-bits_of, bits_of-are}
 use Rattle.scte20.specs.declared.Record.{Record}

@@ -1,6 +1,6 @@
 -- What private functions promise each other on the way to an answer. No theorem for a signer speaks of it.
 use Rattle.std.specs.Prelude.{ℕ, zero, suc, ◌+◌, ◌-◌, ◌*◌, ◌/◌, ◌%◌, ◌^◌, ◌≤◌, ◌<◌, ◌≡◌, List, [], ◌∷◌, eqb, length, get_or}
-use Rattle.refusal.specs.declared.Verdict.TheVariants.{Accepted}
+use Rattle.refusal.specs.Verdict.{Accepted}
 use Rattle.bits.specs.Bits.{bits_of}
 use Rattle.bits.specs.Peek.{peek_of, first_set}
 use Rattle.scte20.specs.declared.Record.{Record}

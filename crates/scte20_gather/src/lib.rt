@@ -21,54 +21,40 @@ pub fn gathered(body: &[u8], found: &mut [u32; PLACES]) -> bool
     if len < 3 {
         return false;
     }
-    let n = (body[2] / 8) as usize;
+    let n = usize::from(body[2] / 8);
     let from = CONSTRUCTS + CONSTRUCT_BITS * n;
     if len < (from + SAMPLED_BITS + 7) / 8 {
         return false;
     }
     gather(body, n, found);
-    if !hold(n, found) {
-        return false;
-    }
-    if !is_blank(body, from) {
-        return false;
-    }
-    if MAX_BYTES < len {
-        return false;
-    }
-    if body[0] != 3 {
-        return false;
-    }
-    if kind::group_type(body[1]) {
-        return false;
-    }
-    body[1] % 2 == 1
+    hold(n, found)
+        && is_blank(body, from)
+        && len <= MAX_BYTES
+        && body[0] == 3
+        && !kind::group_type(body[1])
+        && body[1] % 2 == 1
 }
 
 // The numbers of n constructs. Four of them are 13 bytes, so that in each group the shifts are the same.
-fn gather(body: &[u8], n: usize, found: &mut [u32])
-    requires n_bound { n ≤ 31 }
-    requires found_len { length found.old ≡ 32 }
+fn gather(body: &[u8], n: usize, found: &mut [u32; PLACES])
+    requires { n ≤ 31 }
     ensures { Numbered body.now n found.new }
 {
-    let mut i = 0;
-    while i + 4 <= n {
+    for group in 0..n / 4 {
+        let i = 4 * group;
         place(body, i, found);
         place(body, i + 1, found);
         place(body, i + 2, found);
         place(body, i + 3, found);
-        i += 4;
     }
-    while i < n {
+    for i in n / 4 * 4..n {
         place(body, i, found);
-        i += 1;
     }
 }
 
 // The number of construct i, in its place.
-fn place(body: &[u8], i: usize, found: &mut [u32])
-    requires i_bound { i < 32 }
-    requires found_len { length found.old ≡ 32 }
+fn place(body: &[u8], i: usize, found: &mut [u32; PLACES])
+    requires { i < 32 }
     ensures { found.new ≡ set found.old i (peek_of body.now (21 + 26 * i) 26) }
 {
     found[i] = bits::peek(body, CONSTRUCTS + CONSTRUCT_BITS * i, CONSTRUCT_BITS as u32);
@@ -82,8 +68,7 @@ fn hold(n: usize, found: &[u32; PLACES]) -> bool
 {
     let mut before: u32 = 31;
     let mut urgent: u32 = 0;
-    let mut i = 0;
-    while i < n {
+    for i in 0..n {
         let construct = found[i];
         let place = (construct >> 17) % 128;
         if place <= before {
@@ -93,31 +78,28 @@ fn hold(n: usize, found: &[u32; PLACES]) -> bool
             return false;
         }
         let kept = if place / 32 == before / 32 { urgent } else { 0 };
-        urgent = if construct < 16777216 { kept + 1 } else { kept };
+        urgent = kept + u32::from(construct < 16777216);
         if 4 < urgent {
             return false;
         }
         before = place;
-        i += 1;
     }
     true
 }
 
 // Whether all bits from bit `from` on are 0: the sampled video count, the alignment bits and the stuffing.
 fn is_blank(body: &[u8], from: usize) -> bool
-    requires from_bound { from < 8 * length body.now }
-    requires from_bound_2 { from < 1048576 }
+    requires { from < 8 * length body.now }
     ensures { result ≡ true → Blank body.now from }
 {
     let k = from / 8;
-    if body[k] as u32 % (1u32 << (8 - from % 8)) != 0 {
+    if body[k] << (from % 8) as u32 != 0 {
         return false;
     }
+    // It looks at all bytes: a loop that does not leave early is done by wide registers.
     let mut any = 0;
-    let mut i = k + 1;
-    while i < body.len() {
-        any = any | body[i];
-        i += 1;
+    for i in k + 1..body.len() {
+        any |= body[i];
     }
     any == 0
 }

@@ -3,35 +3,32 @@
 // Normative references: docs/RULES.md, "Picture area" and "Order of checks"; document 001, 5.4 to 5.8.
 #![tactic(auto)]
 
-ghost use Rattle.std.specs.Prelude.{◌≡◌, ◌-◌, ◌*◌, ◌≤◌, ◌<◌, length};
+ghost use Rattle.std.specs.Prelude.{◌≡◌, ◌-◌, ◌*◌, ◌≤◌, ◌<◌, length, Ok};
 ghost use Rattle.lists.specs.Room.{over};
-ghost use Rattle.refusal.specs.declared.Verdict.TheVariants.{Accepted};
+ghost use Rattle.refusal.specs.Verdict.{Accepted};
 ghost use Rattle.refusal.specs.Checks.{and_then};
 ghost use Rattle.bits.specs.Bits.{bits_of};
 ghost use Rattle.bits.specs.Table.{Reverses};
-ghost use Rattle.scte20.specs.Value.{none, stored};
 ghost use Rattle.scte20.specs.Reading.{head_verdict, flag_in, sampled_verdict, rest_verdict, content_verdict};
-ghost use Rattle.scte20.specs.Lent.{numbers_of, records_bytes, ReadsInto};
+ghost use Rattle.scte20.specs.Lent.{records_bytes, ReadsInto};
 ghost use Rattle.scte20.specs.Inside.{construct_of, Runs};
 ghost use Rattle.scte20_gather.specs.Inside.{Small, records_of, Gathers};
 
 use fields::DisplayField;
-use refusal::{Fixed, Item, Reason, Verdict};
-use scte20::{
-    CONSTRUCT_BITS, CONSTRUCTS, Head, LENT_RECORDS, MAX_BYTES, Numbers, Record, SAMPLED_BITS,
-};
+use refusal::{Fixed, Item, Judged, Reason, Verdict};
+use scte20::{CONSTRUCT_BITS, CONSTRUCTS, LENT_RECORDS, MAX_BYTES, Numbers, Record, SAMPLED_BITS};
 use scte20_gather::PLACES;
 
 // user_data_type_code, reserved and vbi_data_flag take two bytes; then cc_count begins.
 const COUNT: usize = 16;
 
 // Reads the body of a caption unit, its records into a lent array, which a refusal leaves as it is.
-pub fn read_into(body: &[u8], records: &mut [u8; LENT_RECORDS]) -> Head
+pub fn read_into(body: &[u8], records: &mut [u8; LENT_RECORDS]) -> Judged<Numbers>
     ensures { ReadsInto body.now records.old result records.new }
 {
     let mut found = [0; PLACES];
     if scte20_gather::gathered(body, &mut found) {
-        return store(body, &found, records);
+        return Ok(store(body, &found, records));
     }
     read_stepwise(body, records)
 }
@@ -42,58 +39,47 @@ pub fn judge(body: &[u8]) -> Verdict
 {
     let mut found = [0; PLACES];
     if scte20_gather::gathered(body, &mut found) {
-        return Verdict::Accepted;
+        return Ok(());
     }
     let mut records = [0; LENT_RECORDS];
-    let head = read_stepwise(body, &mut records);
-    head.verdict
+    read_stepwise(body, &mut records)?;
+    Ok(())
 }
 
 // Stores the records of constructs that were gathered, and zeros behind them.
-fn store(body: &[u8], found: &[u32; PLACES], records: &mut [u8; LENT_RECORDS]) -> Head
+fn store(body: &[u8], found: &[u32; PLACES], records: &mut [u8; LENT_RECORDS]) -> Numbers
     requires { Gathers body.now found.now }
-    ensures { ReadsInto body.now records.old result records.new }
+    ensures { ReadsInto body.now records.old (Ok result) records.new }
 {
     let count = (body[2] / 8) as usize;
     *records = [0; LENT_RECORDS];
     put_records(count, found, records);
-    Head {
-        verdict: Verdict::Accepted,
-        numbers: Numbers {
-            reserved: body[1] / 2,
-            vbi_data_flag: 1,
-            n: count,
-            z: body.len() - (CONSTRUCTS + CONSTRUCT_BITS * count + SAMPLED_BITS + 7) / 8,
-        },
+    Numbers {
+        reserved: body[1] / 2,
+        vbi_data_flag: 1,
+        n: count,
+        z: body.len() - (CONSTRUCTS + CONSTRUCT_BITS * count + SAMPLED_BITS + 7) / 8,
     }
 }
 
 // The records of n constructs, one behind the other.
-fn put_records(n: usize, found: &[u32], records: &mut [u8; LENT_RECORDS])
+fn put_records(n: usize, found: &[u32; PLACES], records: &mut [u8; LENT_RECORDS])
     requires n_bound { n ≤ 31 }
-    requires found_len { length found.now ≡ 32 }
     requires small { Small n found.now }
-    requires records_len { length records.old ≡ 155 }
     ensures { records.new ≡ over (records_bytes (records_of n 0 found.now)) records.old }
 {
     // Once for all constructs: wherever the table is asked for, its 256 bytes are laid on the stack.
     let table = bits::reversed_bytes();
-    let mut i = 0;
-    while i < n {
-        let record = record_of(found[i], &table);
-        scte20::put_record(record, i, records);
-        i += 1;
+    for i in 0..n {
+        scte20::put_record(record_of(found[i], &table), i, records);
     }
 }
 
 // Reads a body from left to right, each item judged before the next.
-fn read_stepwise(body: &[u8], records: &mut [u8; LENT_RECORDS]) -> Head
+fn read_stepwise(body: &[u8], records: &mut [u8; LENT_RECORDS]) -> Judged<Numbers>
     ensures { ReadsInto body.now records.old result records.new }
 {
-    let head = judge_head(body);
-    if let Verdict::Refused(_, _) = head {
-        return refused(head);
-    }
+    judge_head(body)?;
     if body[1] % 2 == 0 {
         return read_bare(body, records);
     }
@@ -105,109 +91,88 @@ fn judge_head(body: &[u8]) -> Verdict
     ensures { result ≡ head_verdict body.now }
 {
     if MAX_BYTES < body.len() {
-        return Verdict::Refused(Reason::TooLong, Item::Whole);
+        return Err((Reason::TooLong, Item::Whole));
     }
-    if body.len() < 1 {
-        return Verdict::Refused(Reason::Ends, Item::Bit(0));
+    if body.is_empty() {
+        return Err((Reason::Ends, Item::Bit(0)));
     }
     if body[0] != 3 {
-        return Verdict::Refused(Reason::Unfixed(Fixed::Identifier), Item::Bit(0));
+        return Err((Reason::Unfixed(Fixed::Identifier), Item::Bit(0)));
     }
     // The reserved bits and the flag share a byte.
     if body.len() < 2 {
-        return Verdict::Refused(Reason::Ends, Item::Bit(8));
+        return Err((Reason::Ends, Item::Bit(8)));
     }
     // A data group is no caption unit of an area.
     if kind::group_type(body[1]) {
-        return Verdict::Refused(Reason::Unfixed(Fixed::Identifier), Item::Bit(8));
+        return Err((Reason::Unfixed(Fixed::Identifier), Item::Bit(8)));
     }
-    Verdict::Accepted
+    Ok(())
 }
 
 // With flag 0 the content is two bytes.
-fn read_bare(body: &[u8], records: &mut [u8; LENT_RECORDS]) -> Head
+fn read_bare(body: &[u8], records: &mut [u8; LENT_RECORDS]) -> Judged<Numbers>
     requires body_value { head_verdict body.now ≡ Accepted }
     requires body_value_2 { flag_in (bits_of body.now) ≡ 0 }
     ensures { ReadsInto body.now records.old result records.new }
 {
-    let rest = judge_rest(body, COUNT);
-    if let Verdict::Refused(_, _) = rest {
-        return refused(rest);
-    }
+    judge_rest(body, COUNT)?;
     *records = [0; LENT_RECORDS];
-    Head {
-        verdict: rest,
-        numbers: Numbers {
-            reserved: body[1] / 2,
-            vbi_data_flag: 0,
-            n: 0,
-            z: body.len() - 2,
-        },
-    }
+    Ok(Numbers {
+        reserved: body[1] / 2,
+        vbi_data_flag: 0,
+        n: 0,
+        z: body.len() - 2,
+    })
 }
 
 // cc_count, the constructs, the sampled video count, alignment and stuffing.
-fn read_flagged(body: &[u8], records: &mut [u8; LENT_RECORDS]) -> Head
+fn read_flagged(body: &[u8], records: &mut [u8; LENT_RECORDS]) -> Judged<Numbers>
     requires body_value { head_verdict body.now ≡ Accepted }
     requires body_value_2 { flag_in (bits_of body.now) ≡ 1 }
     ensures { ReadsInto body.now records.old result records.new }
 {
     if body.len() < 3 {
-        return refused(Verdict::Refused(Reason::Ends, Item::Bit(COUNT)));
+        return Err((Reason::Ends, Item::Bit(COUNT)));
     }
     let n = (body[2] / 8) as usize;
     let mut found = [0; LENT_RECORDS];
-    let constructs = read_constructs(body, n, &mut found);
-    if let Verdict::Refused(_, _) = constructs {
-        return refused(constructs);
-    }
+    read_constructs(body, n, &mut found)?;
     let end = CONSTRUCTS + CONSTRUCT_BITS * n + SAMPLED_BITS;
-    let tail = judge_tail(body, end);
-    if let Verdict::Refused(_, _) = tail {
-        return refused(tail);
-    }
+    judge_tail(body, end)?;
     *records = found;
-    Head {
-        verdict: tail,
-        numbers: Numbers {
-            reserved: body[1] / 2,
-            vbi_data_flag: 1,
-            n,
-            z: body.len() - (end + 7) / 8,
-        },
-    }
+    Ok(Numbers {
+        reserved: body[1] / 2,
+        vbi_data_flag: 1,
+        n,
+        z: body.len() - (end + 7) / 8,
+    })
 }
 
 // The n constructs, each read and judged before the next. Where one is refused, what is in the records means nothing.
 fn read_constructs(body: &[u8], n: usize, records: &mut [u8; LENT_RECORDS]) -> Verdict
     requires body_len_bound { length body.now ≤ 16384 }
     requires n_bound { n ≤ 31 }
-    requires records_len { length records.old ≡ 155 }
     ensures { Runs body.now n records.old result records.new }
 {
     // Once for all constructs: wherever the table is asked for, its 256 bytes are laid on the stack.
     let table = bits::reversed_bytes();
     let mut last = scte20_rules::none_yet();
-    let mut i = 0;
-    while i < n {
+    for i in 0..n {
         let at = CONSTRUCTS + CONSTRUCT_BITS * i;
         if body.len() < (at + CONSTRUCT_BITS + 7) / 8 {
-            return Verdict::Refused(Reason::Ends, Item::Bit(at));
+            return Err((Reason::Ends, Item::Bit(at)));
         }
         let construct = bits::peek(body, at, CONSTRUCT_BITS as u32);
         let record = record_of(construct, &table);
-        let verdict = scte20_rules::judge_record(last, record, at as u32);
-        if let Verdict::Refused(_, _) = verdict {
-            return verdict;
-        }
+        scte20_rules::judge_record(last, record, at as u32)?;
         if construct % 2 != 1 {
-            return Verdict::Refused(Reason::Unfixed(Fixed::Marker), Item::Bit(at + 25));
+            return Err((Reason::Unfixed(Fixed::Marker), Item::Bit(at + 25)));
         }
         scte20::put_record(record, i, records);
         last = scte20_rules::after(last, record);
-        i += 1;
     }
-    Verdict::Accepted
+    Ok(())
 }
 
 // The record of a construct (001, 5.8). The data bytes come least significant bit first.
@@ -216,12 +181,11 @@ fn record_of(construct: u32, table: &[u8; 256]) -> Record
     requires reverses { Reverses table.now }
     ensures { result ≡ construct_of construct }
 {
-    let field_number = DisplayField(((construct >> 22) % 4) as u8);
-    let first = ((construct >> 9) % 256) as u8;
-    let second = ((construct >> 1) % 256) as u8;
+    let first = (construct >> 9) % 256;
+    let second = (construct >> 1) % 256;
     Record {
         cc_priority: (construct >> 24) as u8,
-        field_number,
+        field_number: DisplayField(((construct >> 22) % 4) as u8),
         line_offset: ((construct >> 17) % 32) as u8,
         cc_data_1: table[first as usize],
         cc_data_2: table[second as usize],
@@ -237,15 +201,16 @@ fn judge_tail(body: &[u8], end: usize) -> Verdict
 {
     let at = end - SAMPLED_BITS;
     if body.len() < (end + 7) / 8 {
-        return Verdict::Refused(Reason::Ends, Item::Bit(at));
+        return Err((Reason::Ends, Item::Bit(at)));
     }
     if bits::peek(body, at, SAMPLED_BITS as u32) != 0 {
-        return Verdict::Refused(Reason::SampledVideo, Item::Bit(at));
+        return Err((Reason::SampledVideo, Item::Bit(at)));
     }
     judge_rest(body, end)
 }
 
 // From bit `at` on, zero bits up to a whole byte and zero bytes up to the end.
+// The bound on the length, for which two more functions ask, keeps bit numbers in a word: a struct around the slice would be no plainer.
 fn judge_rest(body: &[u8], at: usize) -> Verdict
     requires body_len_bound { length body.now ≤ 16384 }
     requires at_bound { at ≤ 8 * length body.now }
@@ -255,33 +220,18 @@ fn judge_rest(body: &[u8], at: usize) -> Verdict
     let alignment = bits::peek(body, at, unused);
     if alignment != 0 {
         let zeros = bits::leading((alignment << (8 - unused)) as u8);
-        return Verdict::Refused(
+        return Err((
             Reason::Unfixed(Fixed::Alignment),
             Item::Bit(at + zeros as usize),
-        );
+        ));
     }
     let wrong = bits::first_set(body, (at + 7) / 8);
     if wrong < body.len() {
         let zeros = bits::leading(body[wrong]);
-        return Verdict::Refused(
+        return Err((
             Reason::Unfixed(Fixed::Stuffing),
             Item::Bit(8 * wrong + zeros as usize),
-        );
+        ));
     }
-    Verdict::Accepted
-}
-
-// A refusal, and no value beside it.
-fn refused(verdict: Verdict) -> Head
-    ensures { result ≡ record { verdict = verdict; numbers = numbers_of (stored none) } }
-{
-    Head {
-        verdict,
-        numbers: Numbers {
-            reserved: 0,
-            vbi_data_flag: 0,
-            n: 0,
-            z: 0,
-        },
-    }
+    Ok(())
 }

@@ -12,6 +12,7 @@ use refusal::{Item, Reason, Verdict};
 use scte20::{Last, Record};
 
 // 7, 8 and 9 of a record whose construct begins at bit `at`.
+#[tactic(auto, unfolding(scte20::specs::Inside::last_verdict))]
 pub fn judge_record(last: Last, r: Record, at: u32) -> Verdict
     ensures { result ≡ last_verdict at last r }
 {
@@ -19,29 +20,29 @@ pub fn judge_record(last: Last, r: Record, at: u32) -> Verdict
     let before = last.field_number.0;
     let field = r.field_number.0;
     if field < 1 {
-        return Verdict::Refused(Reason::FieldNumberZero, Item::Bit(at + 2));
+        return Err((Reason::FieldNumberZero, Item::Bit(at + 2)));
     }
     if field < before {
-        return Verdict::Refused(Reason::FieldFalls, Item::Bit(at + 2));
+        return Err((Reason::FieldFalls, Item::Bit(at + 2)));
     }
     // In a new field any line may come first, and none of its records is before.
     if before < field {
-        return Verdict::Accepted;
+        return Ok(());
     }
     if r.line_offset <= last.line_offset {
-        return Verdict::Refused(Reason::LineDoesNotRise, Item::Bit(at + 4));
+        return Err((Reason::LineDoesNotRise, Item::Bit(at + 4)));
     }
     if r.cc_priority != 0 {
-        return Verdict::Accepted;
+        return Ok(());
     }
     // Up to four lines of a display field may have priority 0 (001, 5.8.1).
     if 3 < last.urgent {
-        return Verdict::Refused(Reason::FifthPriority, Item::Bit(at));
+        return Err((Reason::FifthPriority, Item::Bit(at)));
     }
-    Verdict::Accepted
+    Ok(())
 }
 
-// Before the first record. No record has field 0.
+// Before the first record. No record has field 0. No `Default`, and `after` no method: docs/MATRIX.md names these functions.
 pub fn none_yet() -> Last
     ensures { result ≡ last_of [] }
 {
@@ -53,6 +54,7 @@ pub fn none_yet() -> Last
 }
 
 // The same after one record more. The count of priority 0 starts again at each field, and goes no further than four: a fifth is refused.
+#[tactic(auto, unfolding(scte20::specs::Inside::last_after))]
 pub fn after(last: Last, r: Record) -> Last
     ensures { result ≡ last_after last r }
 {
@@ -62,18 +64,10 @@ pub fn after(last: Last, r: Record) -> Last
     } else {
         0
     };
-    let urgent = counted(kept, r.cc_priority == 0);
+    let more = u8::from(r.cc_priority == 0);
     Last {
         field_number,
         line_offset: r.line_offset,
-        urgent,
+        urgent: kept.saturating_add(more).min(4),
     }
-}
-
-// One more where there is one, and no more than four.
-fn counted(kept: u8, more: bool) -> u8
-    ensures { result ≡ min (count_if more + kept) 4 }
-{
-    let all = if more { kept as u16 + 1 } else { kept as u16 };
-    if all < 4 { all as u8 } else { 4 }
 }

@@ -5,7 +5,7 @@
 
 ghost use Rattle.std.specs.Prelude.{◌≡◌, ◌++◌, ◌+◌, ◌-◌, ◌*◌, ◌/◌, ◌≤◌, ◌<◌, length, take, replicate};
 ghost use Rattle.lists.specs.Room.{over_at};
-ghost use Rattle.refusal.specs.declared.Verdict.TheVariants.{Accepted};
+ghost use Rattle.refusal.specs.Verdict.{Accepted};
 ghost use Rattle.bits.specs.Bits.{bits, num, bytes_of};
 ghost use Rattle.bits.specs.Table.{Reverses};
 ghost use Rattle.scte20.specs.Value.{held, Ranged};
@@ -14,40 +14,27 @@ ghost use Rattle.scte20.specs.Lent.{unit_in};
 ghost use Rattle.scte20.specs.Writing.{value_verdict, Writes};
 ghost use Rattle.scte20_writer.specs.Inside.{counted_size, Counts, pushed};
 
-use refusal::{Laid, Verdict};
+use refusal::Judged;
 use scte20::{CONSTRUCT_BITS, CONSTRUCTS, LENT_RECORDS, MAX_BYTES, Numbers, Record, SAMPLED_BITS};
 
 // Writes the body of the unit that numbers and a lent array tell, into out from index `before` on. Judged is the whole result,
-// which has `before` bytes in front of the body and `after` bytes behind it.
+// which has `before` bytes in front of the body and `after` bytes behind it. Answers how many bytes the body has.
 pub fn write_from(
     v: Numbers,
     records: &[u8; LENT_RECORDS],
     before: usize,
     after: usize,
     out: &mut [u8],
-) -> Laid
+) -> Judged<usize>
     ensures { Writes (unit_in v records.now) before after out.old result out.new }
 {
-    lists::known(records);
     if !scte20_value::is_value(v, records) {
-        let value = scte20_value::judge_value(v, records);
-        if let Verdict::Refused(_, _) = value {
-            return Laid {
-                verdict: value,
-                len: 0,
-            };
-        }
+        scte20_value::judge_value(v, records)?;
     }
     let len = size(v);
-    let fit = refusal::judge_fit(MAX_BYTES, before, len, after, out.len());
-    if let Verdict::Refused(_, _) = fit {
-        return Laid {
-            verdict: fit,
-            len: 0,
-        };
-    }
+    refusal::judge_fit(MAX_BYTES, before, len, after, out.len())?;
     put(v, records, &mut out[before..before + len]);
-    Laid { verdict: fit, len }
+    Ok(len)
 }
 
 // How many bytes the body of a value has.
@@ -72,26 +59,11 @@ fn put(v: Numbers, records: &[u8; LENT_RECORDS], out: &mut [u8])
     out[1] = v.reserved * 2 + v.vbi_data_flag;
     // What follows is zeros: the sampled video count, the alignment bits, the stuffing.
     if v.vbi_data_flag == 0 {
-        lists::clear(&mut out[2..]);
+        out[2..].fill(0);
         return;
     }
     let end = put_constructs(v, records, out);
-    clear_from(end, out);
-}
-
-// Zeros from index `end` on. One byte is stored, since it takes no call.
-fn clear_from(end: usize, out: &mut [u8])
-    requires { end ≤ length out.old }
-    ensures { out.new ≡ take end out.old ++ replicate (length out.old - end) 0 }
-{
-    if end == out.len() {
-        return;
-    }
-    out[end] = 0;
-    let next = end + 1;
-    if next < out.len() {
-        lists::clear(&mut out[next..]);
-    }
+    out[end..].fill(0);
 }
 
 // cc_count and the constructs, behind the first two bytes. Answers the first index behind them. A construct is stored as a whole word, with zeros
@@ -104,13 +76,10 @@ fn put_constructs(v: Numbers, records: &[u8; LENT_RECORDS], out: &mut [u8]) -> u
     // Once for all constructs: wherever the table is asked for, its 256 bytes are laid on the stack.
     let table = bits::reversed_bytes();
     let mut last = v.n as u32;
-    let mut i = 0;
-    while i < v.n {
-        let next = scte20::record_in(records, i);
-        let construct = construct_of(next, &table);
+    for i in 0..v.n {
+        let construct = construct_of(scte20::record_in(records, i), &table);
         push(last, construct, i, out);
         last = construct;
-        i += 1;
     }
     let bit = 5 + CONSTRUCT_BITS * v.n;
     let at = 2 + bit / 8;
@@ -142,16 +111,6 @@ fn push(last: u32, construct: u32, i: usize, out: &mut [u8])
     let bit = 5 + CONSTRUCT_BITS * i;
     let both = last as u64 * 67108864 + construct as u64;
     let word = ((both << 8) >> (bit % 8 + 2) as u32) % 4294967296;
-    put_word(word as u32, 2 + bit / 8, out);
-}
-
-// Stores a word, most significant byte first.
-fn put_word(word: u32, at: usize, out: &mut [u8])
-    requires { at + 4 ≤ length out.old }
-    ensures { out.new ≡ over_at at (bytes_of 4 (bits 32 word)) out.old }
-{
-    out[at] = (word / 16777216) as u8;
-    out[at + 1] = (word / 65536 % 256) as u8;
-    out[at + 2] = (word / 256 % 256) as u8;
-    out[at + 3] = (word % 256) as u8;
+    let at = 2 + bit / 8;
+    out[at..at + 4].copy_from_slice(&(word as u32).to_be_bytes());
 }

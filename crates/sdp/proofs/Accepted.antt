@@ -5,7 +5,7 @@ use mathlib.Core.Path.{◌≡◌}
 use mathlib.Core.List.{List}
 use lib.ListN.{length, get_or, drop}
 use Rattle.lists.specs.Sum.{sum}
-use Rattle.refusal.specs.declared.Verdict.TheVariants.{Accepted}
+use Rattle.refusal.specs.Verdict.{Accepted}
 use Rattle.refusal.proofs.Checks.{accepted-and_then, accepted-equal, accepted-within}
 use Rattle.sdp.specs.Layout.{user_length}
 use Rattle.sdp.specs.User.{descriptors_in, descriptors_verdict, structures_in, structures_verdict, head_verdict, tail_verdict}

@@ -6,7 +6,7 @@ use mathlib.Core.Path.{◌≡◌, ◌∙◌, ap, sym, subst}
 use mathlib.Core.Logic.{◌↔◌, ⊎_elim}
 use mathlib.Core.List.{List}
 use Rattle.lists.specs.Bytes.{Bytes}
-use Rattle.refusal.specs.declared.Verdict.TheVariants.{Accepted}
+use Rattle.refusal.specs.Verdict.{Accepted}
 use Rattle.refusal.proofs.Checks.{accepted-and_then}
 use Rattle.sdp.specs.Value.{SlotRow, Sdp, FullSlot, LegalSlot, Legal, Row, descriptor, together}
 use Rattle.sdp.specs.Layout.{user_bytes}

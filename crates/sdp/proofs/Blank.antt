@@ -33,3 +33,6 @@ blank-more row j any inside e =
     ∙ ap (λ (t : Bool). t && eqb x 0) e
     ∙ sym (blank-append (take j row) x)
     ∙ ap all_zero (sym (ap (λ (k : ℕ). take k row) (add-one j) ∙ take-suc row j 0 inside))
+
+-- for a function's tactics
+pub ruleset blanks = (blank-more)

@@ -1,10 +1,13 @@
 -- The descriptors among the user words, and how many of them are not 0: each of these has a structure.
 -- Assumes nothing.
 use Prim.Native.Nat.{ℕ, zero, suc, ◌+◌, ◌≤◌, ◌<◌}
+use Rattle.std.proofs.Common.{count_by, cond, eqb, not, sym}
+use Rattle.std.proofs.lemmas.List.Recursion.{is_count_by}
 use native.Mathlib.Omega.{arith}
 use native.Mathlib.Numerals.{add-one}
 use mathlib.Core.Path.{◌≡◌, ◌∙◌, ap, refl}
 use mathlib.Core.List.{List, [], ◌∷◌, map}
+use borrow.Author.Tests.{ne_eqb}
 use lib.ListN.{length, get_or, take, drop, length-take, length-map}
 use lib.Seq.{get_or-take}
 use Rattle.lists.proofs.Part.{length_part}
@@ -42,3 +45,15 @@ descriptor-at ws i h = get_or-take 5 (drop 4 (map byte_of ws)) i 0 h ∙ byte-fr
 
 pub length-descriptors : (ws : List ℕ) → 9 ≤ length ws → length (descriptors_in (map byte_of ws)) ≡ 5
 length-descriptors ws h = length_part (map byte_of ws) 4 9 (omega (arith, length-map ws byte_of))
+
+-- counting what has a descriptor that is not 0 counts these descriptors
+count-one : (d : ℕ) (ds : List ℕ) → count (d ∷ ds) ≡ cond (not (eqb d 0)) (1 + count ds) (count ds)
+count-one zero ds = refl
+count-one (suc d) ds =
+    let some : suc d ≡ 0 → ⊥ = λ e. omega arith in
+    let one : suc (count ds) ≡ 1 + count ds = omega arith in
+    simp (ne_eqb (suc d) 0 some) one
+
+pub full-counted : {A : Type 0} (f : A → ℕ) (xs : List A) → count_by (λ (x : A). not (eqb (f x) 0)) xs ≡ count (map f xs)
+full-counted {A = A} f xs =
+    sym (is_count_by (λ (ys : List A). count (map f ys)) (λ (x : A). not (eqb (f x) 0)) refl (λ x ys. count-one (f x) (map f ys)) xs)

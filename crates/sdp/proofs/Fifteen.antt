@@ -10,8 +10,8 @@ use mathlib.Core.List.{[], ◌∷◌}
 use borrow.Author.Tests.{le-ltb, lt-ltb, eq-eqb, eqb-true}
 use lib.Dec.{eqb, ltb}
 use Rattle.refusal.specs.declared.Refusal.{Refusal}
-use Rattle.refusal.specs.declared.Verdict.{Verdict}
-use Rattle.refusal.specs.declared.Verdict.TheVariants.{Accepted, Refused}
+use Rattle.refusal.specs.Verdict.{Verdict}
+use Rattle.refusal.specs.Verdict.{Accepted, Refused}
 use Rattle.refusal.specs.declared.Reason.TheVariants.{Unholdable, DescriptorLine}
 use Rattle.refusal.specs.declared.Excess.TheVariants.{SlotMark, SlotLine, SlotReserved, SlotField, SlotUnwritable}
 use Rattle.refusal.specs.declared.Item.TheVariants.{Whole}

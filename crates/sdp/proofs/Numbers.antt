@@ -11,7 +11,7 @@ use lib.Dec.{eqb}
 use lib.ListN.{length, replicate, length-append, length-map}
 use Rattle.lists.specs.Each.{Each}
 use Rattle.lists.proofs.Each.{each_map, each_both}
-use Rattle.refusal.specs.declared.Verdict.TheVariants.{Accepted}
+use Rattle.refusal.specs.Verdict.{Accepted}
 use Rattle.refusal.specs.declared.Item.TheVariants.{Whole}
 use Rattle.refusal.proofs.Checks.{accepted-refuse_if, both_hold, accepted-and_then, accepted-each, each-accepted, accepted-within}
 use Rattle.sdp.specs.declared.Slot.{Slot}

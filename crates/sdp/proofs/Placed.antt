@@ -20,7 +20,7 @@ use Rattle.refusal.specs.declared.Fixed.TheVariants.{Identifier, FormatCode, Run
 use Rattle.refusal.specs.declared.Misfit.TheVariants.{SdpLength, Structures}
 use Rattle.refusal.specs.declared.Item.{Item}
 use Rattle.refusal.specs.declared.Item.TheVariants.{Whole, Word}
-use Rattle.refusal.specs.declared.Verdict.TheVariants.{Accepted, Refused}
+use Rattle.refusal.specs.Verdict.{Accepted, Refused}
 use Rattle.refusal.specs.Numbers.{fixed_number, number_of}
 use Rattle.refusal.specs.Checks.{refuse_if}
 use Rattle.refusal.proofs.Checks.{accepted-refuse_if, accepted-within, accepted-equal, accepted-and_then}

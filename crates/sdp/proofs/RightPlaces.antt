@@ -9,7 +9,7 @@ use mathlib.Core.List.{List, [], ◌∷◌}
 use lib.ListN.{length, get_or, drop}
 use lib.Seq.{get_or-take, get_or-drop}
 use Rattle.lists.proofs.Part.{length_part}
-use Rattle.refusal.specs.declared.Verdict.TheVariants.{Accepted}
+use Rattle.refusal.specs.Verdict.{Accepted}
 use Rattle.refusal.specs.declared.Item.TheVariants.{Word}
 use Rattle.refusal.proofs.Checks.{accepted-and_then}
 use Rattle.sdp.specs.Value.{Sdp, LegalLine, Legal}

@@ -12,7 +12,7 @@ use Rattle.lists.specs.Sum.{sum}
 use Rattle.lists.proofs.Each.{each_at, each_take, each-drop}
 use Rattle.lists.proofs.Part.{length_part}
 use Rattle.lists.proofs.Sum.{sum-append}
-use Rattle.refusal.specs.declared.Verdict.TheVariants.{Accepted}
+use Rattle.refusal.specs.Verdict.{Accepted}
 use Rattle.refusal.proofs.Checks.{and_then-accepted}
 use Rattle.sdp.specs.Value.{SlotRow, Sdp, descriptor, Legal}
 use Rattle.sdp.specs.Layout.{descriptors_of, count, structures, user_length, footer, body, sdp_checksum, user_bytes}

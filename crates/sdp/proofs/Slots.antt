@@ -7,7 +7,7 @@ use mathlib.Core.Logic.{inl, ⊎_elim}
 use mathlib.Core.List.{List, [], ◌∷◌}
 use Rattle.lists.specs.Each.{Each}
 use Rattle.lists.specs.Bytes.{Bytes}
-use Rattle.refusal.specs.declared.Verdict.TheVariants.{Accepted}
+use Rattle.refusal.specs.Verdict.{Accepted}
 use Rattle.refusal.specs.declared.Item.{Item}
 use Rattle.refusal.specs.declared.Item.TheVariants.{Word}
 use Rattle.refusal.proofs.Checks.{accepted-refuse_if, refuse_if-accepted, and_then-accepted}
@@ -36,6 +36,9 @@ slot_of-descriptor d h = omega arith
 pub mark-some : (d : ℕ) → (d ≡ 0 → ⊥) → mark_of d ≡ 1
 mark-some zero h = absurd (h refl)
 mark-some (suc d) h = refl
+
+-- for a function's tactics
+pub ruleset marks = (mark-some)
 
 -- and a legal slot is what its descriptor tells of
 full-slot_of : (x : SlotRow) → FullSlot x → slot_of (descriptor x.slot) ≡ x.slot

@@ -10,7 +10,7 @@ use lib.Seq.{take_at, drop_at, drop-drop, length-take-le}
 use Rattle.lists.specs.Each.{Each}
 use Rattle.lists.specs.Bytes.{Bytes}
 use Rattle.lists.proofs.Each.{each_take, each-drop}
-use Rattle.refusal.specs.declared.Verdict.TheVariants.{Accepted}
+use Rattle.refusal.specs.Verdict.{Accepted}
 use Rattle.refusal.specs.declared.Item.TheVariants.{Word}
 use Rattle.refusal.proofs.Checks.{accepted-and_then, accepted-equal}
 use Rattle.sdp.specs.Value.{SlotRow, together, descriptor, zero_row, FullSlot, LegalSlot}

@@ -6,7 +6,7 @@ use mathlib.Core.Path.{◌≡◌, ◌∙◌, ap, sym}
 use mathlib.Core.Logic.{inl, ⊎_elim}
 use mathlib.Core.Bool.{true, false}
 use borrow.Author.Tests.{le-ltb, eq-eqb, ne_eqb}
-use Rattle.refusal.specs.declared.Verdict.TheVariants.{Accepted}
+use Rattle.refusal.specs.Verdict.{Accepted}
 use Rattle.refusal.specs.declared.Item.TheVariants.{Whole}
 use Rattle.sdp.specs.Value.{SlotRow, LegalLine, LegalSlot, descriptor}
 use Rattle.sdp.specs.User.{mark_of}
@@ -52,3 +52,6 @@ module _ (x : SlotRow) where
       (λ e. ap (λ (y : SlotRow). y.slot.full) e ∙ sym (ap (λ (y : SlotRow). mark_of (descriptor y.slot)) e))
       (λ full. full.mark ∙ sym (mark-some (descriptor x.slot) (λ e. omega (arith, full.some))))
       h
+
+-- for a function's tactics
+pub ruleset passing = (empty-passes, full-passes)

@@ -1,6 +1,6 @@
 -- What functions promise each other. No theorem for a signer speaks of it.
 use Rattle.std.specs.Prelude.{◌≡◌, Bool, true}
-use Rattle.refusal.specs.declared.Verdict.TheVariants.{Accepted}
+use Rattle.refusal.specs.Verdict.{Accepted}
 use Rattle.sdp.specs.Value.{SlotRow}
 use Rattle.sdp.specs.SlotVerdict.{slot_verdict}
 

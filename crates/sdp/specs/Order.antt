@@ -1,6 +1,6 @@
 -- RULES, "Order of checks": the checks of descriptors, structures and slots, as lists in the order of RULES.
 use Rattle.std.specs.Prelude.{ℕ, zero, suc, ◌+◌, ◌%◌, not, ◌&&◌, ◌||◌, List, [], ◌∷◌, eqb, ltb, get_or, drop}
-use Rattle.refusal.specs.declared.Verdict.{Verdict}
+use Rattle.refusal.specs.Verdict.{Verdict}
 use Rattle.refusal.specs.declared.Reason.TheVariants.{Unfixed, DescriptorLine, Unholdable}
 use Rattle.refusal.specs.declared.Fixed.TheVariants.{RunIn, FramingCode}
 use Rattle.refusal.specs.declared.Excess.TheVariants.{SlotMark, SlotLine, SlotReserved, SlotField, SlotUnwritable}

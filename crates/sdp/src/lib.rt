@@ -22,7 +22,7 @@ pub const STRUCTURES: usize = 9;
 
 pub const STRUCTURE_WORDS: usize = 45;
 
-// One slot's numbers: 1 full or 0 empty, and what its descriptor says (002, 5.4.2).
+// One slot's numbers: 1 full or 0 empty, and what its descriptor says (002, 5.4.2). Numbers, since C callers hand in any, which 15 refuses.
 #[repr(C)]
 #[derive(Clone, Copy)]
 pub struct Slot {

@@ -7,22 +7,15 @@ ghost use Rattle.sdp.specs.User.{line_verdict};
 use refusal::{Item, Reason, Verdict};
 
 // 7 of a descriptor's line.
+#[tactic(auto, unfolding(crate::specs::User::line_verdict))]
 pub fn judge_line(line: u8, item: Item) -> Verdict
     ensures { result ≡ line_verdict item line }
 {
-    if line == 0 {
-        return Verdict::Accepted;
-    }
-    if line < 6 {
-        return Verdict::Refused(Reason::DescriptorLine, item);
-    }
-    if 22 < line {
-        return Verdict::Refused(Reason::DescriptorLine, item);
-    }
-    Verdict::Accepted
+    refusal::judge_line::<6>(line, Reason::DescriptorLine, item)
 }
 
 // The sum of the words' bytes, modulo 256.
+#[tactic(auto, using(crate::proofs::Bytes::sums))]
 pub fn byte_sum(words: &[u16]) -> u16
     ensures { result ≡ sum (map byte_of words.now) % 256 }
 {

@@ -4,7 +4,7 @@
 
 ghost use Rattle.std.specs.Prelude.{◌≤◌, ◌<◌, length};
 
-use refusal::{Item, Reason, Verdict};
+use refusal::{Item, Reason, Refusal, Verdict};
 use sdp::{Packet, ROW_BYTES, SLOTS, Slot};
 use std::io;
 use std::io::Stdout;
@@ -18,17 +18,16 @@ fn main(rt: HostRuntime) -> io::Result<()> {
         return rt.eprint("usage: sdplist <PACKET\n");
     }
     let mut bytes = [0u8; 2 * ROOM];
-    let input = input::read(rt.stdin(), &mut bytes);
-    if let Some(why) = input.failure {
-        return print::failed(rt.stderr(), "sdplist: standard input", why);
-    }
-    let n = input.len;
+    let n = match input::read(rt.stdin(), &mut bytes) {
+        Ok(n) => n,
+        Err(why) => return print::failed(rt.stderr(), "sdplist: standard input", why),
+    };
     let written = if n == 2 * ROOM {
-        let rest = input::count_rest(rt.stdin());
-        if let Some(why) = rest.failure {
-            return print::failed(rt.stderr(), "sdplist: standard input", why);
-        }
-        print::too_long(rt.stdout(), (n + rest.len) / 2)
+        let rest = match input::count_rest(rt.stdin()) {
+            Ok(rest) => rest,
+            Err(why) => return print::failed(rt.stderr(), "sdplist: standard input", why),
+        };
+        print::too_long(rt.stdout(), (n + rest) / 2)
     } else {
         list_bytes(rt.stdout(), &bytes[..n])
     };
@@ -55,49 +54,42 @@ fn words_of(input: &[u8]) -> [u16; ROOM]
     requires { length input.now ≤ 492 }
 {
     let mut words = [0u16; ROOM];
-    let mut i = 0;
-    while i < input.len() / 2 {
-        words[i] = wide(input[2 * i]) * 256 + wide(input[2 * i + 1]);
-        i += 1;
+    for (word, pair) in words.iter_mut().zip(input.chunks_exact(2)) {
+        *word = u16::from_be_bytes([pair[0], pair[1]]);
     }
     words
 }
 
 // Half a word after the last whole one: the input ends before the next byte.
 fn refuse_half(out: Stdout, count: usize) -> io::Result<()> {
-    let verdict = Verdict::Refused(Reason::Ends, Item::Length(count));
-    print::refused(out, refusal::told(verdict))
-}
-
-fn wide(b: u8) -> u16
-    ensures { result < 256 }
-{
-    b as u16
+    let verdict = Err((Reason::Ends, Item::Length(count)));
+    print::refused(out, Refusal::from(verdict))
 }
 
 fn list(out: Stdout, words: &[u16]) -> io::Result<()> {
     let answer = subtitling_reader::read(words);
     let refusal = answer.refusal;
+    // By its number: an answer in the layout of C tells no more of a refusal.
     if refusal.number != 0 {
         return print::refused(out, refusal);
     }
     let packet = answer.packet;
     print::text(out, b"counter ")?;
-    print::decimal(out, packet.counter as u64)?;
+    print::decimal(out, u64::from(packet.counter))?;
     print::text(out, b"\nslot full line reserved field data\n")?;
-    list_slots(out, packet, subtitling_reader::read_rows(words))
+    list_slots(out, packet, &subtitling_reader::read_rows(words))
 }
 
-fn list_slots(out: Stdout, packet: Packet, rows: [[u8; ROW_BYTES]; SLOTS]) -> io::Result<()> {
+fn list_slots(out: Stdout, packet: Packet, rows: &[[u8; ROW_BYTES]; SLOTS]) -> io::Result<()> {
     for i in 0..SLOTS {
         print::decimal(out, i as u64)?;
-        list_slot(out, packet.slots[i], rows[i])?;
+        list_slot(out, packet.slots[i], &rows[i])?;
     }
     Ok(())
 }
 
 // An empty slot has no data to list.
-fn list_slot(out: Stdout, slot: Slot, row: [u8; ROW_BYTES]) -> io::Result<()> {
+fn list_slot(out: Stdout, slot: Slot, row: &[u8; ROW_BYTES]) -> io::Result<()> {
     spaced(out, slot.full)?;
     spaced(out, slot.line)?;
     spaced(out, slot.reserved)?;
@@ -108,16 +100,16 @@ fn list_slot(out: Stdout, slot: Slot, row: [u8; ROW_BYTES]) -> io::Result<()> {
     print::text(out, b"\n")
 }
 
-fn list_row(out: Stdout, row: [u8; ROW_BYTES]) -> io::Result<()> {
-    for i in 0..ROW_BYTES {
-        spaced_hex(out, row[i])?;
+fn list_row(out: Stdout, row: &[u8; ROW_BYTES]) -> io::Result<()> {
+    for b in row {
+        spaced_hex(out, *b)?;
     }
     Ok(())
 }
 
 fn spaced(out: Stdout, n: u8) -> io::Result<()> {
     print::text(out, b" ")?;
-    print::decimal(out, n as u64)
+    print::decimal(out, u64::from(n))
 }
 
 fn spaced_hex(out: Stdout, b: u8) -> io::Result<()> {

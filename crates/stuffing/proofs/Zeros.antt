@@ -13,7 +13,7 @@ use Rattle.lists.specs.Each.{Each}
 use Rattle.lists.proofs.Each.{each_at, each-drop, each_same, each-replicate}
 use Rattle.refusal.specs.declared.Fixed.{Fixed}
 use Rattle.refusal.specs.declared.Fixed.TheVariants.{Stuffing}
-use Rattle.refusal.specs.declared.Verdict.TheVariants.{Accepted, Refused}
+use Rattle.refusal.specs.Verdict.{Accepted, Refused}
 use Rattle.refusal.specs.declared.Reason.TheVariants.{Unfixed}
 use Rattle.refusal.specs.declared.Item.TheVariants.{Bit}
 use Rattle.refusal.specs.Checks.{refuse_if, and_then, first}

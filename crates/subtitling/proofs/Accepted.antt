@@ -4,7 +4,7 @@ use Prim.Native.Nat.{ℕ, ◌-◌, ◌%◌, ◌≤◌}
 use mathlib.Core.Path.{◌≡◌}
 use mathlib.Core.List.{List}
 use lib.ListN.{length, get_or}
-use Rattle.refusal.specs.declared.Verdict.TheVariants.{Accepted}
+use Rattle.refusal.specs.Verdict.{Accepted}
 use Rattle.refusal.proofs.Checks.{accepted-and_then, accepted-equal, accepted-within}
 use Rattle.anc.specs.Words.{words_verdict, sum_verdict, checksum_of}
 use Rattle.sdp.specs.User.{head_verdict, tail_verdict, user_verdict}

@@ -5,8 +5,8 @@ use mathlib.Core.Path.{◌≡◌, ◌∙◌, ap, ap₂, sym, subst}
 use mathlib.Core.Logic.{◌↔◌}
 use mathlib.Core.List.{List}
 use lib.ListN.{length}
-use Rattle.refusal.specs.declared.Verdict.{Verdict}
-use Rattle.refusal.specs.declared.Verdict.TheVariants.{Accepted}
+use Rattle.refusal.specs.Verdict.{Verdict}
+use Rattle.refusal.specs.Verdict.{Accepted}
 use Rattle.refusal.specs.Numbers.{refusal_of}
 use Rattle.refusal.specs.Answers.{accepted}
 use Rattle.refusal.proofs.Acceptance.{told-accepted}

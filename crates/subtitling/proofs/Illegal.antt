@@ -8,8 +8,8 @@ use mathlib.Core.List.{List, [], ◌∷◌}
 use lib.Dec.{ltb}
 use lib.ListN.{length}
 use Rattle.refusal.specs.declared.Refusal.{Refusal}
-use Rattle.refusal.specs.declared.Verdict.{Verdict}
-use Rattle.refusal.specs.declared.Verdict.TheVariants.{Accepted}
+use Rattle.refusal.specs.Verdict.{Verdict}
+use Rattle.refusal.specs.Verdict.{Accepted}
 use Rattle.refusal.specs.declared.Reason.TheVariants.{DescriptorLine, Unholdable}
 use Rattle.refusal.specs.declared.Excess.TheVariants.{Counter, SlotMark, SlotLine, SlotReserved, SlotField, SlotUnwritable}
 use Rattle.refusal.specs.declared.Item.TheVariants.{Whole}

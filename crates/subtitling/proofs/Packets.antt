@@ -10,7 +10,7 @@ use lib.Seq.{get_or_at, take_at, drop-drop, drop-cons}
 use Rattle.lists.specs.Bytes.{Bytes}
 use Rattle.lists.specs.Part.{part}
 use Rattle.lists.proofs.Part.{part-cons}
-use Rattle.refusal.specs.declared.Verdict.TheVariants.{Accepted}
+use Rattle.refusal.specs.Verdict.{Accepted}
 use Rattle.anc.specs.Words.{parity_of, word_of, byte_of, words_verdict, sum_verdict, checksum_of}
 use Rattle.anc.proofs.Words.{word_byte, words-bytes, words-accepted, accepted-words, sum-accepted}
 use Rattle.subtitling.specs.Layout.{covered, packet}

@@ -9,7 +9,7 @@ use mathlib.Core.List.{List}
 use lib.ListN.{length, get_or, drop}
 use lib.Seq.{get_or-take, get_or-drop}
 use Rattle.lists.specs.Part.{part}
-use Rattle.refusal.specs.declared.Verdict.TheVariants.{Accepted}
+use Rattle.refusal.specs.Verdict.{Accepted}
 use Rattle.anc.specs.Words.{byte_of, ByteWords}
 use Rattle.anc.proofs.Words.{word_byte, word_low, accepted-sum}
 use Rattle.sdp.specs.Value.{Sdp, Legal}

@@ -10,8 +10,8 @@ use Rattle.lists.specs.Each.{Each}
 use Rattle.lists.specs.Part.{part}
 use Rattle.lists.proofs.Each.{each_map, append-each}
 use Rattle.lists.proofs.Part.{length_part}
-use Rattle.refusal.specs.declared.Verdict.{Verdict}
-use Rattle.refusal.specs.declared.Verdict.TheVariants.{Accepted}
+use Rattle.refusal.specs.Verdict.{Verdict}
+use Rattle.refusal.specs.Verdict.{Accepted}
 use Rattle.refusal.specs.Checks.{and_then, first}
 use Rattle.refusal.proofs.Checks.{and_then-assoc, and_then-last, accepted-and_then, and_then-refused}
 use Rattle.refusal.proofs.Sequence.{first-append, and_then-agree, first-refused}

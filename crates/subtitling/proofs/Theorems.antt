@@ -18,8 +18,8 @@ use mathlib.Core.List.{List}
 use lib.ListN.{length, get_or, take}
 use Rattle.lists.specs.Room.{over}
 use Rattle.refusal.specs.declared.Written.{Written}
-use Rattle.refusal.specs.declared.Verdict.{Verdict}
-use Rattle.refusal.specs.declared.Verdict.TheVariants.{Accepted}
+use Rattle.refusal.specs.Verdict.{Verdict}
+use Rattle.refusal.specs.Verdict.{Accepted}
 use Rattle.refusal.specs.Checks.{first}
 use Rattle.refusal.specs.Numbers.{refusal_of}
 use Rattle.refusal.specs.Answers.{accepted, refused, written}

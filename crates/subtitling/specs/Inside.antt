@@ -1,6 +1,8 @@
 -- What functions promise each other. No theorem for a signer speaks of it.
-use Rattle.std.specs.Prelude.{ℕ, ◌<◌, ◌≡◌, Bool, true, List, [], ◌∷◌, ◌++◌, map, drop}
-use Rattle.refusal.specs.declared.Verdict.TheVariants.{Accepted}
+use Rattle.std.specs.Prelude.{ℕ, ◌-◌, ◌%◌, ◌≤◌, ◌≡◌, Bool, true, List, [], ◌∷◌, ◌++◌, map, drop, length, slice_index, Option, IfSome, Result, Err, MatchResult}
+use Rattle.refusal.specs.declared.Reason.{Reason}
+use Rattle.refusal.specs.declared.Item.{Item}
+use Rattle.refusal.specs.Verdict.{Accepted}
 use Rattle.anc.specs.Words.{word_of, byte_of, checksum_of}
 use Rattle.sdp.specs.declared.Packet.{Packet}
 use Rattle.sdp.specs.Value.{descriptor, held}
@@ -12,9 +14,28 @@ use Rattle.subtitling.specs.Writing.{value_verdict}
 abbrev pub Vouches : List ℕ → Bool → Type 0
 Vouches s r = r ≡ true → packet_verdict s ≡ Accepted
 
--- a number of structures below 6 is the value's, and vouches for the value in an output of this room; another says nothing
-abbrev pub CountVouches : Packet → List (List ℕ) → ℕ → ℕ → Type 0
-CountVouches p rows room k = k < 6 → (value_verdict (held p rows) room ≡ Accepted) × (k ≡ count (map descriptor p.slots))
+-- what stands around the words that are summed: the length, the flag, DID, SDID and DC
+pub record Surround (s : List ℕ) : Type 0 where
+  pub long : 20 ≤ length s
+  pub short : length s ≤ 245
+  pub flag0 : slice_index s 0 ≡ 0x000
+  pub flag1 : slice_index s 1 ≡ 0x3FF
+  pub flag2 : slice_index s 2 ≡ 0x3FF
+  pub did : slice_index s 3 ≡ 0x143
+  pub sdid : slice_index s 4 ≡ 0x102
+  pub dc : slice_index s 5 % 256 ≡ length s - 7
+
+-- a number of structures that is told is the value's, and vouches for the value in an output of this room; none says nothing
+abbrev pub CountVouches : Packet → List (List ℕ) → ℕ → Option ℕ → Type 0
+CountVouches p rows room told =
+    IfSome told (λ k. (value_verdict (held p rows) room ≡ Accepted) × (k ≡ count (map descriptor p.slots)))
+
+-- how many structures a value brings, or why it cannot be written to an output of this room
+abbrev pub CountJudged : Packet → List (List ℕ) → ℕ → Result ℕ (Reason × Item) → Type 0
+CountJudged p rows room told =
+    MatchResult told
+    (λ k. (value_verdict (held p rows) room ≡ Accepted) × (k ≡ count (map descriptor p.slots)))
+    (λ why. value_verdict (held p rows) room ≡ Err why)
 
 -- a packet up to its SDP checksum, with that word behind it,
 abbrev pub summed : List ℕ → List ℕ

@@ -3,7 +3,7 @@
 use Rattle.std.specs.Prelude.{ℕ, ◌-◌, ◌%◌, ◌≤◌, ◌≡◌, not, List, [], ◌∷◌, ◌++◌, eqb, ltb, length, get_or, drop}
 use Rattle.lists.specs.Each.{Each}
 use Rattle.lists.specs.Sum.{sum}
-use Rattle.refusal.specs.declared.Verdict.{Verdict}
+use Rattle.refusal.specs.Verdict.{Verdict}
 use Rattle.refusal.specs.declared.Reason.TheVariants.{TooLong, NoStart, Ends, Unfixed, SdpChecksum, Checksum, Unfit, NoRoom, Unholdable}
 use Rattle.refusal.specs.declared.Fixed.TheVariants.{Identifier, FormatCode, Footer}
 use Rattle.refusal.specs.declared.Misfit.TheVariants.{DataCount, SdpLength, Structures}

@@ -2,8 +2,8 @@
 -- 11 from DID to CS; DID, SDID 6; DC 13; the rules over the user words; CS 12.
 use Rattle.std.specs.Prelude.{ℕ, ◌-◌, ◌%◌, ◌≡◌, not, List, [], ◌∷◌, map, eqb, ltb, length, get_or}
 use Rattle.lists.specs.Part.{part}
-use Rattle.refusal.specs.declared.Verdict.{Verdict}
-use Rattle.refusal.specs.declared.Verdict.TheVariants.{Accepted, Refused}
+use Rattle.refusal.specs.Verdict.{Verdict}
+use Rattle.refusal.specs.Verdict.{Accepted, Refused}
 use Rattle.refusal.specs.declared.Reason.TheVariants.{TooLong, NoStart, Ends, Unfixed, Checksum, Unfit}
 use Rattle.refusal.specs.declared.Fixed.TheVariants.{Identifier}
 use Rattle.refusal.specs.declared.Misfit.TheVariants.{DataCount}

@@ -1,7 +1,7 @@
 -- What writing a subtitling packet answers, and what the lent output then holds, for every value and output. RULES,
 -- "Order of checks": 15 of the counter; slot by slot 15 and 7; 1; 14.
 use Rattle.std.specs.Prelude.{ℕ, List, [], ◌∷◌, ltb, length}
-use Rattle.refusal.specs.declared.Verdict.{Verdict}
+use Rattle.refusal.specs.Verdict.{Verdict}
 use Rattle.refusal.specs.declared.Reason.TheVariants.{Unholdable}
 use Rattle.refusal.specs.declared.Excess.TheVariants.{Counter}
 use Rattle.refusal.specs.declared.Item.TheVariants.{Whole}

@@ -10,23 +10,23 @@ ghost use Rattle.sdp.specs.Layout.{user_length};
 ghost use Rattle.sdp.specs.User.{structures_in, user_value};
 ghost use Rattle.subtitling.specs.Reading.{Reads, ReadsInto, ReadsRows};
 
-use refusal::Verdict;
+use refusal::Refusal;
 use sdp::{DESCRIPTORS, Packet, ROW_BYTES, SLOTS, STRUCTURE_WORDS, STRUCTURES};
 use subtitling::{Answer, USER};
 
 // Reads a packet's numbers.
+#[tactic(auto, using(crate::proofs::Told::telling))]
 pub fn read(words: &[u16]) -> Answer
     ensures { Reads words.now result }
 {
     let verdict = subtitling::judge(words);
-    let refusal = refusal::told(verdict);
+    let refusal = Refusal::from(verdict);
     match verdict {
-        Verdict::Accepted => {
-            let n = words.len();
-            let packet = packet_in(&words[USER..n - 1]);
+        Ok(()) => {
+            let packet = packet_in(&words[USER..words.len() - 1]);
             Answer { refusal, packet }
         }
-        Verdict::Refused(_, _) => {
+        Err(_) => {
             let packet = nothing();
             Answer { refusal, packet }
         }
@@ -34,30 +34,31 @@ pub fn read(words: &[u16]) -> Answer
 }
 
 // Reads the rows of a packet's slots: zeros for an empty slot, and in a refusal.
+#[tactic(auto, using(crate::proofs::Told::telling))]
 pub fn read_rows(words: &[u16]) -> [[u8; ROW_BYTES]; SLOTS]
     ensures { ReadsRows words.now result }
 {
-    if let Verdict::Accepted = subtitling::judge(words) {
-        let n = words.len();
-        return rows_in(&words[USER..n - 1]);
+    match subtitling::judge(words) {
+        Ok(()) => rows_in(&words[USER..words.len() - 1]),
+        Err(_) => [[0; ROW_BYTES]; SLOTS],
     }
-    [[0; ROW_BYTES]; SLOTS]
 }
 
 // Reads a packet's numbers, and its rows into a lent array, which a refusal leaves as it is.
+#[tactic(auto, using(crate::proofs::Told::telling))]
 pub fn read_into(words: &[u16], rows: &mut [[u8; ROW_BYTES]; SLOTS]) -> Answer
     ensures { ReadsInto words.now rows.old result rows.new }
 {
     let verdict = subtitling::judge(words);
-    let refusal = refusal::told(verdict);
+    let refusal = Refusal::from(verdict);
     match verdict {
-        Verdict::Accepted => {
-            let n = words.len();
-            let packet = packet_in(&words[USER..n - 1]);
-            *rows = rows_in(&words[USER..n - 1]);
+        Ok(()) => {
+            let user = &words[USER..words.len() - 1];
+            let packet = packet_in(user);
+            *rows = rows_in(user);
             Answer { refusal, packet }
         }
-        Verdict::Refused(_, _) => {
+        Err(_) => {
             let packet = nothing();
             Answer { refusal, packet }
         }
@@ -71,10 +72,8 @@ fn packet_in(user: &[u16]) -> Packet
 {
     let n = user.len();
     let mut slots = [sdp::slot_of(0); SLOTS];
-    let mut i = 0;
-    while i < SLOTS {
+    for i in 0..SLOTS {
         slots[i] = sdp::slot_of((user[DESCRIPTORS + i] % 256) as u8);
-        i += 1;
     }
     let high = (user[n - 3] % 256) as u32;
     let low = (user[n - 2] % 256) as u32;
@@ -91,35 +90,35 @@ fn rows_in(user: &[u16]) -> [[u8; ROW_BYTES]; SLOTS]
 {
     let mut rows = [[0; ROW_BYTES]; SLOTS];
     let mut at = STRUCTURES;
-    let mut i = 0;
-    while i < SLOTS {
+    for i in 0..SLOTS {
         if user[DESCRIPTORS + i] % 256 != 0 {
             rows[i] = row_at(user, at + 3);
             at += STRUCTURE_WORDS;
         }
-        i += 1;
     }
     rows
 }
 
 // The 42 bytes from index at on.
+#[tactic(auto, using(crate::proofs::Told::rowing))]
 fn row_at(user: &[u16], at: usize) -> [u8; ROW_BYTES]
     requires { at + 42 ≤ length user.now }
     ensures { result ≡ take 42 (drop at (map byte_of user.now)) }
 {
     let mut row = [0; ROW_BYTES];
-    let mut j = 0;
-    while j < ROW_BYTES {
+    for j in 0..ROW_BYTES {
         row[j] = (user[at + j] % 256) as u8;
-        j += 1;
     }
     row
 }
 
 // All zero, as in a refusal.
+#[tactic(auto, unfolding(sdp::specs::User::slot_of))]
 fn nothing() -> Packet
     ensures { result ≡ numbers_of none }
 {
-    let slots = [sdp::slot_of(0); SLOTS];
-    Packet { counter: 0, slots }
+    Packet {
+        counter: 0,
+        slots: [sdp::slot_of(0); SLOTS],
+    }
 }

@@ -9,14 +9,14 @@ ghost use Rattle.lists.specs.Part.{part};
 ghost use Rattle.lists.specs.Room.{over};
 ghost use Rattle.lists.specs.Sum.{sum};
 ghost use Rattle.anc.specs.Words.{word_of, byte_of};
-ghost use Rattle.refusal.specs.declared.Verdict.TheVariants.{Accepted};
+ghost use Rattle.refusal.specs.Verdict.{Accepted};
 ghost use Rattle.sdp.specs.Value.{descriptor as Value·descriptor, LegalSlot, Typed, held, beside};
 ghost use Rattle.sdp.specs.Layout.{count as Layout·count, structures, footer};
 ghost use Rattle.subtitling.specs.Layout.{layout};
 ghost use Rattle.subtitling.specs.Writing.{value_verdict, Writes};
-ghost use Rattle.subtitling.specs.Inside.{CountVouches, sealed};
+ghost use Rattle.subtitling.specs.Inside.{CountVouches, CountJudged, sealed};
 
-use refusal::{Excess, Item, Reason, Verdict, Written};
+use refusal::{Excess, Item, Judged, Reason, Refusal, Verdict, Written};
 use sdp::{Packet, ROW_BYTES, SLOTS, STRUCTURE_WORDS};
 use subtitling::MIN_WORDS;
 
@@ -32,18 +32,15 @@ pub fn write_from(p: Packet, rows: &[[u8; ROW_BYTES]; SLOTS], out: &mut [u16]) -
     ensures { Writes p rows.now out.old result out.new }
 {
     by_types(p, *rows);
-    let mut k = holds(p, rows, out.len());
-    if SLOTS < k {
-        let refusal = refusal::told(judge_value(p, rows, out.len()));
-        if refusal.number != 0 {
-            return Written { refusal, len: 0 };
+    match count_judged(p, rows, out.len()) {
+        Ok(k) => {
+            put(p, rows, k, out);
+            Written {
+                refusal: Refusal::from(Ok(())),
+                len: MIN_WORDS + STRUCTURE_WORDS * k,
+            }
         }
-        k = sdp::count(p);
-    }
-    put(p, rows, k, out);
-    Written {
-        refusal: refusal::told(Verdict::Accepted),
-        len: MIN_WORDS + STRUCTURE_WORDS * k,
+        Err(why) => Written::from(Err(why)),
     }
 }
 
@@ -56,56 +53,61 @@ pub fn judge(p: Packet, rows: &[[u8; ROW_BYTES]; SLOTS], room: usize) -> Verdict
     judge_value(p, rows, room)
 }
 
-// What the types say, told of a lent array too. It does nothing.
+// What the types say. It does nothing: of a lent array the check tells the length, and of what stands in it only where it is read.
 fn by_types(p: Packet, rows: [[u8; ROW_BYTES]; SLOTS])
     ensures { Typed p rows }
 {}
 
-// How many structures a value brings that can be written. 6 is a no, and where it answers that, all may be well.
-fn holds(p: Packet, rows: &[[u8; ROW_BYTES]; SLOTS], room: usize) -> usize
+// How many structures a value brings, or why it cannot be written.
+fn count_judged(p: Packet, rows: &[[u8; ROW_BYTES]; SLOTS], room: usize) -> Judged<usize>
+    requires { Typed p rows.now }
+    ensures { CountJudged p rows.now room result }
+{
+    if let Some(k) = holds(p, rows, room) {
+        return Ok(k);
+    }
+    judge_value(p, rows, room)?;
+    Ok(sdp::count(p))
+}
+
+// How many structures a value brings that can be written. Where it answers none, all may be well.
+fn holds(p: Packet, rows: &[[u8; ROW_BYTES]; SLOTS], room: usize) -> Option<usize>
     requires { Typed p rows.now }
     ensures { CountVouches p rows.now room result }
 {
     if 65535 < p.counter {
-        return 6;
+        return None;
     }
     let mut k = 0;
-    let mut i = 0;
-    while i < SLOTS {
+    for i in 0..SLOTS {
         let slot = p.slots[i];
-        if !sdp::slot_holds(slot, rows[i]) {
-            return 6;
+        if !sdp::slot_holds(slot, &rows[i]) {
+            return None;
         }
-        k += slot.full as usize;
-        i += 1;
+        k += usize::from(slot.full);
     }
     if room < MIN_WORDS + STRUCTURE_WORDS * k {
-        return 6;
+        return None;
     }
-    k
+    Some(k)
 }
 
 // RULES, "Order of checks": 15 of the counter; 15 and 7 slot by slot; then 1, which five structures cannot meet, then 14.
+#[tactic(auto, using(crate::proofs::Stored::judging))]
 fn judge_value(p: Packet, rows: &[[u8; ROW_BYTES]; SLOTS], room: usize) -> Verdict
     requires { Typed p rows.now }
     ensures { result ≡ value_verdict (held p rows.now) room }
 {
     if 65535 < p.counter {
-        return Verdict::Refused(Reason::Unholdable(Excess::Counter), Item::Whole);
+        return Err((Reason::Unholdable(Excess::Counter), Item::Whole));
     }
-    let mut i = 0;
-    while i < SLOTS {
-        let slot = p.slots[i];
-        let verdict = sdp::judge_slot(slot, rows[i]);
-        if let Verdict::Refused(_, _) = verdict {
-            return verdict;
-        }
-        i += 1;
+    for i in 0..SLOTS {
+        sdp::judge_slot(p.slots[i], &rows[i])?;
     }
     if room < MIN_WORDS + STRUCTURE_WORDS * sdp::count(p) {
-        return Verdict::Refused(Reason::NoRoom, Item::Whole);
+        return Err((Reason::NoRoom, Item::Whole));
     }
-    Verdict::Accepted
+    Ok(())
 }
 
 // Stores the layout of a value that was judged, with k structures: 10 words up to the descriptors, these 5, the structures, 3 of the footer, and
@@ -120,8 +122,9 @@ fn put(p: Packet, rows: &[[u8; ROW_BYTES]; SLOTS], k: usize, out: &mut [u16])
     let descriptors = put_descriptors(p, &mut out[10..]);
     let structures = put_structures(p, rows, &mut out[15..]);
     let footer = put_footer(p.counter, &mut out[15 + STRUCTURE_WORDS * k..]);
-    let front = std::num::wrapping_add_u16(descriptors, structures);
-    let user = std::num::wrapping_add_u16(front, 0x151 + 0x115 + count + 0x102 + footer);
+    let user = descriptors
+        .wrapping_add(structures)
+        .wrapping_add(0x151 + 0x115 + count + 0x102 + footer);
     put_sums(18 + STRUCTURE_WORDS * k, 0x143 + 0x102 + count, user, out);
 }
 
@@ -151,13 +154,10 @@ fn put_descriptors(p: Packet, out: &mut [u16]) -> u16
     ensures out_after { out.new ≡ over (map word_of (map byte_of (map Value·descriptor p.slots))) out.old }
 {
     let mut total: u16 = 0;
-    let mut i = 0;
-    while i < SLOTS {
-        let slot = p.slots[i];
-        let word = anc::word((sdp::descriptor(slot) % 256) as u8);
+    for i in 0..SLOTS {
+        let word = anc::word((sdp::descriptor(p.slots[i]) % 256) as u8);
         out[i] = word;
-        total = std::num::wrapping_add_u16(total, word);
-        i += 1;
+        total = total.wrapping_add(word);
     }
     total
 }
@@ -172,34 +172,29 @@ fn put_structures(p: Packet, rows: &[[u8; ROW_BYTES]; SLOTS], out: &mut [u16]) -
 {
     let mut total: u16 = 0;
     let mut at = 0;
-    let mut i = 0;
-    while i < SLOTS {
-        let slot = p.slots[i];
-        if slot.full != 0 {
-            let words = put_structure(rows[i], &mut out[at..]);
-            total = std::num::wrapping_add_u16(total, words);
+    for i in 0..SLOTS {
+        if p.slots[i].full != 0 {
+            let words = put_structure(&rows[i], &mut out[at..]);
+            total = total.wrapping_add(words);
             at += STRUCTURE_WORDS;
         }
-        i += 1;
     }
     total
 }
 
-fn put_structure(row: [u8; ROW_BYTES], out: &mut [u16]) -> u16
+fn put_structure(row: &[u8; ROW_BYTES], out: &mut [u16]) -> u16
     requires { 45 ≤ length out.old }
-    ensures value { result ≡ sum (map word_of (0x55 ∷ 0x55 ∷ 0x27 ∷ row)) % 65536 }
-    ensures out_after { out.new ≡ over (map word_of (0x55 ∷ 0x55 ∷ 0x27 ∷ row)) out.old }
+    ensures value { result ≡ sum (map word_of (0x55 ∷ 0x55 ∷ 0x27 ∷ row.now)) % 65536 }
+    ensures out_after { out.new ≡ over (map word_of (0x55 ∷ 0x55 ∷ 0x27 ∷ row.now)) out.old }
 {
     out[0] = 0x255;
     out[1] = 0x255;
     out[2] = 0x227;
     let mut total: u16 = 0x255 + 0x255 + 0x227;
-    let mut j = 0;
-    while j < ROW_BYTES {
+    for j in 0..ROW_BYTES {
         let word = anc::word(row[j]);
         out[3 + j] = word;
-        total = std::num::wrapping_add_u16(total, word);
-        j += 1;
+        total = total.wrapping_add(word);
     }
     total
 }
@@ -228,6 +223,5 @@ fn put_sums(n: usize, header: u16, user: u16, out: &mut [u16])
 {
     let check = anc::word(((256 - user % 256) % 256) as u8);
     out[n] = check;
-    let covered = std::num::wrapping_add_u16(header, user);
-    out[n + 1] = anc::cs(std::num::wrapping_add_u16(covered, check));
+    out[n + 1] = anc::cs(header.wrapping_add(user).wrapping_add(check));
 }

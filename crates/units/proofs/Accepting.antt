@@ -8,7 +8,7 @@ use mathlib.Core.Bool.{Bool}
 use mathlib.Core.List.{List}
 use lib.ListN.{length}
 use Rattle.lists.specs.Each.{Each}
-use Rattle.refusal.specs.declared.Verdict.TheVariants.{Accepted}
+use Rattle.refusal.specs.Verdict.{Accepted}
 use Rattle.units.specs.declared.Found.{Found}
 use Rattle.units.specs.Layout.{Clean, layout, started}
 use Rattle.units.specs.Split.{split_verdict, bodies_of, scan_of, next_of}

@@ -12,7 +12,7 @@ use lib.Dec.{eqb, ltb}
 use Rattle.lists.specs.Each.{Each}
 use Rattle.lists.specs.Bytes.{Bytes}
 use Rattle.lists.proofs.Each.{append-each}
-use Rattle.refusal.specs.declared.Verdict.TheVariants.{Accepted}
+use Rattle.refusal.specs.Verdict.{Accepted}
 use Rattle.refusal.specs.declared.Reason.TheVariants.{TooLong, NoStart, StartCode}
 use Rattle.refusal.specs.declared.Item.TheVariants.{Whole}
 use Rattle.refusal.specs.Checks.{refuse_if, and_then}

@@ -9,8 +9,8 @@ use lib.ListN.{length, get_or, drop, length-append, drop_of_length-le}
 use lib.Seq.{get_or-drop}
 use Rattle.lists.specs.Part.{part}
 use Rattle.lists.proofs.Part.{length_part}
-use Rattle.refusal.specs.declared.Verdict.{Verdict}
-use Rattle.refusal.specs.declared.Verdict.TheVariants.{Accepted, Refused}
+use Rattle.refusal.specs.Verdict.{Verdict}
+use Rattle.refusal.specs.Verdict.{Accepted, Refused}
 use Rattle.refusal.specs.declared.Reason.{Reason}
 use Rattle.refusal.specs.declared.Reason.TheVariants.{StartCode}
 use Rattle.refusal.specs.declared.Item.{Item}
@@ -19,12 +19,11 @@ use Rattle.refusal.specs.Checks.{refuse_if, and_then}
 use Rattle.refusal.proofs.Checks.{and_then-last}
 use Rattle.units.specs.declared.Found.{Found}
 use Rattle.units.specs.declared.Found.TheVariants as found
-use Rattle.units.specs.declared.Seen.{Seen}
 use Rattle.units.specs.Layout.{prefixed, layout_unit}
 use Rattle.units.specs.Split.{Span, all_opened, cut_of, found_of, front_verdict, next_of, put_if, scan_of, spans_of, split_verdict}
-use Rattle.units.specs.Inside.{Notes, seen_of}
+use Rattle.units.specs.Inside.{Few, Notes}
 use Rattle.units.proofs.Opened.{accepted-short, accepted-prefixed}
-use Rattle.units.proofs.Kept.{Low, count-seen, noted-low}
+use Rattle.units.proofs.Kept.{few}
 use Rattle.units.proofs.Steps.{unit-cut, next-within, next-prefixed, first-refused}
 
 -- what the pieces from `at` on answer behind the units of the kind so far
@@ -32,15 +31,14 @@ abbrev answer : (List ℕ → Bool) → ℕ → List (List ℕ) → List Span �
 answer ours at pieces spans = found_of (refuse_if (not (all_opened pieces)) StartCode Whole) (spans ++ spans_of ours at pieces)
 
 -- the search stands at `at`, where a unit begins or the area ends
-pub record Going (ours : List ℕ → Bool) (s : List ℕ) (seen : Seen) (at : ℕ) : Type 0 where
+pub record Going (ours : List ℕ → Bool) (s : List ℕ) (so_far : Found) (at : ℕ) : Type 0 where
   pub short : length s ≤ 16384
   pub within : at ≤ length s
   pub here : at < length s → prefixed (drop at s) ≡ true
   -- the units of the kind before `at`
   pub spans : List Span
-  pub kept : seen ≡ seen_of spans
+  pub kept : so_far ≡ found_of Accepted spans
   pub few : length spans ≤ at
-  pub low : Low seen
   pub answers : scan_of ours s ≡ answer ours at (cut_of (drop at s)).pieces spans
 
 -- where the front is refused the search answers so
@@ -58,7 +56,7 @@ empty-nowhere ours [] e = refl
 empty-nowhere ours (b ∷ s) e = let f : ⊥ = omega arith in absurd f
 
 -- else it begins
-pub begins : (ours : List ℕ → Bool) (s : List ℕ) → front_verdict s ≡ Accepted → Going ours s (seen_of []) 0
+pub begins : (ours : List ℕ → Bool) (s : List ℕ) → front_verdict s ≡ Accepted → Going ours s found.Nowhere 0
 unfolding split_verdict
 begins ours s e =
     let codes = refuse_if (not (all_opened (cut_of s).pieces)) StartCode Whole in
@@ -69,14 +67,13 @@ begins ours s e =
       spans = [];
       kept = refl;
       few = omega arith;
-      low = (omega arith, omega arith);
       answers = ap (λ (v : Verdict). found_of v (spans_of ours 0 (cut_of s).pieces)) (ap (λ (v : Verdict). and_then v (and_then codes Accepted)) e ∙ and_then-last codes);
     }
 
-module _ {ours : List ℕ → Bool} {s : List ℕ} {seen : Seen} {at : ℕ} (going : Going ours s seen at) where
+module _ {ours : List ℕ → Bool} {s : List ℕ} {so_far : Found} {at : ℕ} (going : Going ours s so_far at) where
   -- there is room for one more in the count
-  pub room : at < length s → seen.count < 16384
-  room more = omega (arith, count-seen seen going.spans going.kept, going.few, going.short)
+  pub room : at < length s → Few so_far
+  room more = few going.spans so_far going.kept (omega (arith, going.few, going.short))
 
   -- 00 00 01 without B2
   pub refused : at < length s → (get_or s (at + 3) 0 ≡ 0xB2 → ⊥) → scan_of ours s ≡ found.NotUnits StartCode Whole
@@ -120,7 +117,7 @@ module _ {ours : List ℕ → Bool} {s : List ℕ} {seen : Seen} {at : ℕ} (goi
         end
 
     -- a foreign unit is passed,
-    pub passed-foreign : ours (part (at + 4) next s) ≡ false → Going ours s seen next
+    pub passed-foreign : ours (part (at + 4) next s) ≡ false → Going ours s so_far next
     passed-foreign foreign =
         record {
           short = going.short;
@@ -129,12 +126,11 @@ module _ {ours : List ℕ → Bool} {s : List ℕ} {seen : Seen} {at : ℕ} (goi
           spans = going.spans;
           kept = going.kept;
           few = omega (arith, going.few);
-          low = going.low;
           answers = answer-next false foreign;
         }
 
     -- and one of the kind is passed and noted
-    pub passed-ours : (r : Seen) → ours (part (at + 4) next s) ≡ true → Notes seen (record { unit = at; end = next }) r → Going ours s r next
+    pub passed-ours : (r : Found) → ours (part (at + 4) next s) ≡ true → Notes so_far (record { unit = at; end = next }) r → Going ours s r next
     passed-ours r is notes =
         let span : Span = record { unit = at; end = next } in
         let spans = going.spans ++ (span ∷ []) in
@@ -146,7 +142,6 @@ module _ {ours : List ℕ → Bool} {s : List ℕ} {seen : Seen} {at : ℕ} (goi
           spans = spans;
           kept = notes going.spans going.kept;
           few = omega (arith, going.few, length-append going.spans (span ∷ []));
-          low = noted-low seen span r going.low (omega (arith, going.short), omega (arith, going.short, inside)) going.spans going.kept (notes going.spans going.kept);
           answers = answer-next true is
               ∙ ap (found_of (refuse_if (not (all_opened rest)) StartCode Whole)) (sym (append_assoc going.spans (span ∷ []) (spans_of ours next rest)));
         }

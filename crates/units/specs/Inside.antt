@@ -1,26 +1,21 @@
--- What functions promise each other: what the search keeps on its way, and the number in which `find` answers. No theorem
--- for a signer speaks of it.
-use Rattle.std.specs.Prelude.{ℕ, zero, suc, ◌+◌, ◌/◌, ◌%◌, ◌≤◌, ◌<◌, ◌≡◌, Bool, true, List, [], ◌∷◌, ◌++◌, length, drop}
-use Rattle.refusal.specs.declared.Verdict.TheVariants.{Accepted}
-use Rattle.refusal.specs.declared.Reason.TheVariants.{TooLong, NoStart, StartCode}
-use Rattle.refusal.specs.declared.Item.TheVariants.{Whole}
+-- What private functions promise each other: what the search keeps on its way. No theorem for a signer speaks of it.
+use Rattle.std.specs.Prelude.{ℕ, ◌+◌, ◌≤◌, ◌<◌, ◌≡◌, Bool, true, List, [], ◌∷◌, ◌++◌, length, drop}
+use Rattle.refusal.specs.Verdict.{Accepted}
 use Rattle.units.specs.declared.Found.{Found}
 use Rattle.units.specs.declared.Found.TheVariants as found
-use Rattle.units.specs.declared.Seen.{Seen}
 use Rattle.units.specs.Layout.{prefixed}
 use Rattle.units.specs.Split.{Span, found_of, next_of}
 
--- of the units of the kind so far: how many there are, and where the first stands
-abbrev pub seen_of : List Span → Seen
-seen_of [] = record { count = 0; unit = 0; end = 0 }
-seen_of (span ∷ spans) = record { count = length (span ∷ spans); unit = span.unit; end = span.end }
+-- one unit more of the kind, behind those of which so much was found
+abbrev pub Notes : Found → Span → Found → Type 0
+Notes so_far span r = (spans : List Span) → so_far ≡ found_of Accepted spans → r ≡ found_of Accepted (spans ++ (span ∷ []))
 
--- one unit more is kept, and what is kept is told
-abbrev pub Notes : Seen → Span → Seen → Type 0
-Notes seen span r = (spans : List Span) → seen ≡ seen_of spans → r ≡ seen_of (spans ++ (span ∷ []))
-
-abbrev pub Tells : Seen → Found → Type 0
-Tells seen r = (spans : List Span) → seen ≡ seen_of spans → r ≡ found_of Accepted spans
+-- there is room for one more in the count
+abbrev pub Few : Found → Type 0
+Few (found.NotUnits reason item) = Unit {0}
+Few found.Nowhere = Unit {0}
+Few (found.At unit end) = Unit {0}
+Few (found.Many n) = n < 16384
 
 -- the promise of `passable`: none is passed where a 00 00 01 begins at i, else so many that the next one is still ahead
 pub record Passes (s : List ℕ) (i r : ℕ) : Type 0 where
@@ -47,15 +42,3 @@ Bounds s i r = (r + 2 ≤ length s) × (r ≤ i → length s ≤ i + 2)
 -- says nothing
 abbrev pub Quiet : ℕ → List ℕ → ℕ → Bool → Type 0
 Quiet n s i r = r ≡ true → Goes s i (i + n)
-
--- what a number of `find` tells: its last octal digit the case, the rest what the case needs
-abbrev pub case_of : ℕ → ℕ → Found
-case_of zero rest = found.Nowhere
-case_of (suc zero) rest = found.At (rest / 65536) (rest % 65536)
-case_of (suc (suc zero)) rest = found.Many rest
-case_of (suc (suc (suc zero))) rest = found.NotUnits TooLong Whole
-case_of (suc (suc (suc (suc zero)))) rest = found.NotUnits NoStart Whole
-case_of (suc (suc (suc (suc (suc more))))) rest = found.NotUnits StartCode Whole
-
-abbrev pub found_in : ℕ → Found
-found_in r = case_of (r % 8) (r / 8)

@@ -7,7 +7,7 @@ ghost use Rattle.std.specs.Prelude.{◌≡◌, ◌+◌, ◌≤◌, ◌<◌, leng
 ghost use Rattle.kind.specs.Ours.{ours};
 ghost use Rattle.units.specs.Layout.{started};
 ghost use Rattle.units.specs.Split.{next_of, opened, scan_of};
-ghost use Rattle.units.specs.Inside.{Bounds, found_in, Goes, Notes, Passes, Quiet, Stops, Tells};
+ghost use Rattle.units.specs.Inside.{Bounds, Few, Goes, Notes, Passes, Quiet, Stops};
 
 use kind::Kind;
 use refusal::{Item, Reason};
@@ -24,19 +24,6 @@ const BLOCK: usize = 64;
 
 const ZEROS: usize = 256;
 
-// The cases of `find`'s number: its last octal digit.
-const NOWHERE: u64 = 0;
-
-const AT: u64 = 1;
-
-const MANY: u64 = 2;
-
-const TOO_LONG: u64 = 3;
-
-const NO_START: u64 = 4;
-
-const START_CODE: u64 = 5;
-
 // What the search for the units of one kind found.
 #[derive(Clone, Copy)]
 pub enum Found {
@@ -49,44 +36,26 @@ pub enum Found {
     Many(usize),
 }
 
-// What the search has seen so far: how many units of the kind, and where the first stands.
-#[derive(Clone, Copy)]
-struct Seen {
-    count: usize,
-    unit: usize,
-    end: usize,
-}
-
 // Judges an area's start codes and looks for the units of one kind.
 pub fn scan(s: &[u8], kind: Kind) -> Found
     ensures { result ≡ scan_of (ours kind) s.now }
 {
-    found_in(find(s, kind))
-}
-
-// The same in one number, which `found_in` tells: a number is handed back in a register.
-pub fn find(s: &[u8], kind: Kind) -> u64
-    ensures { found_in result ≡ scan_of (ours kind) s.now }
-{
     if MAX_BYTES < s.len() {
-        return TOO_LONG;
+        return Found::NotUnits(Reason::TooLong, Item::Whole);
     }
-    if s.len() == 0 {
-        return NOWHERE;
+    if s.is_empty() {
+        return Found::Nowhere;
     }
     if !is_opened(s) {
-        return NO_START;
+        return Found::NotUnits(Reason::NoStart, Item::Whole);
     }
-    let mut seen = Seen {
-        count: 0,
-        unit: 0,
-        end: 0,
-    };
+    let mut found = Found::Nowhere;
     let mut at = 0;
+    // A while, as the one in it: the step is not always one.
     'units: while at + START_BYTES <= s.len() {
         // 00 00 01 stands at `at`.
         if s[at + 3] != USER_DATA {
-            return START_CODE;
+            return Found::NotUnits(Reason::StartCode, Item::Whole);
         }
         let body = at + START_BYTES;
         let mut next = s.len();
@@ -107,93 +76,33 @@ pub fn find(s: &[u8], kind: Kind) -> u64
         if !kind::ours(&s[body..next], kind) {
             continue 'units;
         }
-        seen = noted(seen, unit, next);
+        found = noted(found, unit, next);
     }
     if at < s.len() {
         // 00 00 01 at the very end.
-        return START_CODE;
+        return Found::NotUnits(Reason::StartCode, Item::Whole);
     }
-    told(seen)
-}
-
-// What a number of `find` tells.
-pub fn found_in(r: u64) -> Found
-    ensures { result ≡ found_in r }
-{
-    let case = r % 8;
-    let rest = r / 8;
-    if case == AT {
-        return Found::At {
-            unit: (rest / 65536) as usize,
-            end: (rest % 65536) as usize,
-        };
-    }
-    if case == NOWHERE {
-        return Found::Nowhere;
-    }
-    if case == MANY {
-        return Found::Many(rest as usize);
-    }
-    if case == TOO_LONG {
-        return Found::NotUnits(Reason::TooLong, Item::Whole);
-    }
-    if case == NO_START {
-        return Found::NotUnits(Reason::NoStart, Item::Whole);
-    }
-    Found::NotUnits(Reason::StartCode, Item::Whole)
+    found
 }
 
 // Whether 00 00 01 B2 stands at the front.
 fn is_opened(s: &[u8]) -> bool
     ensures { result ≡ opened s.now }
 {
-    if s.len() < START_BYTES {
-        return false;
-    }
-    if s[0] != 0 {
-        return false;
-    }
-    if s[1] != 0 {
-        return false;
-    }
-    if s[2] != 1 {
-        return false;
-    }
-    s[3] == USER_DATA
+    START_BYTES <= s.len() && s[0] == 0 && s[1] == 0 && s[2] == 1 && s[3] == USER_DATA
 }
 
-// A unit of the kind more. Only the first is kept.
-fn noted(seen: Seen, unit: usize, end: usize) -> Seen
-    requires { seen.count < 16384 }
-    ensures { Notes seen (record { unit = unit; end = end }) result }
+// What was found with one unit of the kind more. Only the first is told, and the others are counted.
+fn noted(found: Found, unit: usize, end: usize) -> Found
+    requires { Few found }
+    ensures { Notes found (record { unit = unit; end = end }) result }
 {
-    if seen.count == 0 {
-        return Seen {
-            count: 1,
-            unit,
-            end,
-        };
+    match found {
+        Found::NotUnits(_, _) => found,
+        Found::Nowhere => Found::At { unit, end },
+        Found::At { .. } => Found::Many(2),
+        Found::Many(n) => Found::Many(n + 1),
     }
-    Seen {
-        count: seen.count + 1,
-        unit: seen.unit,
-        end: seen.end,
-    }
-}
-
-fn told(seen: Seen) -> u64
-    requires count_bound { seen.count ≤ 16384 }
-    requires unit_bound { seen.unit ≤ 16384 }
-    requires end_bound { seen.end ≤ 16384 }
-    ensures { Tells seen (found_in result) }
-{
-    if seen.count == 0 {
-        return NOWHERE;
-    }
-    if seen.count == 1 {
-        return AT + 8 * (seen.end as u64) + 524288 * (seen.unit as u64);
-    }
-    MANY + 8 * (seen.count as u64)
 }
 
 // Where the search that goes by bytes from i on stops to look at blocks: `span` places on, or behind the last place at which 00 00 01 has room.
@@ -217,6 +126,7 @@ fn by_bytes(s: &[u8], from: usize, stop: usize) -> usize
     requires stop_in_bounds { stop + 2 ≤ length s.now }
     ensures { Stops s.now from stop result }
 {
+    // A while: the step is not always one.
     let mut i = from;
     while i < stop {
         let passed = passable(s, i);
@@ -233,6 +143,7 @@ fn by_blocks(s: &[u8], from: usize) -> usize
     requires { from ≤ length s.now }
     ensures { Goes s.now from result }
 {
+    // A while: the step is not always one.
     let mut i = from;
     while BLOCK + 2 <= s.len() - i {
         if is_blank(s, i) {
@@ -273,14 +184,12 @@ fn is_quiet(s: &[u8], i: usize) -> bool
     ensures { Quiet 64 s.now i result }
 {
     let mut clean = true;
-    let mut j = 0;
-    while j < BLOCK {
+    for j in 0..BLOCK {
         let second = s[i + j + 1];
         let third = s[i + j + 2];
         if second | third ^ 1 == 0 {
             clean = false;
         }
-        j += 1;
     }
     clean
 }
@@ -297,10 +206,8 @@ fn is_blank(s: &[u8], i: usize) -> bool
         return false;
     }
     let mut any = 0;
-    let mut j = 0;
-    while j < ZEROS {
-        any = any | s[i + j + 2];
-        j += 1;
+    for j in 0..ZEROS {
+        any |= s[i + j + 2];
     }
     any == 0
 }
@@ -309,6 +216,7 @@ fn is_blank(s: &[u8], i: usize) -> bool
 pub fn next(s: &[u8], from: usize) -> usize
     ensures { result ≡ next_of s.now from }
 {
+    // A while: the step is not always one.
     let mut i = from;
     while i < s.len() {
         if s.len() - i < 3 {

@@ -1,7 +1,7 @@
 -- Where a byte, a mark and a line stand. Assumes nothing.
 use Rattle.std.specs.Prelude.{ℕ, ◌≤◌, ◌<◌, ◌≡◌, Bool, true, false, List, [], ◌∷◌, eqb, length, drop, get_or}
+use Rattle.vectors.specs.declared.lines.Line.{Line}
 use Rattle.vectors.specs.declared.lines.Lines.{Lines}
-use Rattle.vectors.specs.declared.lines.Kind.TheVariants.{Over}
 
 -- r is the first index from `from` on at which b stands, or the length
 pub record Found (s : List ℕ) (from b r : ℕ) : Type 0 where
@@ -11,15 +11,11 @@ pub record Found (s : List ℕ) (from b r : ℕ) : Type 0 where
   pub found : r < length s → get_or s r 0 ≡ b
 
 -- the line and what was read lie in a buffer of n bytes, in this order
-pub record Standing (n : ℕ) (l : Lines) : Type 0 where
-  pub forth : l.start ≤ l.end
-  pub past : l.end ≤ l.after
+pub record Standing (n : ℕ) (line : Line) (l : Lines) : Type 0 where
+  pub forth : line.start ≤ line.end
+  pub past : line.end ≤ l.after
   pub read : l.after ≤ l.filled
   pub inside : l.filled ≤ n
-
--- before the first line, and after the last
-abbrev pub unread : Lines
-unread = record { kind = Over; start = 0; end = 0; after = 0; filled = 0; is_cut = false }
 
 -- a byte before the fields of what follows it
 unfoldable pub led : Bool → ℕ → List (List ℕ) → List (List ℕ)

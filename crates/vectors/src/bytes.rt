@@ -1,23 +1,48 @@
-// The bytes and numbers that inputs and answers are made of, and the pattern of an output.
-ghost use Rattle.std.specs.Prelude.{◌≡◌, ◌<◌, ◌%◌, length, get_or, set};
-ghost use Rattle.vectors.specs.Numbers.{number_in, number_put, pattern_at, Patterned};
+// The bytes and numbers that inputs and answers are made of.
+ghost use Rattle.std.specs.Prelude.{◌≡◌, ℕ, ◌+◌, ◌^◌, ◌<◌, ◌↔◌, IsTrue, length, take, drop, get_or, set};
+ghost use Rattle.vectors.specs.Numbers.{number_in, number_put};
 
+use crate::words::long;
 use refusal::Refusal;
 
 // The byte at an index; 0 beyond the end.
 pub fn byte(s: &[u8], at: usize) -> u8
     ensures { result ≡ get_or s.now at 0 }
 {
-    if at < s.len() { s[at] } else { 0 }
+    s.get(at).copied().unwrap_or(0)
 }
 
 // The number that the first four bytes write, the most significant first. Missing ones count as 0.
 pub fn number(s: &[u8]) -> usize
     ensures { result ≡ number_in s.now }
 {
-    let high = wide(byte(s, 0)) * 256 + wide(byte(s, 1));
-    let low = wide(byte(s, 2)) * 256 + wide(byte(s, 3));
-    high * 65536 + low
+    long(s, 0) as usize
+}
+
+// Fills an output with the bytes from an index on. Missing ones are 0.
+pub fn take(s: &[u8], at: usize, out: &mut [u8])
+    requires { at + length out.old < 2 ^ 64 }
+    ensures { (k : ℕ) → k < length out.old → get_or out.new k 0 ≡ get_or s.now (at + k) 0 }
+{
+    for (i, b) in out.iter_mut().enumerate() {
+        *b = byte(s, at + i);
+    }
+}
+
+// Whether memory that was lent to a call holds what is expected at its front, and behind that what it held before.
+pub fn holds(before: &[u8], after: &[u8], expected: &[u8]) -> bool
+    requires { length before.now ≡ length after.now }
+    ensures { IsTrue result ↔ ((take (length expected.now) after.now ≡ expected.now) × (drop (length expected.now) after.now ≡ drop (length expected.now) before.now)) }
+{
+    let k = expected.len();
+    if after.len() < k {
+        return false;
+    }
+    if &after[..k] == expected {
+        after[k..] == before[k..]
+    } else {
+        false
+    }
 }
 
 // Stores a byte at an index; beyond the end nothing, so that an answer with too little room differs.
@@ -37,10 +62,10 @@ pub fn put_number(out: &mut [u8], at: usize, n: usize)
     if out.len() <= at {
         return;
     }
-    put(out, at, last(n / 16777216));
-    put(out, at + 1, last(n / 65536));
-    put(out, at + 2, last(n / 256));
-    put(out, at + 3, last(n));
+    put(out, at, (n / 16777216 % 256) as u8);
+    put(out, at + 1, (n / 65536 % 256) as u8);
+    put(out, at + 2, (n / 256 % 256) as u8);
+    put(out, at + 3, (n % 256) as u8);
 }
 
 // Stores the five bytes that every answer begins with: the number and the place.
@@ -49,36 +74,4 @@ pub fn put_refusal(out: &mut [u8], r: Refusal)
 {
     put(out, 0, r.number);
     put_number(out, 1, r.place);
-}
-
-// The last byte of a number.
-fn last(n: usize) -> u8
-    ensures { result ≡ n % 256 }
-{
-    (n % 256) as u8
-}
-
-// Fills an output with what stands in it before a call, so that a store that should not be shows.
-pub fn pattern(out: &mut [u8])
-    ensures { Patterned 256 (length out.old) out.new }
-{
-    let mut i = 0;
-    while i < out.len() {
-        out[i] = pattern_at(i);
-        i += 1;
-    }
-}
-
-// The index is cut first, so that the product fits.
-fn pattern_at(i: usize) -> u8
-    ensures { result ≡ pattern_at 256 i }
-{
-    (((i % 256) * 37 + 11) % 256) as u8
-}
-
-fn wide(b: u8) -> usize
-    ensures value { result ≡ b }
-    ensures upper_bound { result < 256 }
-{
-    b as usize
 }

@@ -9,17 +9,21 @@
 #![tactic(auto)]
 
 mod bytes;
+mod cells;
 mod hex;
 mod line;
 mod lines;
+mod running;
 mod tally;
 mod words;
+mod writing;
 
-pub use bytes::{byte, number, pattern, put, put_number, put_refusal};
-pub use hex::{Decoded, decode, digit};
+pub use bytes::{byte, holds, number, put, put_number, put_refusal, take};
+pub use cells::{Cell, pattern};
+pub use hex::{decode, digit};
 pub use line::{field, fields, find, is_wrong, unmarked};
-pub use lines::{Kind, Lines, before, next};
-pub use tally::{
-    Outcome, Tally, counted, judged, none, noticed, print_outcome, print_tally, print_wrong,
-};
-pub use words::{long, put_word, word, word_pattern};
+pub use lines::{Kind, Line, Lines, next};
+pub use running::{Operation, Step, run};
+pub use tally::{Outcome, Tally, judged, print_outcome, print_tally, print_wrong};
+pub use words::{long, put_word, take_words, word};
+pub use writing::writes;

@@ -1,5 +1,5 @@
 // One line and its fields.
-ghost use Rattle.std.specs.Prelude.{◌≡◌, [], ◌≤◌, length, drop, get_or};
+ghost use Rattle.std.specs.Prelude.{◌≡◌, [], length, get_or};
 ghost use Rattle.vectors.specs.Lines.{fields_of, Found, marked_of, unmarked_of};
 
 use crate::bytes::byte;
@@ -8,12 +8,10 @@ use crate::bytes::byte;
 pub fn find(s: &[u8], from: usize, byte: u8) -> usize
     ensures { Found s.now from byte result }
 {
-    let mut i = from;
-    while i < s.len() {
+    for i in from..s.len() {
         if s[i] == byte {
             return i;
         }
-        i += 1;
     }
     s.len()
 }
@@ -22,42 +20,14 @@ pub fn find(s: &[u8], from: usize, byte: u8) -> usize
 pub fn fields(s: &[u8]) -> usize
     ensures { result ≡ length (fields_of s.now) }
 {
-    let mut spaces = 0;
-    let mut i = 0;
-    while i < s.len() {
-        if s[i] == b' ' {
-            spaces += 1;
-        }
-        i += 1;
-    }
-    spaces + 1
+    s.split(|b| *b == b' ').count()
 }
 
 // The field of an index, counted from 0; no bytes where the line has fewer.
 pub fn field(s: &[u8], k: usize) -> &[u8]
     ensures { result.now ≡ get_or (fields_of s.now) k [] }
 {
-    let from = field_start(s, k);
-    let end = find(s, from, b' ');
-    &s[from..end]
-}
-
-// Where the field begins; the end of the line where it has fewer.
-fn field_start(s: &[u8], k: usize) -> usize
-    ensures upper_bound { result ≤ length s.now }
-    ensures k_value { get_or (fields_of s.now) k [] ≡ get_or (fields_of (drop result s.now)) 0 [] }
-{
-    let mut from = 0;
-    let mut i = 0;
-    while i < k {
-        let end = find(s, from, b' ');
-        if s.len() <= end {
-            return s.len();
-        }
-        from = end + 1;
-        i += 1;
-    }
-    from
+    s.split(|b| *b == b' ').nth(k).unwrap_or(&[])
 }
 
 // Whether a line bears the mark of a vector that is wrong on purpose.

@@ -1,150 +1,112 @@
 // The lines of standard input, through a buffer that any number of them passes.
-ghost use Rattle.std.specs.Prelude.{◌≡◌, ◌+◌, ◌≤◌, length};
-ghost use Rattle.input.specs.Counts.{IsPrefixLen};
-ghost use Rattle.vectors.specs.Lines.{Standing, unread};
+ghost use Rattle.std.specs.Prelude.{◌≡◌, ◌+◌, ◌≤◌, length, IfSome, IfNone};
+ghost use Rattle.vectors.specs.Lines.{Standing};
 
 use crate::line::find;
-use std::io::{Read, Stdin};
+use std::io::Stdin;
 
-const LINE_FEED: u8 = 10;
-
-#[derive(Clone, Copy)]
+#[derive(Clone, Copy, Debug, PartialEq, Eq)]
 pub enum Kind {
     Whole,
     // The front of a line that the buffer cannot hold.
     TooLong,
     // What follows such a front, or a part of it.
     Rest,
-    // The input is over, and there is no line.
-    Over,
 }
 
-// Where the line that `next` found stands in the buffer, and what of the buffer comes after it.
-#[derive(Clone, Copy)]
-pub struct Lines {
+// Where a line stands in the buffer.
+#[derive(Clone, Copy, Debug, PartialEq, Eq)]
+pub struct Line {
     pub kind: Kind,
     pub start: usize,
     pub end: usize,
+}
+
+// How much of the buffer is filled, and where in it what comes after the last line begins.
+#[derive(Clone, Copy, Debug, Default, PartialEq, Eq)]
+pub struct Lines {
     pub after: usize,
     pub filled: usize,
     // What comes next belongs to a line that is too long.
     pub is_cut: bool,
 }
 
-// The state before the first line.
-pub fn before() -> Lines
-    ensures standing { Standing 0 result }
-    ensures value { result ≡ unread }
-{
-    Lines {
-        kind: Kind::Over,
-        start: 0,
-        end: 0,
-        after: 0,
-        filled: 0,
-        is_cut: false,
-    }
-}
-
-// Finds the next line. Where the buffer has no whole one left, it moves what is left to the front and
+// Finds the next line; none where the input is over. Where the buffer has no whole one left, it moves what is left to the front and
 // reads on.
-pub fn next(stdin: Stdin, lines: Lines, buf: &mut [u8]) -> Lines
-    ensures { Standing (length buf.new) result }
+pub fn next(stdin: Stdin, lines: &mut Lines, buf: &mut [u8]) -> Option<Line>
+    ensures standing { IfSome result (λ line. Standing (length buf.new) line lines.new) }
+    ensures over { IfNone result ((lines.new.after ≡ 0) × (lines.new.filled ≡ 0)) }
 {
-    let filled = least(lines.filled, buf.len());
-    let from = least(lines.after, filled);
-    let end = find(&buf[..filled], from, LINE_FEED);
+    let filled = lines.filled.min(buf.len());
+    let from = lines.after.min(filled);
+    let end = find(&buf[..filled], from, b'\n');
     if end < filled {
-        return ended(lines.is_cut, from, end, filled);
+        return Some(ended(lines, from, end, filled));
     }
-    refill(stdin, buf, from, filled, lines.is_cut)
+    refill(stdin, lines, buf, from, filled)
 }
 
-fn refill(stdin: Stdin, buf: &mut [u8], from: usize, to: usize, is_cut: bool) -> Lines
+// A read that fails ends the input.
+fn refill(stdin: Stdin, lines: &mut Lines, buf: &mut [u8], from: usize, to: usize) -> Option<Line>
     requires { (from ≤ to) × (to ≤ length buf.old) }
-    ensures { Standing (length buf.new) result }
+    ensures standing { IfSome result (λ line. Standing (length buf.new) line lines.new) }
+    ensures over { IfNone result ((lines.new.after ≡ 0) × (lines.new.filled ≡ 0)) }
 {
-    move_to_front(buf, from, to);
+    buf.copy_within(from..to, 0);
     let have = to - from;
-    let got = read_full(stdin, &mut buf[have..]);
+    let (got, _) = input::fill(stdin, &mut buf[have..]);
     let filled = have + got;
-    let end = find(&buf[..filled], have, LINE_FEED);
+    let end = find(&buf[..filled], have, b'\n');
     if end < filled {
-        return ended(is_cut, 0, end, filled);
+        return Some(ended(lines, 0, end, filled));
     }
     if filled == 0 {
-        return before();
+        *lines = Lines::default();
+        return None;
     }
-    unended(is_cut, filled, buf.len())
-}
-
-// Reads until the buffer is full, the input ends or a read fails, and tells how many bytes that put at its front.
-fn read_full(mut stdin: Stdin, buf: &mut [u8]) -> usize
-    ensures { IsPrefixLen result buf.new }
-{
-    let mut done = 0;
-    while done < buf.len() {
-        match stdin.read(&mut buf[done..]) {
-            Ok(0) => break,
-            Ok(more) => done += more,
-            Err(_) => break,
-        }
-    }
-    done
+    Some(unended(lines, filled, buf.len()))
 }
 
 // A line that a line feed ends.
-fn ended(is_cut: bool, start: usize, end: usize, filled: usize) -> Lines
+fn ended(lines: &mut Lines, start: usize, end: usize, filled: usize) -> Line
     requires { (start ≤ end) × (end + 1 ≤ filled) }
-    ensures { Standing filled result }
+    ensures { Standing filled result lines.new }
 {
-    let kind = if is_cut { Kind::Rest } else { Kind::Whole };
-    Lines {
-        kind,
-        start,
-        end,
+    let kind = if lines.is_cut {
+        Kind::Rest
+    } else {
+        Kind::Whole
+    };
+    *lines = Lines {
         after: end + 1,
         filled,
         is_cut: false,
-    }
+    };
+    Line { kind, start, end }
 }
 
 // What fills the front of the buffer with no line feed: the last line where the input is over, else a
 // line that is too long.
-fn unended(is_cut: bool, filled: usize, room: usize) -> Lines
+fn unended(lines: &mut Lines, filled: usize, room: usize) -> Line
     requires { filled ≤ room }
-    ensures { Standing room result }
+    ensures { Standing room result lines.new }
 {
     let is_full = filled == room;
-    let kind = if is_cut {
+    let kind = if lines.is_cut {
         Kind::Rest
     } else if is_full {
         Kind::TooLong
     } else {
         Kind::Whole
     };
-    Lines {
-        kind,
-        start: 0,
-        end: filled,
+    *lines = Lines {
         after: filled,
         filled,
         is_cut: is_full,
+    };
+    Line {
+        kind,
+        start: 0,
+        end: filled,
     }
-}
-
-fn move_to_front(buf: &mut [u8], from: usize, to: usize)
-    requires { (from ≤ to) × (to ≤ length buf.old) }
-{
-    let mut i = from;
-    while i < to {
-        buf[i - from] = buf[i];
-        i += 1;
-    }
-}
-
-fn least(a: usize, b: usize) -> usize
-    ensures { (result ≤ a) × (result ≤ b) }
-{
-    if a < b { a } else { b }
 }

@@ -1,13 +1,13 @@
 // Counting vectors, and saying what became of them.
 ghost use Rattle.std.specs.Prelude.{◌≡◌, not};
-ghost use Rattle.vectors.specs.Tallies.{agreed, differed, judged_of, tallied_of, one_more};
+ghost use Rattle.vectors.specs.Tallies.{agreed, differed, judged_of, tallied_of};
 
 use crate::line::{field, is_wrong, unmarked};
 use std::io;
 use std::io::Stdout;
 
 // What became of a vector.
-#[derive(Clone, Copy)]
+#[derive(Clone, Copy, Debug, PartialEq, Eq)]
 pub enum Outcome {
     Agrees,
     Differs,
@@ -25,115 +25,62 @@ pub fn judged(agrees: bool) -> Outcome
 }
 
 // How many vectors ran, and how many of them differed.
-#[derive(Clone, Copy)]
+#[derive(Clone, Copy, Debug, Default, PartialEq, Eq)]
 pub struct Tally {
     pub ran: u64,
     pub differ: u64,
 }
 
-pub fn none() -> Tally
-    ensures { (result.ran ≡ 0) × (result.differ ≡ 0) }
-{
-    Tally { ran: 0, differ: 0 }
-}
-
-// A tally after one more vector. An unreadable one counts as one that differs.
-pub fn counted(t: Tally, outcome: Outcome) -> Tally
-    ensures { result ≡ tallied_of t (not (agreed outcome)) }
-{
-    tallied(t, !is_agreed(outcome))
-}
-
-// The same of vectors that are wrong on purpose, with how many were noticed: those that were read and differ.
-pub fn noticed(t: Tally, outcome: Outcome) -> Tally
-    ensures { result ≡ tallied_of t (differed outcome) }
-{
-    tallied(t, is_differing(outcome))
-}
-
-fn is_agreed(outcome: Outcome) -> bool
-    ensures { result ≡ agreed outcome }
-{
-    match outcome {
-        Outcome::Agrees => true,
-        Outcome::Differs => false,
-        Outcome::Unreadable => false,
+impl Tally {
+    // After one more vector. An unreadable one counts as one that differs.
+    pub fn counted(self, outcome: Outcome) -> Tally
+        ensures { result ≡ tallied_of self (not (agreed outcome)) }
+    {
+        self.tallied(outcome != Outcome::Agrees)
     }
-}
 
-fn is_differing(outcome: Outcome) -> bool
-    ensures { result ≡ differed outcome }
-{
-    match outcome {
-        Outcome::Agrees => false,
-        Outcome::Differs => true,
-        Outcome::Unreadable => false,
+    // The same of vectors that are wrong on purpose, with how many were noticed: those that were read and differ.
+    pub fn noticed(self, outcome: Outcome) -> Tally
+        ensures { result ≡ tallied_of self (differed outcome) }
+    {
+        self.tallied(outcome == Outcome::Differs)
     }
-}
 
-fn tallied(t: Tally, differs: bool) -> Tally
-    ensures { result ≡ tallied_of t differs }
-{
-    if differs {
-        return Tally {
-            ran: one_more(t.ran),
-            differ: one_more(t.differ),
-        };
+    // A count stops at the largest number.
+    fn tallied(self, differs: bool) -> Tally
+        ensures { result ≡ tallied_of self differs }
+    {
+        Tally {
+            ran: self.ran.saturating_add(1),
+            differ: self.differ.saturating_add(u64::from(differs)),
+        }
     }
-    Tally {
-        ran: one_more(t.ran),
-        differ: t.differ,
-    }
-}
-
-// A count stops at the largest number.
-fn one_more(n: u64) -> u64
-    ensures { result ≡ one_more n }
-{
-    if n < u64::MAX { n + 1 } else { n }
 }
 
 // The line of an operation.
 pub fn print_tally(out: Stdout, operation: &[u8], t: Tally) -> io::Result<()> {
     print::text(out, operation)?;
-    print::text(out, b": ")?;
-    print::decimal(out, t.ran)?;
-    print::text(out, b" ran, ")?;
-    print::decimal(out, t.differ)?;
-    print::text(out, b" differ\n")
+    println!(out; ": {} ran, {} differ", t.ran, t.differ)
 }
 
 // The line of the vectors that are wrong on purpose.
 pub fn print_wrong(out: Stdout, t: Tally) -> io::Result<()> {
-    print::text(out, b"wrong on purpose: ")?;
-    print::decimal(out, t.ran)?;
-    print::text(out, b" ran, ")?;
-    print::decimal(out, t.differ)?;
-    print::text(out, b" noticed\n")
+    println!(out; "wrong on purpose: {} ran, {} noticed", t.ran, t.differ)
 }
 
 // Names a vector that did not do what it is to do. One that is wrong on purpose is to differ.
 pub fn print_outcome(out: Stdout, line: &[u8], outcome: Outcome) -> io::Result<()> {
-    let is_wrong = is_wrong(line);
-    match outcome {
-        Outcome::Agrees => {
-            if is_wrong {
-                print::text(out, b"not noticed: ")?;
-                print_name(out, unmarked(line))?;
-            }
-        }
-        Outcome::Differs => {
-            if !is_wrong {
-                print::text(out, b"differs: ")?;
-                print_name(out, line)?;
-            }
-        }
-        Outcome::Unreadable => print_unreadable(out, line)?,
+    match (outcome, is_wrong(line)) {
+        (Outcome::Agrees, true) => print_name(out, b"not noticed: ", unmarked(line)),
+        (Outcome::Differs, false) => print_name(out, b"differs: ", line),
+        (Outcome::Unreadable, _) => print_unreadable(out, line),
+        (Outcome::Agrees, false) | (Outcome::Differs, true) => Ok(()),
     }
-    Ok(())
 }
 
-fn print_name(out: Stdout, line: &[u8]) -> io::Result<()> {
+// What a line holds need not be text.
+fn print_name(out: Stdout, what: &[u8], line: &[u8]) -> io::Result<()> {
+    print::text(out, what)?;
     print::text(out, field(line, 0))?;
     print::text(out, b" ")?;
     print::text(out, field(line, 1))?;
@@ -143,10 +90,6 @@ fn print_name(out: Stdout, line: &[u8]) -> io::Result<()> {
 // Shows the first bytes of a line that cannot be decoded.
 fn print_unreadable(out: Stdout, line: &[u8]) -> io::Result<()> {
     print::text(out, b"unreadable: ")?;
-    if line.len() < 60 {
-        print::text(out, line)?;
-    } else {
-        print::text(out, &line[..60])?;
-    }
+    print::text(out, &line[..line.len().min(60)])?;
     print::text(out, b"\n")
 }

@@ -1,16 +1,18 @@
 -- `film_picture::picture` meets its contract: where the checks refuse the state stays, and else the fields are shown one after the other.
 use Prim.Native.Nat.{◌≤◌}
-use mathlib.Core.Path.{◌≡◌, ◌∙◌, ap, ap₂, sym}
-use Rattle.refusal.specs.declared.Verdict.{Verdict}
-use Rattle.refusal.specs.declared.Verdict.TheVariants.{Accepted}
-use Rattle.refusal.specs.declared.Refusal.{Refusal}
+use mathlib.Core.Path.{◌≡◌, ◌∙◌, ap, ap₂, subst, sym}
+use Rattle.std.proofs.Common.{rules, true}
+use Rattle.std.specs.Result.{is_err}
+use Rattle.refusal.specs.Verdict.{Verdict}
+use Rattle.refusal.specs.Verdict.{Accepted}
 use Rattle.refusal.specs.Numbers.{refusal_of}
-use Rattle.refusal.proofs.Acceptance.{told-accepted}
+use mathlib.Core.List.{List}
+use Rattle.film.specs.State.{State}
+use Rattle.scte20.specs.declared.Record.{Record}
 use Rattle.scte20.specs.declared.CaptionUnit.{CaptionUnit}
 use Rattle.scte20.specs.Value.{held}
 use Rattle.scte20.specs.Lent.{unit_in}
 use Rattle.scte20.proofs.Holding.{value-whole}
-use Rattle.scte20.proofs.Lending.{lent-typed}
 use Rattle.film.specs.declared.Sent.{Sent}
 use Rattle.film.specs.declared.Sent.TheVariants.{None}
 use Rattle.film.specs.declared.Passing.{Passing}
@@ -18,40 +20,47 @@ use Rattle.film.specs.declared.Shown.{Shown}
 use Rattle.film.specs.Display.{picture_events}
 use Rattle.film.specs.Calls.{picture_verdict, units_sent}
 use Rattle.film.specs.Inside.{shown_field, added}
-use Rattle.film.specs.Inside.{added as Inside·added}
+use Rattle.film.proofs.Records.{array-typed}
 use Rattle.film.proofs.Passages.{accepted-checked, first_shown, second_shown, third_shown, two_sent, two-shown, three-shown, refuses, accepts}
 use Rattle.film_picture.proofs.picture.Goals as goal
 
--- the verdict
-module _ (how : Shown) (u : CaptionUnit) (judged : Verdict) (of : judged ≡ picture_verdict how u) (refusal : Refusal) (told : refusal ≡ refusal_of judged) where
-  refusal-told : refusal ≡ refusal_of (picture_verdict how u)
-  refusal-told = told ∙ ap refusal_of of
-
-  accepted : refusal.number ≡ 0 → picture_verdict how u ≡ Accepted
-  accepted e = told-accepted (picture_verdict how u) (ap (λ (r : Refusal). r.number) (sym refusal-told) ∙ e)
-
-  few : refusal.number ≡ 0 → u.n ≤ 31
-  few e = (value-whole u (accepted-checked how u (accepted e)).value).few
-
-pub returns-then-refusal-ne0 : goal.returns-then-refusal-ne0
-returns-then-refusal-ne0 c =
+pub returns-then-is_err : goal.returns-then-is_err
+returns-then-is_err c =
     let args = c.args in
     let u = unit_in args.v args.records.now in
     record {
-      typed = lent-typed args.v args.records.now c.known.ensures c.told-records;
+      typed = array-typed args.v args.records.now c.fits-records c.told-records;
       answer =
-          refuses (picture_verdict args.how u) c.told-refusal.result args.state (picture_events args.how (held u).records)
-          (refusal-told args.how u _ c.judge.ensures _ c.told-refusal.ensures) c.if-refusal-ne0.true;
+          refuses (picture_verdict args.how u) c.from-refusal.result args.state (picture_events args.how (held u).records)
+          (c.from-refusal.ensures ∙ ap refusal_of c.judge-verdict.ensures) (subst (λ (v : Verdict). is_err v ≡ true) c.judge-verdict.ensures (search rules));
     }
 
+-- the checks let it through
+module _ (how : Shown) (u : CaptionUnit) (judged : Verdict) (of : judged ≡ picture_verdict how u) (ok : judged ≡ Accepted) where
+  accepted : picture_verdict how u ≡ Accepted
+  accepted = sym of ∙ ok
+
+  few : u.n ≤ 31
+  few = (value-whole u (accepted-checked how u accepted).value).few
+
 pub show-one-requires : goal.show-one-requires
-show-one-requires c = few c.args.how (unit_in c.args.v c.args.records.now) _ c.judge.ensures _ c.told-refusal.ensures c.if-refusal-ne0.false
+show-one-requires c = few c.args.how (unit_in c.args.v c.args.records.now) _ c.judge-verdict.ensures (search rules)
 
 pub show-two-requires : goal.show-two-requires
-show-two-requires c = few c.args.how (unit_in c.args.v c.args.records.now) _ c.judge.ensures _ c.told-refusal.ensures c.if-refusal-ne0.false
+show-two-requires c = few c.args.how (unit_in c.args.v c.args.records.now) _ c.judge-verdict.ensures (search rules)
 
 pub show-three-requires : goal.show-three-requires
-show-three-requires c = few c.args.how (unit_in c.args.v c.args.records.now) _ c.judge.ensures _ c.told-refusal.ensures c.if-refusal-ne0.false
+show-three-requires c = few c.args.how (unit_in c.args.v c.args.records.now) _ c.judge-verdict.ensures (search rules)
+
+-- the first two display fields
+module _ (s : State) (how : Shown) (rs : List Record) (one two : Passing) (before sent : Sent)
+    (first : one ≡ first_shown s how rs) (second : two ≡ shown_field one.state 2 how rs)
+    (adds : before ≡ added None one.gone) (adds-next : sent ≡ added before two.gone) where
+  second-is : two ≡ second_shown s how rs
+  second-is = second ∙ ap (λ (p : Passing). shown_field p.state 2 how rs) first
+
+  sent-is : sent ≡ two_sent s how rs
+  sent-is = adds-next ∙ ap (λ (x : Sent). added x two.gone) adds ∙ ap₂ (λ (p q : Passing). added (added None p.gone) q.gone) first second-is
 
 pub returns : goal.returns
 returns c =
@@ -60,19 +69,14 @@ returns c =
     let s = args.state in
     let how = args.how in
     let rs = (held u).records in
-    let one : c.show-one.result ≡ first_shown s how rs = c.show-one.ensures in
-    let two : c.show-two.result ≡ second_shown s how rs = c.show-two.ensures ∙ ap (λ (p : Passing). shown_field p.state 2 how rs) one in
-    let both : c.add-sent.result ≡ two_sent s how rs =
-    c.add-sent.ensures
-    ∙ ap (λ (x : Sent). added x c.show-two.result.gone) c.add.ensures
-    ∙ ap₂ (λ (p q : Passing). added (added None p.gone) q.gone) one two
-    in
+    let two = second-is s how rs _ _ _ _ c.show-one.ensures c.show-two.ensures c.add.ensures c.add-sent.ensures in
+    let both = sent-is s how rs _ _ _ _ c.show-one.ensures c.show-two.ensures c.add.ensures c.add-sent.ensures in
     let right = two-shown s how rs c.if-how.false in
     record {
-      typed = lent-typed args.v args.records.now c.known.ensures c.told-records;
+      typed = array-typed args.v args.records.now c.fits-records c.told-records;
       answer =
-          accepts (picture_verdict how u) c.told-refusal.result s (picture_events how rs) c.add-sent.result c.show-two.result.state
-          (refusal-told how u _ c.judge.ensures _ c.told-refusal.ensures) (accepted how u _ c.judge.ensures _ c.told-refusal.ensures c.if-refusal-ne0.false)
+          accepts (picture_verdict how u) c.from-refusal.result s (picture_events how rs) c.add-sent.result c.show-two.result.state
+          (c.from-refusal.ensures ∙ ap refusal_of c.judge-verdict.ensures) (accepted how u _ c.judge-verdict.ensures (search rules))
           (ap units_sent both ∙ right.0) (ap (λ (p : Passing). p.state) two ∙ right.1);
     }
 
@@ -83,20 +87,15 @@ returns-then-how c =
     let s = args.state in
     let how = args.how in
     let rs = (held u).records in
-    let one : c.show-one.result ≡ first_shown s how rs = c.show-one.ensures in
-    let two : c.show-two.result ≡ second_shown s how rs = c.show-two.ensures ∙ ap (λ (p : Passing). shown_field p.state 2 how rs) one in
-    let both : c.add-sent.result ≡ two_sent s how rs =
-    c.add-sent.ensures
-    ∙ ap (λ (x : Sent). added x c.show-two.result.gone) c.add.ensures
-    ∙ ap₂ (λ (p q : Passing). added (added None p.gone) q.gone) one two
-    in
+    let two = second-is s how rs _ _ _ _ c.show-one.ensures c.show-two.ensures c.add.ensures c.add-sent.ensures in
+    let both = sent-is s how rs _ _ _ _ c.show-one.ensures c.show-two.ensures c.add.ensures c.add-sent.ensures in
     let right = three-shown s how rs c.if-how.true in
     let three : c.show-three.result ≡ third_shown s how rs = c.show-three.ensures ∙ ap (λ (p : Passing). shown_field p.state 3 how rs) two in
     record {
-      typed = lent-typed args.v args.records.now c.known.ensures c.told-records;
+      typed = array-typed args.v args.records.now c.fits-records c.told-records;
       answer =
-          accepts (picture_verdict how u) c.told-refusal.result s (picture_events how rs) c.add-all.result c.show-three.result.state
-          (refusal-told how u _ c.judge.ensures _ c.told-refusal.ensures) (accepted how u _ c.judge.ensures _ c.told-refusal.ensures c.if-refusal-ne0.false)
-          (ap units_sent (c.add-all.ensures ∙ ap₂ (λ (x : Sent) (p : Passing). Inside·added x p.gone) both three) ∙ right.0)
+          accepts (picture_verdict how u) c.from-refusal.result s (picture_events how rs) c.add-then-how.result c.show-three.result.state
+          (c.from-refusal.ensures ∙ ap refusal_of c.judge-verdict.ensures) (accepted how u _ c.judge-verdict.ensures (search rules))
+          (ap units_sent (c.add-then-how.ensures ∙ ap₂ (λ (x : Sent) (p : Passing). added x p.gone) both three) ∙ right.0)
           (ap (λ (p : Passing). p.state) three ∙ right.1);
     }

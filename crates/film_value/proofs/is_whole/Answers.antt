@@ -7,10 +7,10 @@ use Rattle.scte20.specs.Lent.{unit_in}
 use Rattle.scte20.proofs.Holding.{no_group, whole-accepted}
 use Rattle.film_value.proofs.is_whole.Goals as goal
 
-pub returns-then-v-eq1 : goal.returns-then-v-eq1
-returns-then-v-eq1 c is =
+pub returns-in-1 : goal.returns-in-1
+returns-in-1 c is =
     let v = c.args.v in
-    let flag : v.vbi_data_flag ≡ 1 = c.if-v-eq1.true in
+    let flag : v.vbi_data_flag ≡ 1 = c.in-1.is in
     whole-accepted (unit_in v [])
     (record {
       few = omega arith;
@@ -21,15 +21,16 @@ returns-then-v-eq1 c is =
       no_group = no_group v.reserved v.vbi_data_flag (omega arith) (λ e f. eqb-false _ _ (not-true _ is) e) (λ e f. omega (arith, flag, f));
     })
 
-pub returns : goal.returns
-returns c is =
+pub returns-then-v-eq0 : goal.returns-then-v-eq0
+returns-then-v-eq0 c is =
     let v = c.args.v in
+    let flag : v.vbi_data_flag ≡ 0 = c.in-0.is in
     whole-accepted (unit_in v [])
     (record {
       few = omega arith;
       reserved = omega arith;
       flag = omega arith;
       stuffing = omega arith;
-      bare = λ zero. omega arith;
-      no_group = no_group v.reserved v.vbi_data_flag (omega arith) (λ e f. omega (arith, f)) (λ e f. eqb-false _ _ (not-true _ is) e);
+      bare = λ zero. c.if-v-eq0.true;
+      no_group = no_group v.reserved v.vbi_data_flag (omega arith) (λ e f. omega (arith, flag, f)) (λ e f. eqb-false _ _ (not-true _ is) e);
     })

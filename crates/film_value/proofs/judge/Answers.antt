@@ -1,9 +1,10 @@
 -- `film_value::judge` meets its contract: at each return the verdicts that led there pick that check of `picture_verdict`.
+use Rattle.std.proofs.Common.{rules}
 use Prim.Native.Nat.{◌≤◌}
 use mathlib.Core.Path.{◌≡◌, ◌∙◌, sym}
 use borrow.Author.Tests.{lt-ltb, le-ltb}
-use Rattle.refusal.specs.declared.Verdict.{Verdict}
-use Rattle.refusal.specs.declared.Verdict.TheVariants.{Accepted}
+use Rattle.refusal.specs.Verdict.{Verdict}
+use Rattle.refusal.specs.Verdict.{Accepted}
 use Rattle.refusal.specs.Checks.{and_then}
 use Rattle.refusal.proofs.Checks.{and_then-last, refused-first, accepted-first}
 use Rattle.scte20.specs.declared.CaptionUnit.{CaptionUnit}
@@ -33,28 +34,32 @@ module _ (how : Shown) (unit : CaptionUnit) (settable : how.line_offset ≤ 31) 
   value-passed : (value : Verdict) → value ≡ value_verdict unit → value ≡ Accepted → picture_verdict how unit ≡ records-checked how unit
   value-passed value told e = line_set ∙ accepted-first _ told e
 
-pub returns-in-Refused : goal.returns-in-Refused
-returns-in-Refused c =
-    refused-first _ c.judge_value-value.ensures c.in-Refused.is ∙ sym (line_set c.args.how (unit_in c.args.v c.args.records.now) c.if-how-gt31.false)
+pub returns-in_err-judge_value : goal.returns-in_err-judge_value
+returns-in_err-judge_value c =
+    let same : c.from_residual.result ≡ c.judge_value.result = search rules in
+    refused-first _ (same ∙ c.judge_value.ensures) (same ∙ c.in_err-judge_value.was)
+    ∙ sym (line_set c.args.how (unit_in c.args.v c.args.records.now) c.if-how-gt31.false)
 
-pub returns-in-Refused-repeat : goal.returns-in-Refused-repeat
+pub returns-in_err-judge_repeat : goal.returns-in_err-judge_repeat
 unfolding records-checked
-returns-in-Refused-repeat c =
-    refused-first _ c.judge_repeat-repeat.ensures c.in-Refused-repeat.is ∙ sym (value-passed c.args.how (unit_in c.args.v c.args.records.now) c.if-how-gt31.false _ c.judge_value-value.ensures c.in_default.is)
+returns-in_err-judge_repeat c =
+    let same : c.from_residual-in_err-judge_repeat.result ≡ c.judge_repeat.result = search rules in
+    refused-first _ (same ∙ c.judge_repeat.ensures) (same ∙ c.in_err-judge_repeat.was)
+    ∙ sym (value-passed c.args.how (unit_in c.args.v c.args.records.now) c.if-how-gt31.false _ c.judge_value.ensures c.in_ok-judge_value.was)
 
 pub returns : goal.returns
 unfolding records-checked
 returns c =
     c.judge_lines.ensures
     ∙ sym
-    (value-passed c.args.how (unit_in c.args.v c.args.records.now) c.if-how-gt31.false _ c.judge_value-value.ensures c.in_default.is
-    ∙ accepted-first _ c.judge_repeat-repeat.ensures c.in_default-repeat.is
+    (value-passed c.args.how (unit_in c.args.v c.args.records.now) c.if-how-gt31.false _ c.judge_value.ensures c.in_ok-judge_value.was
+    ∙ accepted-first _ c.judge_repeat.ensures c.in_ok-judge_repeat.was
     ∙ and_then-last _)
 
-pub judge_repeat-repeat-requires : goal.judge_repeat-repeat-requires
-judge_repeat-repeat-requires c =
-    (value-whole (unit_in c.args.v c.args.records.now) (sym c.judge_value-value.ensures ∙ c.in_default.is)).few
+pub judge_repeat-requires : goal.judge_repeat-requires
+judge_repeat-requires c =
+    (value-whole (unit_in c.args.v c.args.records.now) (sym c.judge_value.ensures ∙ c.in_ok-judge_value.was)).few
 
 pub judge_lines-requires : goal.judge_lines-requires
 judge_lines-requires c =
-    (value-whole (unit_in c.args.v c.args.records.now) (sym c.judge_value-value.ensures ∙ c.in_default.is)).few
+    (value-whole (unit_in c.args.v c.args.records.now) (sym c.judge_value.ensures ∙ c.in_ok-judge_value.was)).few

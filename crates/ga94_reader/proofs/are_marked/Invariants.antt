@@ -7,6 +7,3 @@ use Rattle.ga94_reader.proofs.are_marked.Given as goal
 
 abbrev pub invariant-loop-i : goal.invariant-loop-i
 invariant-loop-i l = l.clean ≡ true → constructs_verdict l.n 7 l.body ≡ constructs_verdict (l.n - l.i) (7 + 3 * l.i) l.body
-
-abbrev pub decreases-loop-i : goal.decreases-loop-i
-decreases-loop-i l = l.n - l.i

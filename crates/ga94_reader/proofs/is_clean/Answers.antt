@@ -3,7 +3,7 @@ use Prim.Native.Nat.{ℕ}
 use native.Mathlib.Omega.{arith}
 use mathlib.Core.Path.{◌≡◌, ◌∙◌}
 use mathlib.Core.List.{List}
-use Rattle.refusal.specs.declared.Verdict.TheVariants.{Accepted}
+use Rattle.refusal.specs.Verdict.{Accepted}
 use Rattle.refusal.proofs.Checks.{and_then-accepted}
 use Rattle.ga94.specs.Reading.{count_in, head_verdict, constructs_verdict}
 use Rattle.ga94.proofs.Contents.{Head, accepted-head}

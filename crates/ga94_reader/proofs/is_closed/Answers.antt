@@ -6,7 +6,7 @@ use mathlib.Core.Bool.{false≢true}
 use mathlib.Core.List.{List}
 use borrow.Author.Tests.{eq-eqb, leb-true}
 use lib.ListN.{length, get_or}
-use Rattle.refusal.specs.declared.Verdict.TheVariants.{Accepted}
+use Rattle.refusal.specs.Verdict.{Accepted}
 use Rattle.bits.specs.Peek.{first_set}
 use Rattle.bits.proofs.Runs.{first_set-end}
 use Rattle.stuffing.proofs.Zeros.{stuffing-none}

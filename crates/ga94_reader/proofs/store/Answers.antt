@@ -4,22 +4,22 @@ use native.Mathlib.Omega.{arith}
 use mathlib.Core.Path.{◌≡◌, ◌∙◌, ap, sym, refl}
 use mathlib.Core.List.{List, [], ◌∷◌}
 use lib.ListN.{length, get_or, take, replicate}
-use lib.Seq.{sets, take_all, length-take-le}
+use lib.Seq.{take_all}
 use Rattle.lists.specs.Room.{over, over_at}
 use Rattle.lists.proofs.Each.{each-of, each_at}
-use Rattle.lists.proofs.Lay.{sets-over_at}
+use Rattle.lists.proofs.Lay.{laid-part}
 use Rattle.ga94.specs.declared.Record.{Record}
 use Rattle.ga94.specs.Value.{blank}
 use Rattle.ga94.specs.Reading.{construct_at, records_at}
 use Rattle.ga94.specs.Lent.{record_bytes, records_bytes}
 use Rattle.ga94.proofs.Constructs.{length-records}
 use Rattle.ga94.proofs.Answers.{record-of}
-use Rattle.ga94.proofs.Lending.{lent-next, lent-room, lent-over}
+use Rattle.ga94.proofs.Lending.{lent-next, lent-over}
 use Rattle.ga94_reader.proofs.store.Goals as goal
 
 -- a number's bytes, the lowest first
 abbrev bytes_of : ℕ → List ℕ
-bytes_of x = x % 256 ∷ x / 256 % 256 ∷ x / 65536 % 256 ∷ x / 16777216 ∷ []
+bytes_of x = x % 256 ∷ x / 256 % 256 ∷ x / 65536 % 256 ∷ x / 16777216 % 256 ∷ []
 
 low : (x y : ℕ) → x < 256 → (x + 256 * y) % 256 ≡ x
 low x y h = omega arith
@@ -35,7 +35,8 @@ bytes-of a b d e ha hb hd he =
     let two : x / 256 % 256 ≡ b = ap (λ (k : ℕ). k % 256) rest ∙ low b (d + 256 * e) hb in
     let high : x / 65536 ≡ d + 256 * e = omega arith in
     let three : x / 65536 % 256 ≡ d = ap (λ (k : ℕ). k % 256) high ∙ low d e hd in
-    let four : x / 16777216 ≡ e = omega arith in
+    let top : x / 16777216 ≡ e = omega arith in
+    let four : x / 16777216 % 256 ≡ e = omega (arith, top) in
     λ i. one i ∷ two i ∷ three i ∷ four i ∷ []
 
 -- the code's numbers are the construct's record
@@ -69,25 +70,21 @@ loop-i-preserved c =
     let inside : 7 + 3 * i_of + 4 ≤ length body_of = omega (arith, c.requires.n_in_bounds) in
     let at = 7 + 3 * i_of in
     let fit = each_at (λ (b : ℕ). b < 256) 0 body_of (each-of (λ (b : ℕ). b < 256) 0 body_of (λ i h. omega (arith, c.type_inv.body i))) in
-    let record-bytes : bytes_of c.record_of.result ≡ record_bytes (get_or rs i_of blank) =
-    ap bytes_of (c.record_of.ensures ∙ ap (λ (w : ℕ). w / 4 % 2 + 256 * (w % 4) + 65536 * (w / 256 % 65536)) c.four_at-construct.ensures)
+    let below : i_of < 31 = omega arith in
+    let counted : length rs ≡ n_of = length-records n_of 7 body_of in
+    let i = i_of in
+    let r = get_or rs i blank in
+    let piece : c.copy_from_slice.new.self ≡ record_bytes r =
+    c.copy_from_slice.ensures.after
+    ∙ c.to_le_bytes.ensures
+    ∙ ap bytes_of (c.record_of.ensures ∙ ap (λ (w : ℕ). w / 4 % 2 + 256 * (w % 4) + 65536 * (w / 256 % 65536)) c.four_at-construct.ensures)
     ∙ same (get_or body_of at 0) (get_or body_of (at + 1) 0) (get_or body_of (at + 2) 0) (get_or body_of (at + 3) 0)
     (fit at (omega (arith, inside))) (fit (at + 1) (omega (arith, inside))) (fit (at + 2) (omega (arith, inside))) (fit (at + 3) (omega (arith, inside)))
     ∙ ap record_bytes (sym (record-of n_of i_of body_of c.loop-i-test.true))
     in
-    let below : i_of < 31 = omega arith in
-    let counted : length rs ≡ n_of = length-records n_of 7 body_of in
-    let few : length (take i_of rs) ≤ 31 = omega (arith, below, length-take-le i_of rs (omega (arith, counted))) in
-    let room : length c.loop-i.records ≡ 124 = ap length c.loop-i.invariant.1 ∙ lent-room (take i_of rs) (replicate 124 0) few refl in
-    let i = i_of in
-    let r = get_or rs i blank in (
-      omega arith,
-      c.put_four.ensures
-          ∙ ap (sets c.loop-i.records (4 * i)) record-bytes
-          ∙ sets-over_at (4 * i) (record_bytes r) c.loop-i.records (omega (arith, room, below))
-          ∙ ap (over_at (4 * i) (record_bytes r)) c.loop-i.invariant.1
-          ∙ lent-next rs (replicate 124 0) i (omega (arith, counted)),
-    )
+    laid-part (4 * i) 4 c.loop-i.records c.copy_from_slice.new.self (record_bytes r) refl piece
+    ∙ ap (over_at (4 * i) (record_bytes r)) c.loop-i.invariant
+    ∙ lent-next rs (replicate 124 0) i (omega (arith, counted))
 
 pub returns : goal.returns
 returns c =
@@ -98,6 +95,6 @@ returns c =
     let body = c.args.body.now in
     let n = c.args.n in
     let all : take at.i (records_at n 7 body) ≡ records_at n 7 body = take_all at.i (records_at n 7 body) (omega (arith, length-records n 7 body)) in
-    at.invariant.1
+    at.invariant
     ∙ ap (λ (rs : List Record). over (records_bytes rs) (replicate 124 0)) all
     ∙ lent-over (records_at n 7 body) (omega (arith, length-records n 7 body))

@@ -1,5 +1,4 @@
 -- `ga94_reader::store` meets its contract. The loop's invariant: the bytes of the first i records are laid over zeros.
-use Prim.Native.Nat.{◌-◌, ◌≤◌}
 use mathlib.Core.Path.{◌≡◌}
 use lib.ListN.{take, replicate}
 use Rattle.lists.specs.Room.{over}
@@ -8,7 +7,4 @@ use Rattle.ga94.specs.Lent.{records_bytes}
 use Rattle.ga94_reader.proofs.store.Given as goal
 
 abbrev pub invariant-loop-i : goal.invariant-loop-i
-invariant-loop-i l = (l.i ≤ l.n) × (l.records ≡ over (records_bytes (take l.i (records_at l.n 7 l.body))) (replicate 124 0))
-
-abbrev pub decreases-loop-i : goal.decreases-loop-i
-decreases-loop-i l = l.n - l.i
+invariant-loop-i l = l.records ≡ over (records_bytes (take l.i (records_at l.n 7 l.body))) (replicate 124 0)

@@ -7,7 +7,7 @@ use mathlib.Core.List.{List}
 use lib.ListN.{length, get_or, take, drop}
 use lib.Seq.{get_or-take, length-take-le}
 use Rattle.lists.specs.Bytes.{Bytes}
-use Rattle.lists.proofs.Each.{each_at}
+use Rattle.lists.proofs.Each.{each-of, each_at}
 use Rattle.refusal.proofs.Checks.{accepted-first}
 use Rattle.ga94.specs.declared.Record.{Record}
 use Rattle.ga94.specs.Value.{blank}
@@ -57,5 +57,5 @@ loop-i-preserved c =
           c.loop-i.invariant (sym w.clean-is ∙ is)
           ∙ records-here rs i r (omega (arith, count, c.loop-i-test.true)) here
           ∙ accepted-first _ (sym (range-accepted (56 + 24 * i) r
-          (in-range s (4 * i) c.known.ensures (omega arith) _ c.four_at-lent.ensures (c.is_in_range.ensures w.if-not-is_in_range.false)))) refl
+          (in-range s (4 * i) (each-of (λ (b : ℕ). b < 256) 0 s (λ i h. c.fits-records i)) (omega arith) c.four_at-lent.result c.four_at-lent.ensures (c.is_in_range.ensures w.if-not-is_in_range.false)))) refl
     ]

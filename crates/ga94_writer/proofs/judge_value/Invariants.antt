@@ -1,5 +1,5 @@
 -- `ga94_writer::judge_value` meets its contract. The loop's invariant: i records are accepted, and those from i on decide.
-use Prim.Native.Nat.{◌+◌, ◌-◌, ◌*◌}
+use Prim.Native.Nat.{◌+◌, ◌*◌}
 use mathlib.Core.Path.{◌≡◌}
 use lib.ListN.{take, drop}
 use Rattle.ga94.specs.Lent.{lent_records}
@@ -8,6 +8,3 @@ use Rattle.ga94_writer.proofs.judge_value.Given as goal
 
 abbrev pub invariant-loop-i : goal.invariant-loop-i
 invariant-loop-i l = records_verdict 56 (take l.n (lent_records l.records)) ≡ records_verdict (56 + 24 * l.i) (drop l.i (take l.n (lent_records l.records)))
-
-abbrev pub decreases-loop-i : goal.decreases-loop-i
-decreases-loop-i l = l.n - l.i

@@ -27,8 +27,8 @@ returns c =
     c.put_head.ensures
     two
     c.put_constructs.ensures
-    c.clear.new.out
-    c.clear.ensures
+    c.fill.new.self
+    (c.fill.ensures.after (λ y e. e))
 
 pub overflow_mul-flags : goal.overflow_mul-flags
 overflow_mul-flags c =
@@ -112,8 +112,8 @@ overflow_add-end-2 c =
     let whole : Whole unit = value-whole unit c.requires.records_value in
     omega (arith, whole.few)
 
-pub slice_bounds-clear-count : goal.slice_bounds-clear-count
-slice_bounds-clear-count c =
+pub slice_bounds-fill-count : goal.slice_bounds-fill-count
+slice_bounds-fill-count c =
     let unit : CaptionUnit = unit_in c.args.v c.args.records.now in
     let places : length unit.records ≡ 31 = lent_length c.args.records.now in
     let out : List ℕ = c.args.out.now in
@@ -125,8 +125,8 @@ slice_bounds-clear-count c =
     let room : 7 + 3 * unit.n + 1 ≤ length two = omega (arith, built, long) in
     simp length-set (omega (arith, room))
 
-pub slice_bounds-clear-start : goal.slice_bounds-clear-start
-slice_bounds-clear-start c =
+pub slice_bounds-fill-start : goal.slice_bounds-fill-start
+slice_bounds-fill-start c =
     let unit : CaptionUnit = unit_in c.args.v c.args.records.now in
     let places : length unit.records ≡ 31 = lent_length c.args.records.now in
     let out : List ℕ = c.args.out.now in

@@ -1,20 +1,18 @@
 -- `ga94_writer::put_constructs` meets its contract. The loop's invariant: the first i constructs are laid behind seven bytes.
 use Prim.Native.Nat.{ℕ, suc, ◌+◌, ◌*◌, ◌≤◌, ◌<◌}
 use native.Mathlib.Omega.{arith}
-use mathlib.Core.Path.{◌≡◌, ◌∙◌, ap, ap₂, sym, subst, refl}
+use mathlib.Core.Path.{◌≡◌, ◌∙◌, ap₂, sym, subst, refl}
 use mathlib.Core.List.{List, [], ◌∷◌}
-use lib.ListN.{length, get_or, take, set}
-use lib.Seq.{length-take-le, get_or-take, sets}
-use Rattle.lists.specs.Flat.{flat}
+use lib.ListN.{length, get_or, set}
+use lib.Seq.{get_or-take, sets}
 use Rattle.lists.specs.Room.{over_at}
 use Rattle.lists.proofs.Each.{each_at}
 use Rattle.lists.proofs.Flat.{flat-next-at}
-use Rattle.lists.proofs.Lay.{length-over_at, sets-over_at}
+use Rattle.lists.proofs.Lay.{sets-over_at}
 use Rattle.ga94.specs.declared.Record.{Record}
 use Rattle.ga94.specs.Value.{CaptionUnit, blank, held}
 use Rattle.ga94.specs.Layout.{construct_bytes}
 use Rattle.ga94.specs.Lent.{unit_in}
-use Rattle.ga94.proofs.Sizes.{length-constructs}
 use Rattle.ga94.proofs.Lending.{lent_length}
 use Rattle.ga94.proofs.Holding.{value-whole, length-held}
 use Rattle.ga94.proofs.Writable.{InRange, value-ranged}
@@ -33,27 +31,17 @@ loop-i-preserved c =
     let rs : List Record = (held unit).records in
     let few : unit.n ≤ 31 = (value-whole unit c.requires.records_value).few in
     let counted : length rs ≡ unit.n = length-held unit (lent_length c.args.records.now) few in
-    let sized : length (flat construct_bytes (take c.loop-i.i rs)) ≡ 3 * c.loop-i.i =
-    let i = c.loop-i.i in
-    length-constructs (take i rs) ∙ ap (λ (k : ℕ). 3 * k) (length-take-le i rs (omega (arith, counted, c.loop-i.invariant.0)))
-    in
-    let kept : length c.loop-i.out ≡ length out =
-    let laid = flat construct_bytes (take c.loop-i.i rs) in
-    ap length c.loop-i.invariant.1 ∙ length-over_at 7 laid out (omega (arith, sized, c.requires.n_in_bounds, c.loop-i.invariant.0))
-    in
     let i : ℕ = c.loop-i.i in
     let inside : i < length rs = omega (arith, counted, c.loop-i-test.true) in
-    let room : 7 + 3 * i + 3 ≤ length c.loop-i.out = omega (arith, kept, c.requires.n_in_bounds, c.loop-i-test.true) in
+    let room : 7 + 3 * i + 3 ≤ length c.loop-i.out = omega arith in
     let here : get_or rs i blank ≡ c.record_in-r.result = get_or-take unit.n unit.records i blank c.loop-i-test.true ∙ sym c.record_in-r.ensures in
     let k = i in
     let r = c.record_in-r.result in
-    let s = c.loop-i.out in (
-      omega (arith, c.loop-i-test.true),
-      sym (three s (7 + 3 * k) _ _ _)
-          ∙ sets-over_at (7 + 3 * k) (construct_bytes r) s room
-          ∙ ap₂ (λ (x : Record) (ys : List ℕ). over_at (7 + 3 * k) (construct_bytes x) ys) (sym here) c.loop-i.invariant.1
-          ∙ flat-next-at construct_bytes 3 (λ x. refl) blank rs out k 7 (7 + 3 * k) inside (omega (arith, c.requires.n_in_bounds)) refl,
-    )
+    let s = c.loop-i.out in
+    sym (three s (7 + 3 * k) _ _ _)
+    ∙ sets-over_at (7 + 3 * k) (construct_bytes r) s room
+    ∙ ap₂ (λ (x : Record) (ys : List ℕ). over_at (7 + 3 * k) (construct_bytes x) ys) (sym here) c.loop-i.invariant
+    ∙ flat-next-at construct_bytes 3 (λ x. refl) blank rs out k 7 (7 + 3 * k) inside (omega (arith, c.requires.n_in_bounds)) refl
 
 pub overflow_mul-out : goal.overflow_mul-out
 overflow_mul-out c =

@@ -1,5 +1,4 @@
 -- `ga94_writer::put_constructs` meets its contract. The loop's invariant: the first i constructs are laid behind seven bytes.
-use Prim.Native.Nat.{◌-◌, ◌≤◌}
 use mathlib.Core.Path.{◌≡◌}
 use lib.ListN.{take}
 use Rattle.lists.specs.Flat.{flat}
@@ -9,7 +8,4 @@ use Rattle.ga94.specs.Lent.{lent_records}
 use Rattle.ga94_writer.proofs.put_constructs.Given as goal
 
 abbrev pub invariant-loop-i : goal.invariant-loop-i
-invariant-loop-i l = (l.i ≤ l.n) × (l.out ≡ over_at 7 (flat construct_bytes (take l.i (take l.n (lent_records l.records)))) l.initial.out)
-
-abbrev pub decreases-loop-i : goal.decreases-loop-i
-decreases-loop-i l = l.n - l.i
+invariant-loop-i l = l.out ≡ over_at 7 (flat construct_bytes (take l.i (take l.fn.v.n (lent_records l.records)))) l.initial.out

@@ -1,10 +1,11 @@
 -- The units from i on decide as all of them do; after the loop the room decides.
-use Rattle.std.proofs.Common.{◌≡◌, ◌∙◌, ap, sym, Bool, ℕ, ◌+◌, ◌*◌, ◌/◌, ◌≤◌, ◌<◌, List, [], length, get_or, drop, ltb, arith}
+use Rattle.std.proofs.Common.{◌≡◌, ◌∙◌, ap, sym, Bool, ℕ, ◌+◌, ◌*◌, ◌/◌, ◌≤◌, ◌<◌, List, [], length, get_or, drop, ltb, Err, arith}
+use Rattle.std.proofs.lemmas.Result.{err_from_is_err_and}
 use lib.ListN.{drop_of_length-le}
 use borrow.Author.Tests.{lt-ltb, le-ltb}
 use lib.Seq.{get_or-take}
 use Rattle.lists.proofs.Flat.{length_taken}
-use Rattle.refusal.specs.declared.Verdict.{Verdict}
+use Rattle.refusal.specs.Verdict.{Verdict}
 use Rattle.refusal.specs.declared.Reason.TheVariants.{NoRoom}
 use Rattle.refusal.specs.declared.Item.TheVariants.{Whole}
 use Rattle.refusal.specs.Checks.{refuse_if, and_then}
@@ -18,7 +19,7 @@ use Rattle.line21_judge.specs.Judging.{lent_verdict}
 use Rattle.line21_judge.proofs.Lent.{lent-verdict}
 use Rattle.line21_judge.proofs.judge_value.Invariants.{judged}
 use Rattle.line21_judge.proofs.judge_value.Goals as goal
-use Rattle.line21_judge.proofs.judge_value.Goals.{After-loop-i}
+use Rattle.line21_judge.proofs.judge_value.Goals.{After-loop-i, then-units-m-via-then-units-m, then-units-m-via-else-units-m+then-m-gt-MAX_UNITS}
 
 -- the code's first test was passed
 module _ (m : ℕ) (units : List ℕ) (few : m ≤ 291) where
@@ -49,28 +50,29 @@ module _ (m : ℕ) (units : List ℕ) (few : m ≤ 291) where
   none_left i past = let all : length (judged m units) ≤ i = omega (arith, places) in drop_of_length-le (judged m units) all
 
 pub returns-then-units-m : goal.returns-then-units-m
-unfolding lent_verdict
-returns-then-units-m c = simp (lt-ltb _ _ c.if-units-m.true)
-
-pub returns-then-m-gt-MAX_UNITS : goal.returns-then-m-gt-MAX_UNITS
 unfolding lent_verdict value_verdict
-returns-then-m-gt-MAX_UNITS c = simp (le-ltb _ _ c.if-units-m.false, lt-ltb _ _ c.if-m-gt-MAX_UNITS.true)
+returns-then-units-m c =
+    elim c.then-units-m.branch [
+      | then-units-m-via-then-units-m w ↦ simp (lt-ltb _ _ w.if-units-m.true)
+      | then-units-m-via-else-units-m+then-m-gt-MAX_UNITS w ↦ simp (le-ltb _ _ w.if-units-m.false, lt-ltb _ _ w.if-m-gt-MAX_UNITS.true)
+    ]
 
-pub returns-in-Refused : goal.returns-in-Refused
-returns-in-Refused c =
+pub returns-in_err-judge_unit : goal.returns-in_err-judge_unit
+returns-in_err-judge_unit c =
     let m = c.args.m in
     let units = c.args.units.now in
     let i = c.loop-i.i in
     let few = c.if-m-gt-MAX_UNITS.false in
     let all = c.if-units-m.false in
-    let judged-here = c.in-Refused.is in
+    let judged-here = c.in_err-judge_unit.was in
+    let p = err_from_is_err_and c.from_residual.result c.from_residual.ensures.1 in
     let rest = units_verdict (drop (i + 1) (judged m units)) in
     let space = refuse_if (ltb c.args.room (1 + 5 * m)) NoRoom Whole in
-    judged-here
+    p.1 ∙ ap Err p.2
     ∙ ap (λ (v : Verdict). and_then (and_then v rest) space)
-    (sym judged-here ∙ c.judge_unit-verdict.ensures ∙ ap unit_verdict (c.unit_in.ensures ∙ same-unit m units few all i c.loop-i-test.true))
+    (sym judged-here ∙ c.judge_unit.ensures ∙ ap unit_verdict (c.unit_in.ensures ∙ same-unit m units few all i c.loop-i-test.true))
     ∙ ap (λ (v : Verdict). and_then v space) (sym (split m units few i c.loop-i-test.true))
-    ∙ sym (lent-verdict m units c.args.room all ∙ told m units few c.args.room i c.loop-i.invariant.1)
+    ∙ sym (lent-verdict m units c.args.room all ∙ told m units few c.args.room i c.loop-i.invariant)
 
 pub loop-i-preserved : goal.loop-i-preserved
 loop-i-preserved c =
@@ -78,13 +80,11 @@ loop-i-preserved c =
     let units = c.args.units.now in
     let i = c.loop-i.i in
     let few = c.if-m-gt-MAX_UNITS.false in
-    let all = c.if-units-m.false in (
-      omega arith,
-      c.loop-i.invariant.1
-          ∙ split m units few i c.loop-i-test.true
-          ∙ ap (λ (v : Verdict). and_then v (units_verdict (drop (i + 1) (judged m units))))
-          (sym (c.judge_unit-verdict.ensures ∙ ap unit_verdict (c.unit_in.ensures ∙ same-unit m units few all i c.loop-i-test.true)) ∙ c.in_default.is),
-    )
+    let all = c.if-units-m.false in
+    c.loop-i.invariant
+    ∙ split m units few i c.loop-i-test.true
+    ∙ ap (λ (v : Verdict). and_then v (units_verdict (drop (i + 1) (judged m units))))
+    (sym (c.judge_unit.ensures ∙ ap unit_verdict (c.unit_in.ensures ∙ same-unit m units few all i c.loop-i-test.true)) ∙ c.in_ok-judge_unit.was)
 
 -- after the loop the room decides
 past : (c : After-loop-i) → lent_verdict c.args.m c.args.units.now c.args.room ≡ refuse_if (ltb c.args.room (1 + 5 * c.args.m)) NoRoom Whole
@@ -93,7 +93,7 @@ past c =
     let units = c.args.units.now in
     let few = c.if-m-gt-MAX_UNITS.false in
     lent-verdict m units c.args.room c.if-units-m.false
-    ∙ told m units few c.args.room c.loop-i.i c.loop-i.invariant.1
+    ∙ told m units few c.args.room c.loop-i.i c.loop-i.invariant
     ∙ ap (λ (us : List AccessUnit). and_then (units_verdict us) (refuse_if (ltb c.args.room (1 + 5 * m)) NoRoom Whole))
     (none_left m units few c.loop-i.i c.loop-i-test.false)
 

@@ -1,5 +1,5 @@
 -- The units from i on decide as all of them do.
-use Rattle.std.proofs.Common.{◌≡◌, ℕ, ◌-◌, ◌≤◌, List, drop}
+use Rattle.std.proofs.Common.{◌≡◌, ℕ, List, drop}
 use Rattle.line21.specs.declared.AccessUnit.{AccessUnit}
 use Rattle.line21.specs.Value.{held}
 use Rattle.line21.specs.Writing.{units_verdict}
@@ -11,7 +11,4 @@ abbrev pub judged : ℕ → List ℕ → List AccessUnit
 judged m units = (held (payload_in 0 m units)).units
 
 abbrev pub invariant-loop-i : goal.invariant-loop-i
-invariant-loop-i l = (l.i ≤ l.m) × (units_verdict (judged l.m l.units) ≡ units_verdict (drop l.i (judged l.m l.units)))
-
-abbrev pub decreases-loop-i : goal.decreases-loop-i
-decreases-loop-i l = l.m - l.i
+invariant-loop-i l = units_verdict (judged l.m l.units) ≡ units_verdict (drop l.i (judged l.m l.units))

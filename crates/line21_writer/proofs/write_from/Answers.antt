@@ -1,76 +1,49 @@
--- It stores where the refusal's number is 0, which is where the verdict accepts.
-use Rattle.std.proofs.Common.{◌≡◌, ◌∙◌, ap, sym, subst, ℕ, List, length, arith}
-use mathlib.Core.Path.{subst₃}
-use Rattle.refusal.specs.declared.Refusal.{Refusal}
-use Rattle.refusal.specs.declared.Verdict.{Verdict}
-use Rattle.refusal.specs.Numbers.{refusal_of}
-use Rattle.refusal.specs.Answers.{Wrote}
-use Rattle.refusal.proofs.Acceptance.{told-accepted}
-use Rattle.refusal.proofs.Outputs.{wrote_nothing, wrote-laid}
+-- It stores where the verdict accepts.
+use Rattle.std.proofs.Common.{◌≡◌, ◌∙◌, sym, ℕ, ◌<◌, List, length, arith}
+use Rattle.lists.proofs.Each.{each-of}
 use Rattle.line21.specs.declared.Payload.{Payload}
 use Rattle.line21.specs.Value.{Typed, held}
 use Rattle.line21.specs.Layout.{layout}
 use Rattle.line21.specs.Writing.{value_verdict}
 use Rattle.line21.specs.Lent.{access_units_in, payload_in}
-use Rattle.line21.proofs.Numbers.{Writable, accepted-value}
+use Rattle.line21.proofs.Numbers.{accepted-value}
 use Rattle.line21.proofs.LentUnits.{typed-in, verdict-flags}
 use Rattle.line21_judge.proofs.Lent.{lent-array}
-use Rattle.line21_writer.proofs.write_from.Goals.{After-told-refusal}
+use Rattle.line21_writer.proofs.Outcomes.{wrote-refused, wrote-all}
+use Rattle.line21_writer.proofs.write_from.Goals.{After-judge_value}
 use Rattle.line21_writer.proofs.write_from.Goals as goal
 
-module _ (c : After-told-refusal) where
+module _ (c : After-judge_value) where
   abbrev p : Payload
   p = payload_in c.args.flags c.args.m c.args.units.now
 
   abbrev out : List ℕ
   out = c.args.out.now
 
-  abbrev verdict : Verdict
-  verdict = value_verdict p (length out)
-
-  told : c.told-refusal.result ≡ refusal_of verdict
-  told = c.told-refusal.ensures ∙ ap refusal_of (c.judge_value.ensures ∙ lent-array _ _ _ c.told-units ∙ sym (verdict-flags c.args.flags c.args.m (length out) (access_units_in c.args.units.now)))
+  told : value_verdict p (length out) ≡ c.judge_value.result
+  told = sym (c.judge_value.ensures ∙ lent-array _ _ _ c.told-units ∙ sym (verdict-flags c.args.flags c.args.m (length out) (access_units_in c.args.units.now)))
 
   types : Typed p
-  types = typed-in c.args.flags c.args.m c.args.units.now (omega (arith, c.ranges.flags)) c.known.ensures
+  types = typed-in c.args.flags c.args.m c.args.units.now (omega (arith, c.ranges.flags)) (each-of (λ (b : ℕ). b < 256) 0 c.args.units.now (λ i h. c.fits-units i))
 
-  -- past the test the value is accepted
-  module _ (passed : c.told-refusal.result.number ≡ 0) where
-    zero : (refusal_of verdict).number ≡ 0
-    zero = sym (ap (λ (r : Refusal). r.number) told) ∙ passed
-
-    writable : Writable p (length out)
-    writable = accepted-value _ _ (told-accepted _ zero)
-
-pub returns-then-refusal-ne0 : goal.returns-then-refusal-ne0
-returns-then-refusal-ne0 c =
-    let at = (goal.at.returns-then-refusal-ne0 c).After-told-refusal in
-    let laid = layout (held (p at)) in
-    record {
-      typed = types at;
-      wrote =
-          subst (λ (r : Refusal). Wrote (verdict at) laid (out at) (record { refusal = r; len = 0 }) (out at)) (sym (told at))
-          (wrote_nothing (verdict at) laid (out at) (λ e. c.if-refusal-ne0.true (ap (λ (r : Refusal). r.number) (told at) ∙ e)));
-    }
+pub returns-in-Err : goal.returns-in-Err
+returns-in-Err c =
+    let at = (goal.at.returns-in-Err c).After-judge_value in
+    record { typed = types at; wrote = wrote-refused _ (layout (held (p at))) (out at) _ c.in-Err.why (told at ∙ c.in-Err.is) c.from.ensures }
 
 pub write_judged-len-requires-clause-out_value : goal.write_judged-len-requires-clause-out_value
-write_judged-len-requires-clause-out_value c =
-    told-accepted _ (zero (goal.at.write_judged-len-requires-clause-out_value c).After-told-refusal c.if-refusal-ne0.false)
+write_judged-len-requires-clause-out_value c = told (goal.at.write_judged-len-requires-clause-out_value c).After-judge_value ∙ c.in_default.is
 
 pub write_judged-len-requires-clause-m_in_bounds : goal.write_judged-len-requires-clause-m_in_bounds
 write_judged-len-requires-clause-m_in_bounds c =
-    omega (arith, c.told-units, (writable (goal.at.write_judged-len-requires-clause-m_in_bounds c).After-told-refusal c.if-refusal-ne0.false).few)
+    let at = (goal.at.write_judged-len-requires-clause-m_in_bounds c).After-judge_value in
+    omega (arith, c.told-units, (accepted-value (p at) (length (out at)) (told at ∙ c.in_default.is)).few)
 
 pub returns : goal.returns
 returns c =
-    let at = (goal.at.returns c).After-told-refusal in
-    let laid = layout (held (p at)) in
+    let at = (goal.at.returns c).After-judge_value in
     record {
       typed = types at;
       wrote =
-          subst₃ (λ (r : Refusal) (n : ℕ) (exit : List ℕ). Wrote (verdict at) laid (out at) (record { refusal = r; len = n }) exit)
-          (sym (told at))
-          (sym c.write_judged-len.ensures.value)
-          (sym c.write_judged-len.ensures.out_after)
-          (wrote-laid (verdict at) laid (out at) (zero at c.if-refusal-ne0.false));
+          wrote-all _ (layout (held (p at))) (out at) _ c.write_judged-len.result _ (told at ∙ c.in_default.is) c.from-2.ensures c.write_judged-len.ensures.value c.write_judged-len.ensures.out_after;
     }

@@ -1,13 +1,11 @@
 -- The flags byte and the first k units are laid over the output.
-use Rattle.std.proofs.Common.{◌≡◌, ◌∙◌, ap, ap₂, sym, ℕ, ◌+◌, ◌-◌, ◌*◌, ◌≤◌, ◌<◌, List, [], ◌∷◌, length, take, drop, get_or, set, length-drop, arith}
+use Rattle.std.proofs.Common.{◌≡◌, ◌∙◌, ap, sym, refl, ℕ, ◌+◌, ◌*◌, ◌≤◌, ◌<◌, List, [], ◌∷◌, length, drop, take, get_or, set, arith}
 use lib.ListN.{length-set}
 use lib.Seq.{length-take-le, get_or-take, sets-eq, drop-set-lt}
-use borrow.Rule.Slice.PartMut.{put_mid}
-use Rattle.lists.specs.Room.{over}
+use Rattle.lists.specs.Room.{over, over_at}
 use Rattle.lists.proofs.Flat.{length_taken, get_d-taken}
-use Rattle.lists.proofs.Lay.{length_over, over-more, rest-whole}
-use Rattle.refusal.specs.declared.Verdict.TheVariants.{Accepted}
-use Rattle.line21.specs.declared.AccessUnit.{AccessUnit}
+use Rattle.lists.proofs.Lay.{length_over, laid-part, over_at-over_at}
+use Rattle.refusal.specs.Verdict.{Accepted}
 use Rattle.line21.specs.declared.Payload.{Payload}
 use Rattle.line21.specs.Value.{blank, held}
 use Rattle.line21.specs.Layout.{layout_access_unit}
@@ -71,33 +69,20 @@ bounds-out-0 c = omega (arith, long (goal.at.bounds-out-0 c).Start)
 pub loop-k-init : goal.loop-k-init
 loop-k-init c =
     let out = c.args.out.now in
-    let flags = c.args.flags in (
-      omega arith,
-      sets-eq (flags ∷ []) out 0 (omega (arith, long (goal.at.loop-k-init c).Start))
-          ∙ ap (λ (rest : List ℕ). flags ∷ rest) (sym (drop-set-lt 1 out 0 flags (omega arith))),
-    )
+    let flags = c.args.flags in
+    sets-eq (flags ∷ []) out 0 (omega (arith, long (goal.at.loop-k-init c).Start))
+    ∙ ap (λ (rest : List ℕ). flags ∷ rest) (sym (drop-set-lt 1 out 0 flags (omega arith)))
 
-pub slice_bounds-put_unit-count : goal.slice_bounds-put_unit-count
-slice_bounds-put_unit-count c =
-    let start = (goal.at.slice_bounds-put_unit-count c).Start in
-    omega (arith, kept start c.loop-k.k c.loop-k.invariant.0 c.loop-k.out c.loop-k.invariant.1, long start)
+pub slice_bounds-copy_from_slice-end : goal.slice_bounds-copy_from_slice-end
+slice_bounds-copy_from_slice-end c =
+    let start = (goal.at.slice_bounds-copy_from_slice-end c).Start in
+    omega (arith, kept start c.loop-k.k (omega arith) c.loop-k.out c.loop-k.invariant, long start)
 
-pub slice_bounds-put_unit-start : goal.slice_bounds-put_unit-start
-slice_bounds-put_unit-start c =
-    let start = (goal.at.slice_bounds-put_unit-start c).Start in
-    omega (arith, kept start c.loop-k.k c.loop-k.invariant.0 c.loop-k.out c.loop-k.invariant.1, long start)
-
-pub put_unit-requires-clause-u_value : goal.put_unit-requires-clause-u_value
-put_unit-requires-clause-u_value c =
-    let start = (goal.at.put_unit-requires-clause-u_value c).Start in
-    ap unit_verdict (c.unit_at.ensures ∙ same-unit start c.loop-k.k (omega arith)) ∙ passed start c.loop-k.k (omega arith)
-
-pub put_unit-requires-clause-in_bounds : goal.put_unit-requires-clause-in_bounds
-put_unit-requires-clause-in_bounds c =
-    let start = (goal.at.put_unit-requires-clause-in_bounds c).Start in
+pub unit_bytes-requires : goal.unit_bytes-requires
+unit_bytes-requires c =
+    let start = (goal.at.unit_bytes-requires c).Start in
     let k = c.loop-k.k in
-    let out = c.loop-k.out in
-    omega (arith, ap length (rest-whole out (1 + 5 * k)), length-drop (1 + 5 * k) out, kept start k c.loop-k.invariant.0 out c.loop-k.invariant.1, long start)
+    ap unit_verdict (c.unit_at-unit.ensures ∙ same-unit start k c.loop-k-test.true) ∙ passed start k c.loop-k-test.true
 
 pub loop-k-preserved : goal.loop-k-preserved
 loop-k-preserved c =
@@ -105,21 +90,21 @@ loop-k-preserved c =
     let flags = c.args.flags in
     let units = c.args.units.now in
     let k = c.loop-k.k in
+    let at = 1 + 5 * k in
     let begun = set c.args.out.now 0 flags in
-    let part = c.put_unit.new.out in
-    let piece = layout_access_unit (get_or (access_units_in units) k blank) in
+    let u = get_or (access_units_in units) k blank in
+    let piece = layout_access_unit u in
     let inside : k < length (access_units_in units) = omega (arith, places units, (writable start).few) in
-    let laid =
-    c.put_unit.ensures
-    ∙ ap₂ (λ (u : AccessUnit) (xs : List ℕ). over (layout_access_unit u) (take (length xs - (1 + 5 * k)) (drop (1 + 5 * k) xs)))
-    (c.unit_at.ensures ∙ same-unit start k (omega arith))
-    c.loop-k.invariant.1
-    in (
-      omega arith,
-      ap (λ (xs : List ℕ). put_mid (1 + 5 * k) (length xs - (1 + 5 * k)) xs part) c.loop-k.invariant.1
-          ∙ over-more (front flags units k) piece begun part (1 + 5 * k) (sized start k c.loop-k.invariant.0 c.loop-k.out c.loop-k.invariant.1) laid
-          ∙ ap (λ (bytes : List ℕ). over (flags ∷ bytes) begun) (sym (layout_units-more (access_units_in units) k inside)),
-    )
+    let here : c.unit_at-unit.result ≡ u = c.unit_at-unit.ensures ∙ same-unit start k c.loop-k-test.true in
+    let bytes : c.unit_bytes.result ≡ piece =
+    c.unit_bytes.ensures ∙ ap layout_access_unit here
+    in
+    let some : 0 ≤ length begun = omega arith in
+    let next : 0 + length (front flags units k) ≡ at = omega (arith, sized start k (omega arith) c.loop-k.out c.loop-k.invariant) in
+    laid-part at 5 c.loop-k.out c.copy_from_slice.new.self piece refl (c.copy_from_slice.ensures.after ∙ bytes)
+    ∙ ap (over_at at piece) c.loop-k.invariant
+    ∙ over_at-over_at 0 (front flags units k) piece begun at some next
+    ∙ ap (λ (all : List ℕ). over (flags ∷ all) begun) (sym (layout_units-more (access_units_in units) k inside))
 
 pub returns-clause-value : goal.returns-clause-value
 returns-clause-value c =

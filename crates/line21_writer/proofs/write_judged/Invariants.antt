@@ -1,5 +1,5 @@
 -- The flags byte and the first k units are laid over the output.
-use Rattle.std.proofs.Common.{◌≡◌, ℕ, ◌-◌, ◌≤◌, List, ◌∷◌, take}
+use Rattle.std.proofs.Common.{◌≡◌, ℕ, List, ◌∷◌, take}
 use Rattle.lists.specs.Room.{over}
 use Rattle.line21.specs.Layout.{layout_access_units}
 use Rattle.line21.specs.Lent.{access_units_in}
@@ -10,7 +10,4 @@ abbrev pub front : ℕ → List ℕ → ℕ → List ℕ
 front flags units k = flags ∷ layout_access_units (take k (access_units_in units))
 
 abbrev pub invariant-loop-k : goal.invariant-loop-k
-invariant-loop-k l = (l.k ≤ l.m) × (l.out ≡ over (front l.flags l.units l.k) l.initial.out)
-
-abbrev pub decreases-loop-k : goal.decreases-loop-k
-decreases-loop-k l = l.m - l.k
+invariant-loop-k l = l.out ≡ over (front l.flags l.units l.k) l.initial.out

@@ -1,11 +1,7 @@
--- `listing::with` puts the bytes behind the text one by one: before each turn, those passed stand there.
-use Prim.Native.Nat.{◌-◌, ◌≤◌}
-use lib.ListN.{length, take}
+-- Before each turn, the bytes passed stand behind the text.
+use Rattle.std.proofs.Common.{take}
 use Rattle.listing.specs.Inside.{Appends}
 use Rattle.listing.proofs.with.Given as goal
 
-abbrev pub invariant-loop-i : goal.invariant-loop-i
-invariant-loop-i l = (l.i ≤ length l.bytes) × Appends (take l.i l.bytes) l.initial.r l.r
-
-abbrev pub decreases-loop-i : goal.decreases-loop-i
-decreases-loop-i l = length l.bytes - l.i
+abbrev pub invariant-loop-b : goal.invariant-loop-b
+invariant-loop-b l = Appends (take l.b-index l.bytes) l.initial.r l.r

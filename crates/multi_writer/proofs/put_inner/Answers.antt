@@ -1,5 +1,5 @@
 -- Header, user words and NCS are laid one behind the other, and NCS is made from the sums of the others.
-use Rattle.std.proofs.Common.{◌≡◌, ℕ, ◌+◌, ◌-◌, ◌%◌, ◌<◌, List, ◌++◌, get_or, drop, set, sym, refl, ap, ◌∙◌, ap₂, arith}
+use Rattle.std.proofs.Common.{◌≡◌, ℕ, ◌+◌, ◌-◌, ◌%◌, ◌<◌, List, ◌++◌, get_or, drop, set, sym, refl, ap, ◌∙◌, ap₂, arith, refl, ◌%◌}
 use borrow.Rule.Slice.PartMut.{put_mid}
 use Rattle.lists.specs.Room.{over}
 use Rattle.lists.specs.Sum.{sum}
@@ -66,13 +66,17 @@ module _ (c : After-cs-word) where
         word_low (get_or h 5 0) c.requires.head_bound,
       )
 
-  covered : c.wrapping_add_u16-covered.result ≡ sum (drop 1 all) % 65536
+  -- what NCS covers, as the code adds it up
+  abbrev added : ℕ
+  added = (c.put_head-ids.result + c.carry-user.result) % 65536
+
+  covered : added ≡ sum (drop 1 all) % 65536
   covered =
-      covered-sum words h c.requires.head_value c.put_head-ids.result c.carry-user.result c.wrapping_add_u16-covered.result
-      c.put_head-ids.ensures.value small-ids c.carry-user.ensures.value c.wrapping_add_u16-covered.ensures.value
+      covered-sum words h c.requires.head_value c.put_head-ids.result c.carry-user.result added
+      c.put_head-ids.ensures.value small-ids c.carry-user.ensures.value refl
 
   ncs : c.cs-word.result ≡ checksum_of (drop 1 all)
-  ncs = cs-sum (drop 1 all) c.wrapping_add_u16-covered.result c.cs-word.result covered c.cs-word.ensures
+  ncs = cs-sum (drop 1 all) added c.cs-word.result covered c.cs-word.ensures
 
   -- and NCS is stored behind them
   exit : set stored (4 + count) c.cs-word.result ≡ over (layout_inner (inner_of words h)) out
@@ -90,6 +94,5 @@ returns c =
     record {
       out_after = exit word;
       value =
-          inner-total c.args.words.now c.args.head c.requires.head_value c.wrapping_add_u16-covered.result c.cs-word.result _ c.wrapping_add_u16.result c.wrapping_add_u16-2.result
-          (covered word) (ncs word) (line word) c.wrapping_add_u16.ensures.value c.wrapping_add_u16-2.ensures.value;
+          inner-total c.args.words.now c.args.head c.requires.head_value (added word) c.cs-word.result _ _ _ (covered word) (ncs word) (line word) refl refl;
     }

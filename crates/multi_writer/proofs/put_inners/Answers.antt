@@ -1,7 +1,7 @@
-use Rattle.std.proofs.Common.{◌≡◌, ℕ, ◌+◌, ◌<◌, ◌≤◌, List, [], length, get_or, sym, ap, ◌∙◌, arith}
+use Rattle.std.proofs.Common.{◌≡◌, ℕ, ◌+◌, ◌<◌, ◌≤◌, List, [], length, get_or, sym, ap, ◌∙◌, refl, arith}
 use Rattle.lists.specs.Room.{over}
 use Rattle.lists.proofs.Lay.{length_over, length_rest, laid_more}
-use Rattle.refusal.specs.declared.Verdict.TheVariants.{Accepted}
+use Rattle.refusal.specs.Verdict.{Accepted}
 use Rattle.multi.specs.Layout.{layout_inner}
 use Rattle.multi.specs.Lent.{inner_of}
 use Rattle.multi.specs.Writing.{head_verdict}
@@ -30,23 +30,23 @@ module _ (c : In-loop-i) where
   head = get_or heads i []
 
   long : length (front words heads i) ≡ c.loop-i.at
-  long = front-words words heads c.requires.heads_value i ∙ sym c.loop-i.invariant.1.0
+  long = front-words words heads c.requires.heads_value i ∙ sym c.loop-i.invariant.0
 
   few : c.loop-i.at < 255
-  few = omega (arith, c.loop-i.invariant.1.0, heads-front heads i, c.requires.heads_bound)
+  few = omega (arith, c.loop-i.invariant.0, heads-front heads i, c.requires.heads_bound)
 
   -- the output keeps its length
   kept : length c.loop-i.out ≡ length lent
   kept =
-      ap length c.loop-i.invariant.1.1.0
-      ∙ length_over (front words heads i) lent (omega (arith, long, c.loop-i.invariant.1.0, heads-front heads i, c.requires.heads_in_bounds))
+      ap length c.loop-i.invariant.1
+      ∙ length_over (front words heads i) lent (omega (arith, long, c.loop-i.invariant.0, heads-front heads i, c.requires.heads_in_bounds))
 
   told : head_verdict words head ≡ Accepted
   told = head-accepted-at words heads c.requires.heads_value i c.loop-i-test.true
 
   -- there is room for one more
   room : c.loop-i.at + (5 + get_or head 5 0) ≤ heads_words heads
-  room = omega (arith, c.loop-i.invariant.1.0, heads-more heads i c.loop-i-test.true, heads-front heads (i + 1))
+  room = omega (arith, c.loop-i.invariant.0, heads-more heads i c.loop-i-test.true, heads-front heads (i + 1))
 
 pub offset_bounds-out-at : goal.offset_bounds-out-at
 offset_bounds-out-at c = omega (arith, few (goal.at.offset_bounds-out-at c).In-loop-i)
@@ -79,15 +79,10 @@ loop-i-preserved c =
     let i = c.loop-i.i in
     let more = c.loop-i-test.true in
     let before = c.loop-i.invariant in (
-      omega arith,
-      (
-        omega (arith, before.1.0, c.inner_words-at.ensures.value, heads-more heads i more),
-        (
-          laid_more (front words heads i) (layout_inner (inner_of words (head turn))) lent c.loop-i.out c.put_inner-inner.new.out c.loop-i.at before.1.1.0 (long turn)
-              c.put_inner-inner.ensures.out_after
-              ∙ ap (λ (laid : List ℕ). over laid lent) (sym (inners-more heads i more words)),
-          inners-total heads i more words c.loop-i.total c.put_inner-inner.result c.wrapping_add_u16-total.result before.1.1.1
-              c.put_inner-inner.ensures.value c.wrapping_add_u16-total.ensures.value,
-        ),
-      ),
+      omega (arith, before.0, c.inner_words-at.ensures.value, heads-more heads i more),
+      laid_more (front words heads i) (layout_inner (inner_of words (head turn))) lent c.loop-i.out c.put_inner-inner.new.out c.loop-i.at before.1 (long turn)
+          c.put_inner-inner.ensures.out_after
+          ∙ ap (λ (laid : List ℕ). over laid lent) (sym (inners-more heads i more words)),
+      inners-total heads i more words c.loop-i.total c.put_inner-inner.result _ before.2
+          c.put_inner-inner.ensures.value refl,
     )

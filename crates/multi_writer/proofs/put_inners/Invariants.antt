@@ -1,5 +1,5 @@
 -- The first i inner packets, which take at words, are laid over the output, and total is their sum.
-use Rattle.std.proofs.Common.{◌≡◌, ℕ, ◌-◌, ◌%◌, ◌≤◌, List, map, length, take}
+use Rattle.std.proofs.Common.{◌≡◌, ℕ, ◌%◌, List, map, take}
 use Rattle.lists.specs.Room.{over}
 use Rattle.lists.specs.Sum.{sum}
 use Rattle.multi.specs.Layout.{layout_inners}
@@ -13,7 +13,6 @@ front words heads i = layout_inners (map (inner_of words) (take i heads))
 
 abbrev pub invariant-loop-i : goal.invariant-loop-i
 invariant-loop-i l =
-    (l.i ≤ length l.heads) × ((l.at ≡ heads_words (take l.i l.heads)) × ((l.out ≡ over (front l.words l.heads l.i) l.initial.out) × (l.total ≡ sum (front l.words l.heads l.i) % 65536)))
-
-abbrev pub decreases-loop-i : goal.decreases-loop-i
-decreases-loop-i l = length l.heads - l.i
+    (l.at ≡ heads_words (take l.i l.heads))
+    × (l.out ≡ over (front l.words l.heads l.i) l.initial.out)
+    × (l.total ≡ sum (front l.words l.heads l.i) % 65536)

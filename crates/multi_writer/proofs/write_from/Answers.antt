@@ -1,11 +1,14 @@
--- It stores where the refusal's number is 0, which is where the verdict accepts. Header, inner packets and CS are laid one behind the other.
-use Rattle.std.proofs.Common.{◌≡◌, ℕ, ◌+◌, ◌-◌, ◌<◌, ◌≤◌, List, [], ◌∷◌, map, length, take, drop, set, sym, refl, ap, ◌∙◌, subst, ap₂, ⊎_elim, arith}
+-- It stores where the verdict accepts. Header, inner packets and CS are laid one behind the other.
+use Rattle.std.proofs.Common.{◌≡◌, ℕ, ◌+◌, ◌-◌, ◌<◌, ◌≤◌, List, [], ◌∷◌, map, length, take, drop, set, sym, refl, ap, ◌∙◌, subst, ap₂, ⊎_elim, arith, ◌%◌, rules}
 use mathlib.Core.Path.{subst₃}
+use mathlib.Core.Bool.{true≢false}
+use Rattle.std.specs.Result.{is_err}
 use borrow.Rule.Slice.PartMut.{put_mid}
 use Rattle.lists.specs.Room.{over}
 use Rattle.lists.proofs.Lay.{length_over, length_rest, store-next, laid_more}
 use Rattle.refusal.specs.declared.Refusal.{Refusal}
-use Rattle.refusal.specs.declared.Verdict.{Verdict}
+use Rattle.refusal.specs.Verdict.{Verdict}
+use Rattle.refusal.specs.Verdict.{Accepted}
 use Rattle.refusal.specs.Numbers.{refusal_of}
 use Rattle.refusal.specs.Answers.{Wrote}
 use Rattle.refusal.proofs.Acceptance.{told-accepted}
@@ -20,7 +23,7 @@ use Rattle.multi.proofs.Whole.{length-user, length-multi}
 use Rattle.multi.proofs.Writable.{Holds, accepted-value}
 use Rattle.multi.proofs.Laid.{heads-words, front, value-laid}
 use Rattle.multi_writer.proofs.Summed.{cs-sum, all-total}
-use Rattle.multi_writer.proofs.write_from.Goals.{Start, After-told-refusal, After-user_words-user}
+use Rattle.multi_writer.proofs.write_from.Goals.{Start, After-from-refusal, After-user_words-user}
 use Rattle.multi_writer.proofs.write_from.Goals as goal
 
 module _ (c : Start) where
@@ -31,17 +34,17 @@ module _ (c : Start) where
   verdict = value_verdict told (length c.args.out.now)
 
 -- the verdict is told
-answer : (c : After-told-refusal) → c.told-refusal.result ≡ refusal_of (value_verdict (record { priority = c.args.priority; heads = c.args.heads.now; words = c.args.words.now }) (length c.args.out.now))
-answer c = c.told-refusal.ensures ∙ ap refusal_of c.judge_value.ensures
+answer : (c : After-from-refusal) → c.from-refusal.result ≡ refusal_of (value_verdict (record { priority = c.args.priority; heads = c.args.heads.now; words = c.args.words.now }) (length c.args.out.now))
+answer c = c.from-refusal.ensures ∙ ap refusal_of c.judge_value-verdict.ensures
 
-pub returns-then-refusal-ne0 : goal.returns-then-refusal-ne0
-returns-then-refusal-ne0 c =
-    let s = (goal.at.returns-then-refusal-ne0 c).Start in
-    let said = answer (goal.at.returns-then-refusal-ne0 c).After-told-refusal in
+pub returns-then-is_err : goal.returns-then-is_err
+returns-then-is_err c =
+    let s = (goal.at.returns-then-is_err c).Start in
+    let said = answer (goal.at.returns-then-is_err c).After-from-refusal in
     let out = c.args.out.now in
     let laid = layout (held (told s)) in
     subst (λ (r : Refusal). Wrote (verdict s) laid out (record { refusal = r; len = 0 }) out) (sym said)
-    (wrote_nothing (verdict s) laid out (λ e. c.if-refusal-ne0.true (ap (λ (r : Refusal). r.number) said ∙ e)))
+    (wrote_nothing (verdict s) laid out (λ e. true≢false (c.if-is_err.ensures.value ∙ ap is_err (c.judge_value-verdict.ensures ∙ told-accepted (verdict s) e))))
 
 -- past the test the value is accepted, and its words are counted
 module _ (c : After-user_words-user) where
@@ -57,14 +60,14 @@ module _ (c : After-user_words-user) where
   abbrev inner : List ℕ
   inner = layout_inners (held t).inners
 
-  said : c.told-refusal.result ≡ refusal_of (value_verdict t (length out))
-  said = c.told-refusal.ensures ∙ ap refusal_of c.judge_value.ensures
+  said : c.from-refusal.result ≡ refusal_of (value_verdict t (length out))
+  said = c.from-refusal.ensures ∙ ap refusal_of c.judge_value-verdict.ensures
 
-  zero : (refusal_of (value_verdict t (length out))).number ≡ 0
-  zero = sym (ap (λ (r : Refusal). r.number) said) ∙ c.if-refusal-ne0.false
+  accepted : value_verdict t (length out) ≡ Accepted
+  accepted = sym c.judge_value-verdict.ensures ∙ search rules
 
   both : Holds t (length out) × (length (layout (held t)) ≤ length out)
-  both = accepted-value t (length out) (told-accepted (value_verdict t (length out)) zero)
+  both = accepted-value t (length out) accepted
 
   counted : length (user_words (held t)) ≡ 1 + heads_words heads
   counted = length-user (held t) ∙ ap (λ (n : ℕ). 1 + n) (heads-words c.args.words.now heads both.0.heads)
@@ -161,7 +164,7 @@ returns c =
     let part = rest.new.out in
     let headed = first.ensures.out_after in
     let behind = rest.ensures.out_after in
-    let sum = c.wrapping_add_u16 in
+    let sum = (first.result + rest.result) % 65536 in
     let words = drop 3 (all n xs part headed behind) in
     let small : first.result < 65536 =
     omega (
@@ -173,9 +176,8 @@ returns c =
       word_low c.args.priority (omega (arith, (both n).0.priority)),
     ) in
     let cs : c.cs.result ≡ checksum_of words =
-    cs-sum words sum.result c.cs.result
-    (all-total (map word_of (0x43 ∷ 0x03 ∷ user n ∷ c.args.priority ∷ [])) inners first.result rest.result sum.result
-    first.ensures.value small rest.ensures.value sum.ensures.value)
+    cs-sum words sum c.cs.result
+    (all-total (map word_of (0x43 ∷ 0x03 ∷ user n ∷ c.args.priority ∷ [])) inners first.result rest.result sum first.ensures.value small rest.ensures.value refl)
     c.cs.ensures in
     let exit : set (stored n xs part headed behind) (6 + user n) c.cs.result ≡ over (layout (held value)) o =
     ap₂ (λ (ys : List ℕ) (w : ℕ). set ys (6 + user n) w) (laid n xs part headed behind) cs
@@ -185,4 +187,4 @@ returns c =
     (sym (said n))
     (whole n)
     (sym exit)
-    (wrote-laid (value_verdict value (length o)) (layout (held value)) o (zero n))
+    (wrote-laid (value_verdict value (length o)) (layout (held value)) o (ap (λ (v : Verdict). (refusal_of v).number) (accepted n)))

@@ -1,12 +1,8 @@
 -- What the loop of `judge` keeps: i units are accepted, and what is behind them decides.
-use Prim.Native.Nat.{◌-◌, ◌≤◌}
 use mathlib.Core.Path.{◌≡◌}
 use Rattle.pes.specs.Reading.{field_verdict}
 use Rattle.pes.proofs.Judged.{behind}
 use Rattle.pes_judge.proofs.judge.Given as goal
 
 abbrev pub invariant-loop-i : goal.invariant-loop-i
-invariant-loop-i l = (l.i ≤ 31) × (field_verdict l.s ≡ behind l.s l.i)
-
-abbrev pub decreases-loop-i : goal.decreases-loop-i
-decreases-loop-i l = 31 - l.i
+invariant-loop-i l = field_verdict l.s ≡ behind l.s l.i

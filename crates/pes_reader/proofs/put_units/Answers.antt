@@ -20,9 +20,7 @@ loop-i-preserved c =
     let i = c.loop-i.i in
     let xs = c.loop-i.units in
     let long : length (front s i) ≡ 45 * i = length-read i s (omega arith) in
-    let rest = take (length xs - 45 * i) (drop (45 * i) xs) in (
-      omega arith,
-      laid_more (front s i) (unit_bytes (read_unit (drop (46 * i) s))) lent xs c.put_unit.new.out (45 * i) c.loop-i.invariant.1 long
-          (c.put_unit.ensures ∙ ap (λ (u : List ℕ). over (unit_bytes (read_unit u)) rest) (rest-whole s (46 * i)))
-          ∙ ap (λ (laid : List ℕ). over laid lent) (sym (taken-flat-more unit_bytes read_unit 46 i s)),
-    )
+    let rest = take (length xs - 45 * i) (drop (45 * i) xs) in
+    laid_more (front s i) (unit_bytes (read_unit (drop (46 * i) s))) lent xs c.put_unit.new.out (45 * i) c.loop-i.invariant long
+    (c.put_unit.ensures ∙ ap (λ (u : List ℕ). over (unit_bytes (read_unit u)) rest) (rest-whole s (46 * i)))
+    ∙ ap (λ (laid : List ℕ). over laid lent) (sym (taken-flat-more unit_bytes read_unit 46 i s))

@@ -1,5 +1,5 @@
 -- What the loop of `put_units` keeps: the bytes of the first i units are laid over the array.
-use Prim.Native.Nat.{ℕ, ◌-◌, ◌≤◌}
+use Prim.Native.Nat.{ℕ}
 use mathlib.Core.Path.{◌≡◌}
 use mathlib.Core.List.{List}
 use Rattle.lists.specs.Flat.{taken}
@@ -13,7 +13,4 @@ abbrev pub front : List ℕ → ℕ → List ℕ
 front s i = units_bytes (taken read_unit 46 i s)
 
 abbrev pub invariant-loop-i : goal.invariant-loop-i
-invariant-loop-i l = (l.i ≤ l.n) × (l.units ≡ over (front l.s l.i) l.initial.units)
-
-abbrev pub decreases-loop-i : goal.decreases-loop-i
-decreases-loop-i l = l.n - l.i
+invariant-loop-i l = l.units ≡ over (front l.s l.i) l.initial.units

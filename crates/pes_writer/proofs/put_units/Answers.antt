@@ -9,7 +9,7 @@ use Rattle.lists.specs.Room.{over}
 use Rattle.lists.proofs.Each.{each_at}
 use Rattle.lists.proofs.FlatOf.{length_taken, get_d-taken, taken-flat-more}
 use Rattle.lists.proofs.Lay.{rest-whole, laid_more}
-use Rattle.refusal.specs.declared.Verdict.TheVariants.{Accepted}
+use Rattle.refusal.specs.Verdict.{Accepted}
 use Rattle.refusal.proofs.Checks.{accepted-each}
 use Rattle.pes.specs.Value.{DataUnit, blank}
 use Rattle.pes.specs.Layout.{layout_unit}
@@ -36,9 +36,7 @@ loop-i-preserved c =
     let i = c.loop-i.i in
     let xs = c.loop-i.out in
     let long : length (front s i) ≡ 46 * i = length-told i s (omega arith) in
-    let rest = take (length xs - 46 * i) (drop (46 * i) xs) in (
-      omega arith,
-      laid_more (front s i) (layout_unit (unit_in (drop (45 * i) s))) lent xs c.put_unit.new.out (46 * i) c.loop-i.invariant.1 long
-          (c.put_unit.ensures ∙ ap (λ (u : List ℕ). over (layout_unit (unit_in u)) rest) (rest-whole s (45 * i)))
-          ∙ ap (λ (laid : List ℕ). over laid lent) (sym (taken-flat-more layout_unit unit_in 45 i s)),
-    )
+    let rest = take (length xs - 46 * i) (drop (46 * i) xs) in
+    laid_more (front s i) (layout_unit (unit_in (drop (45 * i) s))) lent xs c.put_unit.new.out (46 * i) c.loop-i.invariant long
+    (c.put_unit.ensures ∙ ap (λ (u : List ℕ). over (layout_unit (unit_in u)) rest) (rest-whole s (45 * i)))
+    ∙ ap (λ (laid : List ℕ). over laid lent) (sym (taken-flat-more layout_unit unit_in 45 i s))

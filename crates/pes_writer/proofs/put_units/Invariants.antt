@@ -1,5 +1,5 @@
 -- What the loop of `put_units` keeps: the bytes of the first i units are laid over the output.
-use Prim.Native.Nat.{ℕ, ◌-◌, ◌≤◌}
+use Prim.Native.Nat.{ℕ}
 use mathlib.Core.Path.{◌≡◌}
 use mathlib.Core.List.{List}
 use Rattle.lists.specs.Flat.{taken}
@@ -13,7 +13,4 @@ abbrev pub front : List ℕ → ℕ → List ℕ
 front s i = layout_units (taken unit_in 45 i s)
 
 abbrev pub invariant-loop-i : goal.invariant-loop-i
-invariant-loop-i l = (l.i ≤ l.n) × (l.out ≡ over (front l.units l.i) l.initial.out)
-
-abbrev pub decreases-loop-i : goal.decreases-loop-i
-decreases-loop-i l = l.n - l.i
+invariant-loop-i l = l.out ≡ over (front l.units l.i) l.initial.out

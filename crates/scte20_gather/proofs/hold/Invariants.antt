@@ -4,7 +4,4 @@ use Rattle.scte20_gather.specs.Inside.{Held}
 use Rattle.scte20_gather.proofs.hold.Given as goal
 
 abbrev pub invariant-loop-i : goal.invariant-loop-i
-invariant-loop-i l = (l.i ≤ l.n) × (l.urgent ≤ 4) × (Held l.before l.urgent (l.n - l.i) l.i l.found → Held 31 0 l.n 0 l.found)
-
-abbrev pub decreases-loop-i : goal.decreases-loop-i
-decreases-loop-i l = l.n - l.i
+invariant-loop-i l = (l.urgent ≤ 4) × (Held l.before l.urgent (l.n - l.i) l.i l.found → Held 31 0 l.n 0 l.found)

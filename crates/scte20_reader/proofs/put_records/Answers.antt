@@ -31,16 +31,12 @@ laid_next n found lent records exit i r few below room before told stored =
 pub loop-i-preserved : goal.loop-i-preserved
 loop-i-preserved c =
     let at = c.loop-i in
-    let few : c.args.n ≤ 31 = c.requires.n_bound in
-    let below : at.i < c.args.n = c.loop-i-test.true in (
-      omega arith,
-      laid_next c.args.n c.args.found.now c.args.records.now at.records _ at.i c.record_of-record.result few below c.requires.records_len
-          at.invariant.1 c.record_of-record.ensures c.put_record.ensures,
-    )
+    laid_next c.args.n c.args.found.now c.args.records.now at.records _ at.i c.record_of.result c.requires.n_bound c.loop-i-test.true (omega arith)
+    at.invariant c.record_of.ensures c.put_record.ensures
 
 pub returns : goal.returns
 returns c =
     let rs = records_of c.args.n 0 c.args.found.now in
     let at = c.loop-i in
-    let all : take at.i rs ≡ rs = take_all at.i rs (omega (arith, length-records_of c.args.n 0 c.args.found.now, c.loop-i-test.false)) in
-    at.invariant.1 ∙ ap (λ (front : List Record). over (records_bytes front) c.args.records.now) all
+    let all : take at.i rs ≡ rs = take_all at.i rs (omega (arith, length-records_of c.args.n 0 c.args.found.now)) in
+    at.invariant ∙ ap (λ (front : List Record). over (records_bytes front) c.args.records.now) all

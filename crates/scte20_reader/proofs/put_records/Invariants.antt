@@ -1,5 +1,4 @@
 -- `scte20_reader::put_records` meets its contract. The loop's invariant: the bytes of i records are laid over the front of the array.
-use Prim.Native.Nat.{◌-◌, ◌≤◌}
 use mathlib.Core.Path.{◌≡◌}
 use lib.ListN.{take}
 use Rattle.lists.specs.Room.{over}
@@ -8,7 +7,4 @@ use Rattle.scte20_gather.specs.Inside.{records_of}
 use Rattle.scte20_reader.proofs.put_records.Given as goal
 
 abbrev pub invariant-loop-i : goal.invariant-loop-i
-invariant-loop-i l = (l.i ≤ l.n) × (l.records ≡ over (records_bytes (take l.i (records_of l.n 0 l.found))) l.initial.records)
-
-abbrev pub decreases-loop-i : goal.decreases-loop-i
-decreases-loop-i l = l.n - l.i
+invariant-loop-i l = l.records ≡ over (records_bytes (take l.i (records_of l.n 0 l.found))) l.initial.records

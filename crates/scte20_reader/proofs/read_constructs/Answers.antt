@@ -4,12 +4,13 @@ use Prim.Native.Nat.{ℕ, ◌+◌, ◌-◌, ◌*◌, ◌%◌, ◌≤◌, ◌<◌
 use native.Mathlib.Omega.{arith}
 use mathlib.Core.Path.{◌≡◌, ◌∙◌, ap, sym, subst, refl}
 use mathlib.Core.List.{List, [], ◌∷◌}
+use borrow.Author.Rules.{rules}
 use lib.ListN.{length}
 use Rattle.lists.specs.Room.{over_at}
 use Rattle.refusal.specs.declared.Reason.{Reason}
 use Rattle.refusal.specs.declared.Item.{Item}
-use Rattle.refusal.specs.declared.Verdict.{Verdict}
-use Rattle.refusal.specs.declared.Verdict.TheVariants.{Accepted, Refused}
+use Rattle.refusal.specs.Verdict.{Verdict}
+use Rattle.refusal.specs.Verdict.{Accepted, Refused}
 use Rattle.refusal.specs.Checks.{and_then}
 use Rattle.refusal.proofs.Checks.{refused-not-accepted, refused-first, accepted-first}
 use Rattle.bits.specs.Bits.{bits_of, field}
@@ -75,8 +76,8 @@ module _ (body : List ℕ) (at : ℕ) (long : at + 26 ≤ 8 * length body) (cons
   whole : missing at 26 (bits_of body) ≡ Accepted
   whole = missing-none body at 26 long
 
-pub returns-in-Refused : goal.returns-in-Refused
-returns-in-Refused c =
+pub returns-in_err-judge_record : goal.returns-in_err-judge_record
+returns-in_err-judge_record c =
     let body = c.args.body.now in
     let xs = bits_of body in
     let n = c.args.n in
@@ -87,11 +88,11 @@ returns-in-Refused c =
     let construct = c.peek-construct.result in
     let told = c.peek-construct.ensures in
     let record_is = taken body at long construct told c.record_of-record.result c.record_of-record.ensures in
-    let judged : c.judge_record-verdict.result ≡ last_verdict at c.loop-i.last (construct_at at xs) = c.judge_record-verdict.ensures ∙ ap (last_verdict at c.loop-i.last) record_is in
+    let judged : c.judge_record.result ≡ last_verdict at c.loop-i.last (construct_at at xs) = c.judge_record.ensures ∙ ap (last_verdict at c.loop-i.last) record_is in
     let there = whole body at long construct told in
-    let told = c.in-Refused.is in
-    refused-run body n lent _ _ _ _ told
-    (refused-first _ judged told ∙ sym (here (goal.at.returns-in-Refused c).In-loop-i ∙ accepted-first _ (sym there) refl))
+    let same : c.from_residual.result ≡ c.judge_record.result = search rules in
+    refused-run body n lent _ _ _ _ (same ∙ c.in_err-judge_record.was)
+    (refused-first _ (same ∙ judged) (same ∙ c.in_err-judge_record.was) ∙ sym (here (goal.at.returns-in_err-judge_record c).In-loop-i ∙ accepted-first _ (sym there) refl))
 
 pub returns-then-construct-ne1 : goal.returns-then-construct-ne1
 returns-then-construct-ne1 c =
@@ -105,12 +106,12 @@ returns-then-construct-ne1 c =
     let construct = c.peek-construct.result in
     let told = c.peek-construct.ensures in
     let record_is = taken body at long construct told c.record_of-record.result c.record_of-record.ensures in
-    let judged : c.judge_record-verdict.result ≡ last_verdict at c.loop-i.last (construct_at at xs) = c.judge_record-verdict.ensures ∙ ap (last_verdict at c.loop-i.last) record_is in
+    let judged : c.judge_record.result ≡ last_verdict at c.loop-i.last (construct_at at xs) = c.judge_record.ensures ∙ ap (last_verdict at c.loop-i.last) record_is in
     let there = whole body at long construct told in
     let other = marker-other xs at (bits_of-are body) (fits body at long construct told) (λ e. c.if-construct-ne1.true (ap (λ (k : ℕ). k % 2) (seen body at long construct told) ∙ e)) in
     refused-run body n lent _ _ _ _ refl
     (refused-first _ (sym other) refl
-    ∙ sym (here (goal.at.returns-then-construct-ne1 c).In-loop-i ∙ accepted-first _ (sym there) refl ∙ accepted-first _ judged c.in_default.is))
+    ∙ sym (here (goal.at.returns-then-construct-ne1 c).In-loop-i ∙ accepted-first _ (sym there) refl ∙ accepted-first _ judged c.in_ok-judge_record.was))
 
 pub loop-i-preserved : goal.loop-i-preserved
 loop-i-preserved c =
@@ -124,14 +125,14 @@ loop-i-preserved c =
     let construct = c.peek-construct.result in
     let told = c.peek-construct.ensures in
     let record_is = taken body at long construct told c.record_of-record.result c.record_of-record.ensures in
-    let judged : c.judge_record-verdict.result ≡ last_verdict at c.loop-i.last (construct_at at xs) = c.judge_record-verdict.ensures ∙ ap (last_verdict at c.loop-i.last) record_is in
+    let judged : c.judge_record.result ≡ last_verdict at c.loop-i.last (construct_at at xs) = c.judge_record.ensures ∙ ap (last_verdict at c.loop-i.last) record_is in
     let there = whole body at long construct told in
     let r = construct_at at xs in
     let kept = c.loop-i.records in
-    let legal = sym judged ∙ c.in_default.is in
+    let legal = sym judged ∙ c.in_ok-judge_record.was in
     let marked = marker-one xs at (bits_of-are body) (fits body at long construct told) (ap (λ (k : ℕ). k % 2) (sym (seen body at long construct told)) ∙ c.if-construct-ne1.false) in
     let after : c.after-last.result ≡ last_after c.loop-i.last r = c.after-last.ensures ∙ ap (last_after c.loop-i.last) record_is in
-    let room = going-room xs n lent kept c.loop-i.last i c.loop-i.invariant c.loop-i-test.true c.requires.n_bound c.requires.records_len in
+    let room = going-room xs n lent kept c.loop-i.last i c.loop-i.invariant c.loop-i-test.true c.requires.n_bound (omega arith) in
     let laid : c.put_record.new.records ≡ over_at (5 * i) (record_bytes r) kept =
     c.put_record.ensures ∙ ap (λ (s : Record). stored_at i s kept) record_is ∙ stored-laid i r kept (omega arith) room
     in
@@ -145,8 +146,8 @@ returns c =
     let xs = bits_of c.args.body.now in
     let lent = c.args.records.now in
     record {
-      verdict = sym (going-accepted xs c.args.n lent at.records at.last at.i at.invariant c.loop-i-test.false);
-      left = λ e. going-laid xs c.args.n lent at.records at.last at.i at.invariant c.loop-i-test.false;
+      verdict = sym (going-accepted xs c.args.n lent at.records at.last at.i at.invariant (omega arith));
+      left = λ e. going-laid xs c.args.n lent at.records at.last at.i at.invariant (omega arith);
     }
 
 pub record_of-record-requires-clause-construct_bound : goal.record_of-record-requires-clause-construct_bound

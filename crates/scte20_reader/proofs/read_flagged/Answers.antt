@@ -1,17 +1,20 @@
 -- `scte20_reader::read_flagged` meets its contract: the count, the constructs, then what follows them decide, each as `flag_verdict` says.
+use Rattle.std.specs.Prelude.{Ok, Err}
+use Rattle.std.proofs.lemmas.Result.{err_from_is_err_and}
 use Prim.Native.Nat.{ℕ, ◌+◌, ◌-◌, ◌*◌, ◌/◌, ◌≤◌, ◌<◌}
 use native.Mathlib.Omega.{arith}
-use mathlib.Core.Path.{◌≡◌, ◌∙◌, ap₂, sym, subst, refl}
+use mathlib.Core.Path.{◌≡◌, ◌∙◌, ap, ap₂, sym, subst, refl}
 use mathlib.Core.List.{List, []}
 use lib.ListN.{length, get_or}
 use Rattle.lists.specs.Bytes.{Bytes}
 use Rattle.lists.proofs.Each.{each-of, each_at}
-use Rattle.refusal.specs.declared.Verdict.{Verdict}
-use Rattle.refusal.specs.declared.Verdict.TheVariants.{Accepted}
+use Rattle.refusal.specs.Verdict.{Verdict}
+use Rattle.refusal.specs.Verdict.{Accepted}
 use Rattle.refusal.specs.Checks.{and_then}
 use Rattle.refusal.proofs.Checks.{accepted-and_then, refused-first, accepted-first}
 use Rattle.bits.specs.Bits.{bits_of}
-use Rattle.scte20.specs.declared.Head.{Head}
+use Rattle.refusal.specs.Answers.{Judged}
+use Rattle.scte20.specs.declared.Numbers.{Numbers}
 use Rattle.scte20.specs.Reading.{head_verdict, flag_in, count_in, constructs_verdict, records_at, sampled_verdict, rest_verdict, content_verdict}
 use Rattle.scte20.specs.Lent.{ReadsInto}
 use Rattle.scte20.proofs.Bytewise.{missing-some, missing-none, count-in}
@@ -19,7 +22,7 @@ use Rattle.scte20.proofs.Constructs.{length-records}
 use Rattle.scte20.proofs.Contents.{accepted-head}
 use Rattle.scte20.proofs.Answers.{refused-into, accepted-into, sampled-long, head-long, flagged-verdict, flagged-value}
 use Rattle.scte20.proofs.Lending.{lent-over}
-use Rattle.scte20_reader.proofs.read_flagged.Goals.{After-judge_tail-tail}
+use Rattle.scte20_reader.proofs.read_flagged.Goals.{After-judge_tail}
 use Rattle.scte20_reader.proofs.read_flagged.Goals as goal
 
 pub returns-then-body-lt3 : goal.returns-then-body-lt3
@@ -30,7 +33,7 @@ returns-then-body-lt3 c =
     let two = head-long body c.requires.body_value in
     let short : 8 * length body < 16 + 5 = omega arith in
     let same = refused-first _ (sym (missing-some body 16 5 short)) refl ∙ sym (flagged-verdict body c.requires.body_value (count_in (bits_of body)) refl c.requires.body_value_2) in
-    subst (λ (r : Head). ReadsInto body lent r lent) (sym c.refused.ensures) (refused-into body lent bytes _ same _ _ refl)
+    refused-into body lent bytes _ (sym same)
 
 -- the count is there
 module _ (body : List ℕ) (bytes : Bytes body) (head : head_verdict body ≡ Accepted) (flag : flag_in (bits_of body) ≡ 1) (long : 2 < length body) where
@@ -61,46 +64,48 @@ followed body n tail told =
     let end : 21 + 26 * n + 4 ≡ 25 + 26 * n = omega arith in
     told ∙ ap₂ (λ (a e : ℕ). and_then (sampled_verdict a xs) (rest_verdict e xs)) at end
 
-pub read_constructs-constructs-requires-clause-body_len_bound : goal.read_constructs-constructs-requires-clause-body_len_bound
-read_constructs-constructs-requires-clause-body_len_bound c = (accepted-head c.args.body.now c.requires.body_value).short
+pub read_constructs-requires-clause-body_len_bound : goal.read_constructs-requires-clause-body_len_bound
+read_constructs-requires-clause-body_len_bound c = (accepted-head c.args.body.now c.requires.body_value).short
 
-pub judge_tail-tail-requires-clause-body_len_bound : goal.judge_tail-tail-requires-clause-body_len_bound
-judge_tail-tail-requires-clause-body_len_bound c = (accepted-head c.args.body.now c.requires.body_value).short
+pub judge_tail-requires-clause-body_len_bound : goal.judge_tail-requires-clause-body_len_bound
+judge_tail-requires-clause-body_len_bound c = (accepted-head c.args.body.now c.requires.body_value).short
 
-pub returns-in-Refused : goal.returns-in-Refused
-returns-in-Refused c =
+pub returns-in_err-read_constructs : goal.returns-in_err-read_constructs
+returns-in_err-read_constructs c =
     let body = c.args.body.now in
     let lent = c.args.records.now in
     let bytes : Bytes body = each-of (λ (b : ℕ). b < 256) 0 body (λ i h. omega (arith, c.type_inv.body i)) in
-    let told = c.in-Refused.is in
-    let same = refused-first _ c.read_constructs-constructs.ensures.verdict told ∙ sym (left body bytes c.requires.body_value c.requires.body_value_2 (omega arith)) in
-    subst (λ (r : Head). ReadsInto body lent r lent) (sym c.refused-in-Refused.ensures) (refused-into body lent bytes _ same _ _ told)
+    let told = c.in_err-read_constructs.was in
+    let p = err_from_is_err_and c.from_residual.result c.from_residual.ensures.1 in
+    let same = refused-first _ c.read_constructs.ensures.verdict told ∙ sym (left body bytes c.requires.body_value c.requires.body_value_2 (omega arith)) in
+    subst (λ (r : Judged Numbers). ReadsInto body lent r lent) (sym (p.1 ∙ ap Err p.2)) (refused-into body lent bytes _ (sym same ∙ told))
 
 -- the constructs are accepted, and what follows them decides
-judged : (c : After-judge_tail-tail) → let body = c.args.body.now in Bytes body → c.judge_tail-tail.result ≡ content_verdict body
+judged : (c : After-judge_tail) → let body = c.args.body.now in Bytes body → c.judge_tail.result ≡ content_verdict body
 judged c bytes =
     let body = c.args.body.now in
-    let right = sym c.read_constructs-constructs.ensures.verdict ∙ c.in_default.is in
-    followed body (get_or body 2 0 / 8) c.judge_tail-tail.result c.judge_tail-tail.ensures
+    let right = sym c.read_constructs.ensures.verdict ∙ c.in_ok-read_constructs.was in
+    followed body (get_or body 2 0 / 8) c.judge_tail.result c.judge_tail.ensures
     ∙ sym (left body bytes c.requires.body_value c.requires.body_value_2 (omega arith) ∙ accepted-first _ (sym right) refl)
 
-pub returns-in-Refused-tail : goal.returns-in-Refused-tail
-returns-in-Refused-tail c =
+pub returns-in_err-judge_tail : goal.returns-in_err-judge_tail
+returns-in_err-judge_tail c =
     let body = c.args.body.now in
     let lent = c.args.records.now in
     let bytes : Bytes body = each-of (λ (b : ℕ). b < 256) 0 body (λ i h. omega (arith, c.type_inv.body i)) in
-    subst (λ (r : Head). ReadsInto body lent r lent) (sym c.refused-in-Refused-tail.ensures)
-    (refused-into body lent bytes _ (judged (goal.at.returns-in-Refused-tail c).After-judge_tail-tail bytes) _ _ c.in-Refused-tail.is)
+    let p = err_from_is_err_and c.from_residual-in_err-judge_tail.result c.from_residual-in_err-judge_tail.ensures.1 in
+    subst (λ (r : Judged Numbers). ReadsInto body lent r lent) (sym (p.1 ∙ ap Err p.2))
+    (refused-into body lent bytes _ (sym (judged (goal.at.returns-in_err-judge_tail c).After-judge_tail bytes) ∙ c.in_err-judge_tail.was))
 
 pub overflow_sub-result : goal.overflow_sub-result
 overflow_sub-result c =
     let body = c.args.body.now in
     let n = get_or body 2 0 / 8 in
-    let both = accepted-and_then (sampled_verdict (21 + 26 * n) (bits_of body)) _ (sym (followed body n c.judge_tail-tail.result c.judge_tail-tail.ensures) ∙ c.in_default-tail.is) in
+    let both = accepted-and_then (sampled_verdict (21 + 26 * n) (bits_of body)) _ (sym (followed body n c.judge_tail.result c.judge_tail.ensures) ∙ c.in_ok-judge_tail.was) in
     omega (arith, sampled-long (21 + 26 * n) body both.0)
 
-abbrev made : Verdict → ℕ → ℕ → ℕ → Head
-made verdict reserved n z = record { verdict = verdict; numbers = record { reserved = reserved; vbi_data_flag = 1; n = n; z = z } }
+abbrev made : ℕ → ℕ → ℕ → Judged Numbers
+made reserved n z = Ok (record { reserved = reserved; vbi_data_flag = 1; n = n; z = z })
 
 pub returns : goal.returns
 returns c =
@@ -116,7 +121,7 @@ returns c =
     let end : 21 + 26 * n + 4 ≡ 25 + 26 * n = omega arith in
     let two : 2 ≤ length body = omega (arith, long) in
     let value = flagged-value body bytes two n (counted body bytes head flag long) flag in
-    let found = c.read_constructs-constructs.ensures.left c.in_default.is ∙ lent-over rs (omega (arith, sized, few body bytes head flag long)) in
-    subst (λ (r : Head). ReadsInto body lent r c.read_constructs-constructs.new.records)
-    (ap₂ (λ (k e : ℕ). made c.judge_tail-tail.result (get_or body 1 0 / 2) k (length body - (e + 7) / 8)) sized (sym end))
-    (accepted-into body lent bytes _ (judged (goal.at.returns c).After-judge_tail-tail bytes) _ _ c.in_default-tail.is value found)
+    let found = c.read_constructs.ensures.left c.in_ok-read_constructs.was ∙ lent-over rs (omega (arith, sized, few body bytes head flag long)) in
+    subst (λ (r : Judged Numbers). ReadsInto body lent r c.read_constructs.new.records)
+    (ap₂ (λ (k e : ℕ). made (get_or body 1 0 / 2) k (length body - (e + 7) / 8)) sized (sym end))
+    (accepted-into body lent bytes _ _ (sym (judged (goal.at.returns c).After-judge_tail bytes) ∙ c.in_ok-judge_tail.was) value found)

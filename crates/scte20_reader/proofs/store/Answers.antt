@@ -1,16 +1,17 @@
 -- `scte20_reader::store` meets its contract: what was gathered is the value of the body.
+use Rattle.std.specs.Prelude.{Ok}
 use Prim.Native.Nat.{ℕ, ◌+◌, ◌-◌, ◌*◌, ◌/◌, ◌≤◌, ◌<◌}
 use native.Mathlib.Omega.{arith}
-use mathlib.Core.Path.{◌≡◌, ◌∙◌, ap, ap₂, sym, subst, refl}
+use mathlib.Core.Path.{◌≡◌, ◌∙◌, ap, ap₂, sym, subst}
 use mathlib.Core.List.{List}
 use lib.ListN.{length, get_or, replicate}
 use Rattle.lists.specs.Bytes.{Bytes}
 use Rattle.lists.specs.Room.{over}
 use Rattle.lists.proofs.Each.{each-of, each_at}
-use Rattle.refusal.specs.declared.Verdict.TheVariants.{Accepted}
 use Rattle.bits.specs.Bits.{bits_of}
 use Rattle.scte20.specs.declared.Record.{Record}
-use Rattle.scte20.specs.declared.Head.{Head}
+use Rattle.refusal.specs.Answers.{Judged}
+use Rattle.scte20.specs.declared.Numbers.{Numbers}
 use Rattle.scte20.specs.Reading.{count_in, records_at}
 use Rattle.scte20.specs.Lent.{records_bytes, ReadsInto}
 use Rattle.scte20.proofs.Bytewise.{count-in}
@@ -40,8 +41,8 @@ module _ (body found : List ℕ) (bytes : Bytes body) (h : Gathers body found) w
   numbered : Numbered body n_of found
   numbered = subst (λ (n : ℕ). Numbered body n found) (sym counted) h.numbered
 
-abbrev made : ℕ → ℕ → ℕ → Head
-made reserved n z = record { verdict = Accepted; numbers = record { reserved = reserved; vbi_data_flag = 1; n = n; z = z } }
+abbrev made : ℕ → ℕ → ℕ → Judged Numbers
+made reserved n z = Ok (record { reserved = reserved; vbi_data_flag = 1; n = n; z = z })
 
 pub returns : goal.returns
 returns c =
@@ -59,9 +60,9 @@ returns c =
     let stored = c.put_records.ensures
     ∙ ap (λ (front : List Record). over (records_bytes front) (replicate 155 0)) (numbered-records body found n (numbered body found bytes c.requires) fits)
     ∙ lent-over rs (omega (arith, sized, few body found bytes c.requires)) in
-    subst (λ (r : Head). ReadsInto body c.args.records.now r c.put_records.new.records)
+    subst (λ (r : Judged Numbers). ReadsInto body c.args.records.now r c.put_records.new.records)
     (ap₂ (λ (k e : ℕ). made (get_or body 1 0 / 2) k (length body - (e + 7) / 8)) sized (sym end))
-    (accepted-into body c.args.records.now bytes Accepted (sym c.requires.accepted) _ _ refl value stored)
+    (accepted-into body c.args.records.now bytes _ _ c.requires.accepted value stored)
 
 pub put_records-requires-clause-small : goal.put_records-requires-clause-small
 put_records-requires-clause-small c =

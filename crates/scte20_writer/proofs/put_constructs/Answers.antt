@@ -10,7 +10,7 @@ use Rattle.lists.proofs.Each.{each_at}
 use Rattle.bits.specs.Bits.{bits, num, bytes_of}
 use Rattle.bits.proofs.Numbers.{AreBits, bits_are, are-append}
 use Rattle.scte20.specs.declared.Record.{Record}
-use Rattle.refusal.specs.declared.Verdict.TheVariants.{Accepted}
+use Rattle.refusal.specs.Verdict.{Accepted}
 use Rattle.scte20.specs.declared.Numbers.{Numbers}
 use Rattle.scte20.specs.declared.CaptionUnit.{CaptionUnit}
 use Rattle.scte20.specs.Value.{blank, held}
@@ -23,7 +23,6 @@ use Rattle.scte20.proofs.Types.{byte-record}
 use Rattle.scte20.proofs.Lending.{lent_length}
 use Rattle.scte20.proofs.Holding.{value-whole, length-held}
 use Rattle.scte20.proofs.Writable.{InRange, in-range, value-ranged}
-use Rattle.scte20_writer.proofs.Packing.{construct-lt}
 use Rattle.scte20_writer.proofs.Penned.{Penned, penned-start, penned-on, penned-end, constructs-more}
 use Rattle.scte20.specs.Writing.{value_verdict}
 use Rattle.scte20_writer.proofs.put_constructs.Invariants.{written}
@@ -67,27 +66,17 @@ module _ (v : Numbers) (s : List ℕ) (accepted : value_verdict (unit_in v s) �
 
 pub loop-i-init : goal.loop-i-init
 loop-i-init c =
-    (omega arith, penned-start c.args.out.now c.args.v.n (omega (arith, few c.args.v c.args.records.now c.requires.records_value)))
-
-pub construct_of-construct-requires : goal.construct_of-construct-requires
-construct_of-construct-requires c =
-    let told = c.record_in-next in
-    record {
-      ranged = in-range told.result (byte-record told.result _ told.type_inv)
-          (subst InRange (sym told.ensures) (ranged c.args.v c.args.records.now c.requires.records_value c.loop-i.i c.loop-i-test.true));
-      reverses = c.reversed_bytes-table.ensures;
-    }
-
-pub push-requires : goal.push-requires
-push-requires c =
-    let penned = c.loop-i.invariant.1 in
     let small = few c.args.v c.args.records.now c.requires.records_value in
-    record {
-      last_bound = penned.small;
-      construct_bound = subst (λ (n : ℕ). n < 67108864) (sym c.construct_of-construct.ensures) (construct-lt c.record_in-next.result);
-      i_bound = omega (arith, small);
-      i_in_bounds = omega (arith, penned.long, c.requires.n_in_bounds);
-    }
+    record { few = small; penned = penned-start c.args.out.now c.args.v.n (omega arith) }
+
+pub overflow_cast-last : goal.overflow_cast-last
+overflow_cast-last c = omega (arith, few c.args.v c.args.records.now c.requires.records_value)
+
+pub construct_of-construct-requires-clause-ranged : goal.construct_of-construct-requires-clause-ranged
+construct_of-construct-requires-clause-ranged c =
+    let told = c.record_in in
+    in-range told.result (byte-record told.result _ told.type_inv)
+    (subst InRange (sym told.ensures) (ranged c.args.v c.args.records.now c.requires.records_value c.loop-i.i c.loop-i-test.true))
 
 pub loop-i-preserved : goal.loop-i-preserved
 loop-i-preserved c =
@@ -99,22 +88,24 @@ loop-i-preserved c =
     let out = c.args.out.now in
     let below : i < u.n = c.loop-i-test.true in
     let inside : i < length u.records = omega (arith, places v s h, few v s h) in
-    let r = c.record_in-next.result in
+    let r = c.record_in.result in
     let then = c.push.new.out in
     let long = sized v s h i (omega arith) in
     let laid = c.push.ensures
     ∙ ap₂ (λ (n k : ℕ). over_at (2 + n / 8) (bytes_of 4 (pushed n c.loop-i.last k)) c.loop-i.out) (sym long) c.construct_of-construct.ensures
     in
     let room : 2 + length (written u i) / 8 + 4 ≤ length out = omega (arith, long, c.requires.n_in_bounds) in
-    let on = penned-on out (written u i) c.loop-i.last c.loop-i.out c.loop-i.invariant.1 (construct_bits r) (construct-are r) (length-construct r) then laid room in
+    let on = penned-on out (written u i) c.loop-i.last c.loop-i.out c.loop-i.invariant.penned (construct_bits r) (construct-are r) (length-construct r) then laid room in
     let more : written u i ++ construct_bits r ≡ written u (i + 1) =
-    ap (λ (t : Record). written u i ++ construct_bits t) c.record_in-next.ensures
+    ap (λ (t : Record). written u i ++ construct_bits t) c.record_in.ensures
     ∙ ap (λ (xs : List ℕ). bits 5 u.n ++ xs) (sym (constructs-more u.records i blank inside))
-    in (
-      omega arith,
-      subst (λ (last : ℕ). Penned out (written u (i + 1)) last then) (sym c.construct_of-construct.ensures)
-          (subst (λ (xs : List ℕ). Penned out xs (num (construct_bits r)) then) more on),
-    )
+    in
+    record {
+      few = few v s h;
+      penned =
+          subst (λ (last : ℕ). Penned out (written u (i + 1)) last then) (sym c.construct_of-construct.ensures)
+          (subst (λ (xs : List ℕ). Penned out xs (num (construct_bits r)) then) more on);
+    }
 
 -- behind the loop all are brought in
 pub returns : goal.returns
@@ -128,8 +119,8 @@ returns c =
     let out = c.args.out.now in
     let exit = c.loop-i.out in
     let last = c.loop-i.last in
-    let penned = c.loop-i.invariant.1 in
-    let all : i ≡ n = omega (arith, c.loop-i.invariant.0, c.loop-i-test.false) in
+    let penned = c.loop-i.invariant.penned in
+    let all : i ≡ n = omega arith in
     let all-sized : length (written u i) ≡ 5 + 26 * n = sized v s h i (omega arith) ∙ ap (λ (k : ℕ). 5 + 26 * k) all in
     record {
       ends = omega (arith, length-held u (places v s h) (few v s h));
@@ -139,27 +130,3 @@ returns c =
           ∙ penned-end out (written u i) last exit penned (omega (arith, all-sized, c.requires.n_in_bounds)) _ refl
           ∙ ap (λ (bytes : List ℕ). take 2 out ++ bytes) (counted-written u i (places v s h) (few v s h) all);
     }
-
-pub bounds-out-at : goal.bounds-out-at
-bounds-out-at c = omega (arith, c.loop-i.invariant.1.long, c.requires.n_in_bounds)
-
-pub overflow_cast-last : goal.overflow_cast-last
-overflow_cast-last c = omega (arith, few c.args.v c.args.records.now c.requires.records_value)
-
-pub overflow_add-i : goal.overflow_add-i
-overflow_add-i c = omega (arith, few c.args.v c.args.records.now c.requires.records_value)
-
-pub overflow_mul-bit : goal.overflow_mul-bit
-overflow_mul-bit c = omega (arith, few c.args.v c.args.records.now c.requires.records_value)
-
-pub overflow_add-bit : goal.overflow_add-bit
-overflow_add-bit c = omega (arith, few c.args.v c.args.records.now c.requires.records_value)
-
-pub overflow_add-at : goal.overflow_add-at
-overflow_add-at c = omega (arith, few c.args.v c.args.records.now c.requires.records_value)
-
-pub overflow_add-result : goal.overflow_add-result
-overflow_add-result c = omega (arith, few c.args.v c.args.records.now c.requires.records_value)
-
-pub shape_of-out : goal.shape_of-out
-shape_of-out c = length-set c.loop-i.out _ _ ∙ c.loop-i.invariant.1.long

@@ -1,5 +1,5 @@
 -- `scte20_writer::put_constructs` meets its contract. The loop's invariant: cc_count and the first i constructs are brought in.
-use Prim.Native.Nat.{ℕ, ◌-◌, ◌≤◌}
+use Prim.Native.Nat.{ℕ, ◌≤◌}
 use mathlib.Core.List.{List, ◌++◌}
 use lib.ListN.{take}
 use Rattle.bits.specs.Bits.{bits}
@@ -14,7 +14,4 @@ abbrev pub written : CaptionUnit → ℕ → List ℕ
 written u i = bits 5 u.n ++ constructs_bits (take i u.records)
 
 abbrev pub invariant-loop-i : goal.invariant-loop-i
-invariant-loop-i l = (l.i ≤ l.v.n) × Penned l.initial.out (written (unit_in l.v l.records) l.i) l.last l.out
-
-abbrev pub decreases-loop-i : goal.decreases-loop-i
-decreases-loop-i l = l.v.n - l.i
+invariant-loop-i l = record { few : l.fn.v.n ≤ 31; penned : Penned l.initial.out (written (unit_in l.fn.v l.records) l.i) l.last l.out }

@@ -19,6 +19,6 @@ loop-i-preserved c =
     let inside : i < length (descriptors user) = omega (arith, length-descriptors user c.requires) in
     let more = count-more (descriptors user) i inside ∙ ap (λ (d : ℕ). count (take i (descriptors user)) + mark_of d) (descriptor-at user i below) in
     elim c.if-user-i-ne0.branch [
-      | then-user-i-ne0 w ↦ let one = mark-some (byte_of (get_or user (4 + i) 0)) w.if-user-i-ne0.true in (omega arith, (omega arith, omega arith))
-      | else-user-i-ne0 w ↦ let none = ap mark_of w.if-user-i-ne0.false in (omega arith, (omega arith, omega arith))
+      | then-user-i-ne0 w ↦ let one = mark-some (byte_of (get_or user (4 + i) 0)) w.if-user-i-ne0.true in (omega arith, omega arith)
+      | else-user-i-ne0 w ↦ let none = ap mark_of w.if-user-i-ne0.false in (omega arith, omega arith)
     ]

@@ -1,9 +1,6 @@
--- `conformance_multi::reading::put_users`: the measure is how many heads are left.
-use Rattle.std.proofs.Common.{length, ◌-◌, ◌≤◌, ◌≡◌}
+-- What was stored lies within the output.
+use Rattle.std.proofs.Common.{◌≤◌, length}
 use Rattle.conformance_multi.proofs.reading.put_users.Given as goal
 
-abbrev pub invariant-loop-i : goal.invariant-loop-i
-invariant-loop-i l = (l.i ≤ 50) × (l.end ≤ length l.out) × (length l.out ≡ length l.initial.out)
-
-abbrev pub decreases-loop-i : goal.decreases-loop-i
-decreases-loop-i l = 50 - l.i
+abbrev pub invariant-loop-head : goal.invariant-loop-head
+invariant-loop-head l = l.end ≤ length l.out

@@ -1,8 +1,8 @@
--- Seven stores one behind the other lay the unit's seven bytes.
-use native.Mathlib.Numerals.{unary_clauses}
-use Rattle.lists.proofs.Lay.{sets-over_at}
+-- The part of seven bytes comes back with the unit's bytes in it.
+use Rattle.std.proofs.Common.{◌∙◌, refl}
+use Rattle.lists.proofs.Lay.{laid-part}
 use Rattle.line21.specs.Lent.{access_unit_bytes}
 use Rattle.line21.proofs.lent.put_flat.Goals as goal
 
 pub returns : goal.returns
-returns c = simp unary_clauses (sets-over_at c.args.at (access_unit_bytes c.args.u) c.args.units.now c.requires)
+returns c = laid-part c.args.at 7 c.args.units.now c.copy_from_slice.new.self (access_unit_bytes c.args.u) refl (c.copy_from_slice.ensures.after ∙ c.lent_bytes.ensures)

@@ -1,5 +1,5 @@
 -- The array holds the first i units, and blanks beyond them.
-use Rattle.std.proofs.Common.{◌≡◌, ◌∙◌, ap, ap₂, sym, ℕ, ◌<◌, List, length, get_or, drop, set, replicate, arith}
+use Rattle.std.proofs.Common.{◌≡◌, ◌∙◌, ap, ap₂, sym, ℕ, ◌<◌, List, length, get_or, drop, set, replicate, arith, rules}
 use Rattle.lists.specs.Room.{filled}
 use Rattle.line21.specs.declared.AccessUnit.{AccessUnit}
 use Rattle.line21.specs.declared.Payload.{Payload}
@@ -21,7 +21,9 @@ pub overflow_sub-m : goal.overflow_sub-m
 overflow_sub-m c = omega (arith, (whole (goal.at.overflow_sub-m c).Start).exact)
 
 pub loop-i-init : goal.loop-i-init
-loop-i-init c = (omega arith, ap (λ (unit : AccessUnit). replicate 291 unit) c.blank-units.ensures)
+loop-i-init c =
+    let zeros : c.default-units.result ≡ blank = search rules in
+    ap (λ (unit : AccessUnit). replicate 291 unit) zeros
 
 pub bounds-units-i : goal.bounds-units-i
 bounds-units-i c = below-room (goal.at.bounds-units-i c).In-loop-i
@@ -29,12 +31,10 @@ bounds-units-i c = below-room (goal.at.bounds-units-i c).In-loop-i
 pub loop-i-preserved : goal.loop-i-preserved
 loop-i-preserved c =
     let s = c.args.s.now in
-    let i = c.loop-i.i in (
-      omega arith,
-      ap (λ (us : List AccessUnit). set us i c.unit_at.result) c.loop-i.invariant.1
-          ∙ ap (λ (unit : AccessUnit). set (filled (read_units i (drop 1 s)) 291 blank) i unit) c.unit_at.ensures
-          ∙ collected-more s i (below-room (goal.at.loop-i-preserved c).In-loop-i),
-    )
+    let i = c.loop-i.i in
+    ap (λ (us : List AccessUnit). set us i c.unit_at.result) c.loop-i.invariant
+    ∙ ap (λ (unit : AccessUnit). set (filled (read_units i (drop 1 s)) 291 blank) i unit) c.unit_at.ensures
+    ∙ collected-more s i (below-room (goal.at.loop-i-preserved c).In-loop-i)
 
 pub bounds-s-0 : goal.bounds-s-0
 bounds-s-0 c = omega (arith, (whole (goal.at.bounds-s-0 c).Start).exact)
@@ -48,4 +48,4 @@ returns c =
     let s = c.args.s.now in
     let all : c.loop-i.i ≡ unit_count (length s) = omega arith in
     ap₂ (made (get_or s 0 0)) (sym (length-read_units (unit_count (length s)) (drop 1 s)))
-    (c.loop-i.invariant.1 ∙ ap (λ (k : ℕ). filled (read_units k (drop 1 s)) 291 blank) all)
+    (c.loop-i.invariant ∙ ap (λ (k : ℕ). filled (read_units k (drop 1 s)) 291 blank) all)

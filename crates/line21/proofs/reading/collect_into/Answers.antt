@@ -1,5 +1,5 @@
 -- The bytes of the first i units are laid over the array.
-use Rattle.std.proofs.Common.{◌≡◌, ◌∙◌, ap, ap₂, sym, refl, ℕ, ◌+◌, ◌*◌, ◌<◌, ◌≤◌, List, length, drop, arith}
+use Rattle.std.proofs.Common.{◌≡◌, ◌∙◌, ap, ap₂, sym, ℕ, ◌+◌, ◌*◌, ◌<◌, ◌≤◌, List, length, drop, arith}
 use Rattle.lists.specs.Room.{over, over_at}
 use Rattle.line21.specs.declared.AccessUnit.{AccessUnit}
 use Rattle.line21.specs.Reading.{read_unit, read_units, unit_count}
@@ -19,7 +19,7 @@ module _ (c : At-loop-i) where
   few = omega (arith, length-read_units c.loop-i.i (drop 1 c.args.s.now), whole.most)
 
   kept : length c.loop-i.units ≡ 2037
-  kept = ap length c.loop-i.invariant.1 ∙ length-laid (read_units c.loop-i.i (drop 1 c.args.s.now)) c.args.units.now few c.requires.units_len
+  kept = ap length c.loop-i.invariant ∙ length-laid (read_units c.loop-i.i (drop 1 c.args.s.now)) c.args.units.now few c.requires.units_len
 
 -- a turn's place is in the array
 below : (c : In-loop-i) → c.loop-i.i < 291
@@ -27,9 +27,6 @@ below c = omega (arith, (accepted-whole (length c.args.s.now) c.requires.s_value
 
 pub overflow_sub-count : goal.overflow_sub-count
 overflow_sub-count c = omega (arith, (accepted-whole (length c.args.s.now) c.requires.s_value).exact)
-
-pub loop-i-init : goal.loop-i-init
-loop-i-init c = (omega arith, refl)
 
 pub put_flat-requires : goal.put_flat-requires
 put_flat-requires c = omega (arith, below (goal.at.put_flat-requires c).In-loop-i, kept (goal.at.put_flat-requires c).At-loop-i)
@@ -40,16 +37,14 @@ loop-i-preserved c =
     let lent = c.args.units.now in
     let i = c.loop-i.i in
     let before = read_units i (drop 1 s) in
-    let some : 7 * length before ≡ 7 * i = ap (λ (k : ℕ). 7 * k) (length-read_units i (drop 1 s)) in (
-      omega arith,
-      c.put_flat.ensures
-          ∙ ap₂ (λ (x : AccessUnit) (xs : List ℕ). over_at (7 * i) (access_unit_bytes x) xs) c.unit_at.ensures c.loop-i.invariant.1
-          ∙ laid-unit before lent (read_unit (drop (1 + 5 * i) s)) (7 * i) some
-          ∙ ap (λ (us : List AccessUnit). over (access_units_bytes us) lent) (sym (read_units-more i s)),
-    )
+    let some : 7 * length before ≡ 7 * i = ap (λ (k : ℕ). 7 * k) (length-read_units i (drop 1 s)) in
+    c.put_flat.ensures
+    ∙ ap₂ (λ (x : AccessUnit) (xs : List ℕ). over_at (7 * i) (access_unit_bytes x) xs) c.unit_at.ensures c.loop-i.invariant
+    ∙ laid-unit before lent (read_unit (drop (1 + 5 * i) s)) (7 * i) some
+    ∙ ap (λ (us : List AccessUnit). over (access_units_bytes us) lent) (sym (read_units-more i s))
 
 pub returns : goal.returns
 returns c =
     let s = c.args.s.now in
     let all : c.loop-i.i ≡ unit_count (length s) = omega arith in
-    c.loop-i.invariant.1 ∙ ap (λ (k : ℕ). over (access_units_bytes (read_units k (drop 1 s))) c.args.units.now) all
+    c.loop-i.invariant ∙ ap (λ (k : ℕ). over (access_units_bytes (read_units k (drop 1 s))) c.args.units.now) all

@@ -1,8 +1,10 @@
 -- The units are laid where the head's number is 0, which is where the verdict accepts.
-use Rattle.std.proofs.Common.{◌≡◌, ◌∙◌, ap, sym, ℕ, ◌-◌, ◌*◌, ◌≤◌, ◌<◌, List, ◌++◌, length, take, drop, replicate, arith}
+use Rattle.std.proofs.Common.{◌≡◌, ◌∙◌, ap, sym, ℕ, ◌-◌, ◌*◌, ◌≤◌, ◌<◌, List, ◌++◌, length, take, drop, replicate, subst, arith, rules}
+use borrow.Rule.Slice.PartMut.{put_mid}
 use Rattle.lists.proofs.Each.{each-of}
-use Rattle.refusal.specs.declared.Verdict.{Verdict}
-use Rattle.refusal.specs.declared.Verdict.TheVariants.{Accepted}
+use Rattle.lists.proofs.Lay.{cleared as cleared-part}
+use Rattle.refusal.specs.Verdict.{Verdict}
+use Rattle.refusal.specs.Verdict.{Accepted}
 use Rattle.refusal.specs.Answers.{lent_of}
 use Rattle.line21.specs.declared.Head.{Head}
 use Rattle.line21.specs.Reading.{length_verdict, unit_count, value_of, answer_of, read_of, head_of}
@@ -39,10 +41,22 @@ module _ (c : Else-head-ne0) where
 pub overflow_mul-head : goal.overflow_mul-head
 overflow_mul-head c = omega (arith, fits (goal.at.overflow_mul-head c).Else-head-ne0, m-units (goal.at.overflow_mul-head c).Else-head-ne0)
 
-pub clear_from-requires-clause-at_bound : goal.clear_from-requires-clause-at_bound
-clear_from-requires-clause-at_bound c =
-    let at = (goal.at.clear_from-requires-clause-at_bound c).Else-head-ne0 in
+pub slice_bounds-fill-count : goal.slice_bounds-fill-count
+slice_bounds-fill-count c =
+    let at = (goal.at.slice_bounds-fill-count c).Else-head-ne0 in
     omega (arith, fits at, m-units at)
+
+pub slice_bounds-fill-start : goal.slice_bounds-fill-start
+slice_bounds-fill-start c =
+    let at = (goal.at.slice_bounds-fill-start c).Else-head-ne0 in
+    omega (arith, fits at, m-units at)
+
+-- the part from a on comes back as zeros
+filled-from : (xs part : List ℕ) (a n : ℕ) → length xs ≡ n
+    → part ≡ replicate (length (take (n - a) (drop a xs))) 0 → put_mid a (n - a) xs part ≡ take a xs ++ replicate (n - a) 0
+filled-from xs part a n e =
+    subst (λ (k : ℕ). part ≡ replicate {A = ℕ} (length (take (k - a) (drop a xs))) 0 → put_mid a (k - a) xs part ≡ take a xs ++ replicate {A = ℕ} (k - a) 0) e
+    (cleared-part xs part a)
 
 pub returns : goal.returns
 returns c =
@@ -52,11 +66,12 @@ returns c =
     let at = (goal.at.returns c).Else-head-ne0 in
     let us = (value_of s).units in
     let size : 7 * length us ≡ 7 * head.m = ap (λ (k : ℕ). 7 * k) (sym (m-units at)) in
+    let long : length c.collect_into.new.units ≡ 2037 = omega arith in
     record {
       bytes = each-of (λ (b : ℕ). b < 256) 0 s (λ i h. omega (arith, c.type_inv.s i));
       answer = c.read_head-head.ensures;
       left =
-          c.clear_from.ensures
+          filled-from c.collect_into.new.units c.fill.new.self (7 * head.m) 2037 long (c.fill.ensures.after (λ y e. search rules))
           ∙ ap (λ (xs : List ℕ). take (7 * head.m) xs ++ replicate {A = ℕ} (2037 - 7 * head.m) 0) c.collect_into.ensures
           ∙ cleared us lent (7 * head.m) size (fits at)
           ∙ lent-anew s head c.read_head-head.ensures c.if-head-ne0.false lent;

@@ -3,8 +3,8 @@ use Rattle.std.proofs.Common.{◌≡◌, ◌∙◌, ap, sym, ℕ, ◌+◌, ◌*�
 use lib.Seq.{drop-drop}
 use Rattle.lists.proofs.Flat.{get_d-taken}
 use Rattle.refusal.specs.declared.Refusal.{Refusal}
-use Rattle.refusal.specs.declared.Verdict.{Verdict}
-use Rattle.refusal.specs.declared.Verdict.TheVariants.{Accepted}
+use Rattle.refusal.specs.Verdict.{Verdict}
+use Rattle.refusal.specs.Verdict.{Accepted}
 use Rattle.refusal.specs.Numbers.{refusal_of}
 use Rattle.line21.specs.declared.AccessUnit.{AccessUnit}
 use Rattle.line21.specs.Value.{blank}
@@ -13,7 +13,7 @@ use Rattle.line21.proofs.Answers.{one_of, one-there, one-beyond, one-refused}
 use Rattle.line21.proofs.Length.{accepted-whole}
 use Rattle.line21.proofs.Units.{length-read_units}
 use Rattle.line21.proofs.reading.read_unit.Goals as goal
-use Rattle.line21.proofs.reading.read_unit.Goals.{In-Accepted, in-Accepted+else-i-s, in_default}
+use Rattle.line21.proofs.reading.read_unit.Goals.{In-Ok, in-Ok+else-i-s, in_default}
 
 counted : (s : List ℕ) → length (value_of s).units ≡ unit_count (length s)
 counted s = length-read_units (unit_count (length s)) (drop 1 s)
@@ -25,7 +25,7 @@ no-unit : Refusal → Refusal × List AccessUnit
 no-unit refusal = (refusal, [])
 
 pub overflow_sub-s : goal.overflow_sub-s
-overflow_sub-s c = omega (arith, (accepted-whole (length c.args.s.now) (sym c.judge_length-verdict.ensures ∙ c.in-Accepted.is)).exact)
+overflow_sub-s c = omega (arith, (accepted-whole (length c.args.s.now) (sym c.judge_length-verdict.ensures ∙ c.in-Ok.is)).exact)
 
 pub returns-then-i-s : goal.returns-then-i-s
 returns-then-i-s c =
@@ -35,7 +35,7 @@ returns-then-i-s c =
     let inside : i < length (value_of s).units = omega (arith, counted s) in
     ap (λ (u : AccessUnit). (refusal_of Accepted, u ∷ [])) (c.unit_at.ensures ∙ sym (unit-there s i below))
     ∙ sym (one-there (value_of s) i inside)
-    ∙ ap (λ (v : Verdict). one_of v (value_of s) i) (sym c.in-Accepted.is ∙ c.judge_length-verdict.ensures)
+    ∙ ap (λ (v : Verdict). one_of v (value_of s) i) (sym c.in-Ok.is ∙ c.judge_length-verdict.ensures)
 
 pub returns : goal.returns
 unfolding no-unit
@@ -44,11 +44,11 @@ returns c =
     let i = c.args.i in
     let judged = c.judge_length-verdict.ensures in
     elim c.match-verdict.branch [
-      | in-Accepted+else-i-s w ↦
+      | in-Ok+else-i-s w ↦
           (let past : length (value_of s).units ≤ i = omega (arith, counted s) in
-          ap no-unit (c.told.ensures ∙ ap refusal_of w.in-Accepted.is) ∙ sym (one-beyond (value_of s) i past)
-          ∙ ap (λ (v : Verdict). one_of v (value_of s) i) (sym w.in-Accepted.is ∙ judged))
+          ap no-unit (c.from.ensures ∙ ap refusal_of w.in-Ok.is) ∙ sym (one-beyond (value_of s) i past)
+          ∙ ap (λ (v : Verdict). one_of v (value_of s) i) (sym w.in-Ok.is ∙ judged))
       | in_default w ↦
-          ap no-unit (c.told.ensures ∙ ap refusal_of w.in_default.is) ∙ sym (one-refused (value_of s) i w.in_default.field-0 w.in_default.field-1)
+          ap no-unit (c.from.ensures ∙ ap refusal_of w.in_default.is) ∙ sym (one-refused (value_of s) i w.in_default.field-0.0 w.in_default.field-0.1)
           ∙ ap (λ (v : Verdict). one_of v (value_of s) i) (sym w.in_default.is ∙ judged)
     ]

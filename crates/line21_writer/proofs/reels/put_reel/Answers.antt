@@ -1,10 +1,10 @@
 -- The payloads before unit i are laid over the output, and those from it on are accepted by what is left of it.
-use Rattle.std.proofs.Common.{◌≡◌, ◌∙◌, ap, ap₂, sym, refl, ℕ, ◌+◌, ◌-◌, ◌*◌, ◌/◌, ◌≤◌, ◌<◌, List, [], ◌++◌, append_assoc, append-nil, length, take, drop, length-append, length-drop, arith}
+use Rattle.std.proofs.Common.{◌≡◌, ◌∙◌, ap, ap₂, sym, refl, ℕ, ◌+◌, ◌-◌, ◌*◌, ◌/◌, ◌≤◌, ◌<◌, List, [], ◌++◌, append_assoc, append-nil, length, take, drop, length-append, length-drop, min, arith}
 use borrow.Rule.Slice.PartMut.{put_mid}
 use Rattle.lists.specs.Room.{over}
 use Rattle.lists.proofs.Flat.{length_taken}
 use Rattle.lists.proofs.Lay.{length_over, over-more, rest-whole}
-use Rattle.refusal.specs.declared.Verdict.TheVariants.{Accepted}
+use Rattle.refusal.specs.Verdict.{Accepted}
 use Rattle.refusal.proofs.Checks.{accepted-and_then}
 use Rattle.line21.specs.declared.Payload.{Payload}
 use Rattle.line21.specs.Value.{Line21, held}
@@ -13,18 +13,17 @@ use Rattle.line21.specs.Writing.{value_verdict}
 use Rattle.line21.specs.Lent.{access_unit_in, run_in, payload_in}
 use Rattle.line21.proofs.Numbers.{accepted-value, length-layout-held}
 use Rattle.reel.specs.Writing.{reel, reel_layout, reel_verdict}
-use Rattle.reel.proofs.Cutting.{least}
 use Rattle.reel.proofs.Judging.{Judged, accepted-run, verdict-next, layout-next, none_left}
 use Rattle.line21_writer.proofs.reels.put_reel.Invariants.{Placed}
 use Rattle.line21_writer.proofs.reels.put_reel.Goals as goal
-use Rattle.line21_writer.proofs.reels.put_reel.Goals.{Start, After-least-m}
+use Rattle.line21_writer.proofs.reels.put_reel.Goals.{Start, After-min-m}
 
 kept : (flags size : ℕ) (s begun out : List ℕ) (at i : ℕ) → Placed flags size s begun out at i → length out ≡ length begun
 kept flags size s begun out at i p = ap length p.stands ∙ length_over p.front begun (omega (arith, p.long, p.fits))
 
 -- one turn: m units from unit i on
 module _ (flags size : ℕ) (s begun out : List ℕ) (at i m : ℕ) (judged : Judged flags size s (length begun)) (p : Placed flags size s begun out at i)
-    (below : i < length s / 7) (next : m ≡ least size (length s / 7 - i)) where
+    (below : i < length s / 7) (next : m ≡ min size (length s / 7 - i)) where
   abbrev value : Payload
   value = payload_in flags m (drop (7 * i) s)
 
@@ -103,28 +102,28 @@ loop-left-init c =
     )
 
 -- once the next payload's units are counted
-module _ (c : After-least-m) (judged : Judged c.args.flags c.args.size c.args.units.now (length c.args.out.now)) where
+module _ (c : After-min-m) (judged : Judged c.args.flags c.args.size c.args.units.now (length c.args.out.now)) where
   below : c.loop-left.i < length c.args.units.now / 7
   below = omega (arith, c.loop-left-test.true, c.loop-left.invariant.0, judged.some)
 
-  next : c.least-m.result ≡ least c.args.size (length c.args.units.now / 7 - c.loop-left.i)
-  next = omega (arith, c.least-m.ensures, c.loop-left.invariant.0)
+  next : c.min-m.result ≡ min c.args.size (length c.args.units.now / 7 - c.loop-left.i)
+  next = omega (arith, c.min-m.ensures, c.loop-left.invariant.0)
 
 pub write_judged-at-requires-clause-out_value : goal.write_judged-at-requires-clause-out_value
 write_judged-at-requires-clause-out_value c =
     let at = goal.at.write_judged-at-requires-clause-out_value c in
     let judged = judged-whole at.Start in
-    (asked _ _ _ _ _ _ _ _ judged c.loop-left.invariant.1 (below at.After-least-m judged) (next at.After-least-m judged)).0
+    (asked _ _ _ _ _ _ _ _ judged c.loop-left.invariant.1 (below at.After-min-m judged) (next at.After-min-m judged)).0
 
 pub loop-left-smaller : goal.loop-left-smaller
-loop-left-smaller c = omega (arith, c.loop-left-test.true, c.least-m.ensures, (judged-whole (goal.at.loop-left-smaller c).Start).some)
+loop-left-smaller c = omega (arith, c.loop-left-test.true, c.min-m.ensures, (judged-whole (goal.at.loop-left-smaller c).Start).some)
 
 pub loop-left-preserved : goal.loop-left-preserved
 loop-left-preserved c =
     let at = goal.at.loop-left-preserved c in
     let judged = judged-whole at.Start in (
-      omega (arith, c.least-m.ensures, c.loop-left.invariant.0),
-      turned _ _ _ _ _ _ _ _ judged c.loop-left.invariant.1 (below at.After-least-m judged) (next at.After-least-m judged) c.write_judged-at.new.out c.write_judged-at.result
+      omega (arith, c.min-m.ensures, c.loop-left.invariant.0),
+      turned _ _ _ _ _ _ _ _ judged c.loop-left.invariant.1 (below at.After-min-m judged) (next at.After-min-m judged) c.write_judged-at.new.out c.write_judged-at.result
           c.write_judged-at.ensures.value
           c.write_judged-at.ensures.out_after,
     )

@@ -1,7 +1,7 @@
 -- The payloads before unit i are laid over the output, and those from it on are accepted by what is left of it.
 use Rattle.std.proofs.Common.{◌≡◌, ℕ, ◌+◌, ◌-◌, ◌/◌, ◌≤◌, List, ◌++◌, length, drop}
 use Rattle.lists.specs.Room.{over}
-use Rattle.refusal.specs.declared.Verdict.TheVariants.{Accepted}
+use Rattle.refusal.specs.Verdict.{Accepted}
 use Rattle.line21.specs.Lent.{run_in}
 use Rattle.reel.specs.Writing.{reel, reel_layout, reel_verdict}
 use Rattle.line21_writer.proofs.reels.put_reel.Given as goal

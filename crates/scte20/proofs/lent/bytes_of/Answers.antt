@@ -35,7 +35,3 @@ returns c =
     c.loop-i.invariant
     ∙ ap (λ (front : List Record). over (records_bytes front) (replicate 155 0)) all
     ∙ lent-all rs (replicate 155 0) places refl
-
-pub loop-i-init : goal.loop-i-init
-loop-i-init c =
-    refl

@@ -1,5 +1,4 @@
 -- `scte20::lent::unit_of` meets its contract. The loop's invariant: the first i records are stored, with blanks beyond.
-use Prim.Native.Nat.{◌-◌}
 use mathlib.Core.Path.{◌≡◌}
 use lib.ListN.{take}
 use Rattle.lists.specs.Room.{filled}
@@ -9,6 +8,3 @@ use Rattle.scte20.proofs.lent.unit_of.Given as goal
 
 abbrev pub invariant-loop-i : goal.invariant-loop-i
 invariant-loop-i l = l.records ≡ filled (take l.i (lent_records l.bytes)) 31 blank
-
-abbrev pub decreases-loop-i : goal.decreases-loop-i
-decreases-loop-i l = 31 - l.i

@@ -1,9 +1,0 @@
--- `conformance_area::area_reading::answer_of`: the measure is how many records are left.
-use Rattle.std.proofs.Common.{◌-◌, ◌≤◌}
-use Rattle.conformance_area.proofs.area_reading.answer_of.Given as goal
-
-abbrev pub invariant-loop-i : goal.invariant-loop-i
-invariant-loop-i l = l.i ≤ 31
-
-abbrev pub decreases-loop-i : goal.decreases-loop-i
-decreases-loop-i l = 31 - l.i

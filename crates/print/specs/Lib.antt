@@ -1,2 +1,0 @@
--- The definitions that the contracts cite. Assumes nothing.
-pub mod Digits

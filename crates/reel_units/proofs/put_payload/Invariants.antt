@@ -1,0 +1,13 @@
+-- The flags byte and the first k units are laid over the output.
+use Rattle.std.proofs.Common.{◌≡◌, ℕ, List, ◌∷◌, take}
+use Rattle.lists.specs.Room.{over}
+use Rattle.line21.specs.declared.AccessUnit.{AccessUnit}
+use Rattle.line21.specs.Layout.{layout_access_units}
+use Rattle.reel_units.proofs.put_payload.Given as goal
+
+-- what the first k units have laid so far
+abbrev pub front : ℕ → List AccessUnit → ℕ → List ℕ
+front flags us k = flags ∷ layout_access_units (take k us)
+
+abbrev pub invariant-loop-k : goal.invariant-loop-k
+invariant-loop-k l = l.out ≡ over (front l.flags l.units l.k) l.initial.out

@@ -1,0 +1,5 @@
+pub mod Words
+pub mod Stored
+pub mod Sealing
+pub mod Structures
+pub mod Laying
