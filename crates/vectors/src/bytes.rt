@@ -21,21 +21,20 @@ pub fn number(s: &[u8]) -> usize
 
 // Fills an output with the bytes from an index on. Missing ones are 0.
 pub fn take(s: &[u8], at: usize, out: &mut [u8])
-    requires { at + length out.old < 2 ^ 64 }
     ensures { (k : ℕ) → k < length out.old → get_or out.new k 0 ≡ get_or s.now (at + k) 0 }
 {
     for (i, b) in out.iter_mut().enumerate() {
-        *b = byte(s, at + i);
+        *b = byte(s, at.saturating_add(i));
     }
 }
 
-// Whether memory that was lent to a call holds what is expected at its front, and behind that what it held before.
+// Whether memory that was lent to a call holds what is expected at its front, and behind that what it held
+// before. Memory of another length does not.
 pub fn holds(before: &[u8], after: &[u8], expected: &[u8]) -> bool
-    requires { length before.now ≡ length after.now }
-    ensures { IsTrue result ↔ ((take (length expected.now) after.now ≡ expected.now) × (drop (length expected.now) after.now ≡ drop (length expected.now) before.now)) }
+    ensures { IsTrue result ↔ ((length before.now ≡ length after.now) × (take (length expected.now) after.now ≡ expected.now) × (drop (length expected.now) after.now ≡ drop (length expected.now) before.now)) }
 {
     let k = expected.len();
-    if after.len() < k {
+    if before.len() != after.len() || after.len() < k {
         return false;
     }
     if &after[..k] == expected {

@@ -14,4 +14,4 @@ returns-then-eq c =
     let whole-a = take_all (length a - k) (drop k a) (omega (arith, length-drop k a)) in
     let whole-b = take_all (length b - k) (drop k b) (omega (arith, length-drop k b)) in
     let behind = slice_eq-Decides Decides-eqb (take (length a - k) (drop k a)) (take (length b - k) (drop k b)) _ c.eq-then-eq.ensures in
-    (λ h. (search rules, sym whole-a ∙ behind.0 h ∙ whole-b), λ p. behind.1 (whole-a ∙ p.1 ∙ sym whole-b))
+    (λ h. (search rules, search rules, sym whole-a ∙ behind.0 h ∙ whole-b), λ p. behind.1 (whole-a ∙ p.2 ∙ sym whole-b))
