@@ -75,7 +75,7 @@ pub fn clean_sum(words: &[u16], from: usize, to: usize) -> Option<u16>
 {
     let mut clean = true;
     let mut total: u16 = 0;
-    for &w in words.get(from..to)? {
+    for &w in words.get(from.min(to)..to)? {
         // As in `are_words`.
         if w / 256 + parity(w % 256) != 2 {
             clean = false;

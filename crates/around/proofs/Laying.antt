@@ -3,13 +3,13 @@
 -- Assumes nothing.
 use Prim.Native.Nat.{ℕ, ◌+◌, ◌-◌, ◌≤◌}
 use native.Mathlib.Omega.{arith}
-use mathlib.Core.Path.{◌≡◌, ◌∙◌, ap, ap₂, sym}
+use mathlib.Core.Path.{◌≡◌, ◌∙◌, ap, sym}
 use mathlib.Core.List.{List, ◌++◌, append_assoc}
 use borrow.Rule.Slice.PartMut.{put_mid}
 use lib.ListN.{length, take, drop, length-append}
 use lib.Seq.{drop-append_seam, drop-drop}
 use Rattle.lists.specs.Room.{over, over_at}
-use Rattle.lists.proofs.Lay.{length_over, take-over, drop-over, over-over, laid_more, laid-part, rest-whole, length_rest, length-over_at, drop-over_at, over-over_at}
+use Rattle.lists.proofs.Lay.{length_over, drop-over, laid_more, rest-whole, length_rest, length-over_at, drop-over_at, over-over_at}
 use Rattle.units.specs.Layout.{started, layout_unit}
 use Rattle.units.proofs.Started.{started-long}
 
@@ -64,16 +64,13 @@ module _ (front body back out : List ℕ) (start : ℕ) (e : length front ≡ st
       laid_more front (layout_unit body) all xs part start laid e (code ∙ started-body body (drop (length body) (drop (start + 4) out)) rest long body-there)
 
   -- then what comes after the unit
-  pub closed : (xs part : List ℕ) (behind n : ℕ) → xs ≡ over (front ++ layout_unit body) (over_at (start + 4) body out) → start + 4 + length body ≡ behind
-      → n ≡ length back → part ≡ back → put_mid behind (behind + n - behind) xs part ≡ over (front ++ (layout_unit body ++ back)) out
-  closed xs part behind n laid ends long stored =
+  pub closed : (xs part : List ℕ) (behind : ℕ) → xs ≡ over (front ++ layout_unit body) (over_at (start + 4) body out) → start + 4 + length body ≡ behind
+      → part ≡ over back (take (length xs - behind) (drop behind xs))
+      → put_mid behind (length xs - behind) xs part ≡ over (front ++ (layout_unit body ++ back)) out
+  closed xs part behind laid ends stored =
       let all = over_at (start + 4) body out in
-      let fronted = front ++ layout_unit body in
       let size : start + 4 + length body ≤ length (front ++ (layout_unit body ++ back)) =
       omega (arith, length-append front (layout_unit body ++ back), length-append (layout_unit body) back) in
-      laid-part behind n xs part back long stored
-      ∙ ap (λ (ys : List ℕ). over_at behind back ys) laid
-      ∙ ap₂ (λ (f r : List ℕ). f ++ over back r) (take-over fronted all behind (length-unit ∙ ends)) (drop-over fronted all behind (length-unit ∙ ends))
-      ∙ over-over fronted back all
+      laid_more (front ++ layout_unit body) back all xs part behind laid (length-unit ∙ ends) stored
       ∙ ap (λ (whole : List ℕ). over whole all) (append_assoc front (layout_unit body) back)
       ∙ over-over_at (start + 4) body out within (front ++ (layout_unit body ++ back)) size

@@ -43,7 +43,7 @@ fn lay(s: &[u8], start: usize, end: usize, len: usize, out: &mut [u8])
     ensures { Surrounds s.now start end len out.old out.new }
 {
     let behind = start + START_BYTES + len;
-    out[..start].copy_from_slice(&s[..start]);
+    lists::copy(&s[..start], out);
     units::open(&mut out[start..]);
-    out[behind..behind + (s.len() - end)].copy_from_slice(&s[end..]);
+    lists::copy(&s[end..], &mut out[behind..]);
 }

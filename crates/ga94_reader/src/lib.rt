@@ -39,6 +39,7 @@ pub fn read_into(body: &[u8], records: &mut [u8; LENT_RECORDS]) -> Judged<Number
 }
 
 // All checks of a body, for one who does not ask for its records.
+#[inline(always)]
 pub fn judge(body: &[u8]) -> Verdict
     ensures { result ≡ content_verdict body.now }
 {

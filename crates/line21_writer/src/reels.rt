@@ -35,7 +35,7 @@ fn put_reel(flags: u8, size: usize, units: &[u8], out: &mut [u8]) -> usize
     let mut left = units.len() / LENT_UNIT;
     // A while: must-fail/unit_repeated_at_the_border makes its step one unit short, for which chunks have no place.
     while 0 < left {
-        let m = size.min(left);
+        let m = reel::least(size, left);
         at += write_judged(flags, m, &units[LENT_UNIT * i..], &mut out[at..]);
         i += m;
         left -= m;

@@ -21,6 +21,8 @@ pub fn clear(out: &mut [u8])
 pub fn copy(s: &[u8], out: &mut [u8])
     ensures { out.new ≡ over (take (length out.old) s.now) out.old }
 {
-    let n = s.len().min(out.len());
-    out[..n].copy_from_slice(&s[..n]);
+    // A loop: the library's copy of a slice calls C's memmove, which the archive does not ask for.
+    for i in 0..s.len().min(out.len()) {
+        out[i] = s[i];
+    }
 }

@@ -188,6 +188,12 @@ fn carry(user: &[u16], out: &mut [u16]) -> u16
     ensures out_after { out.new ≡ user.now }
     ensures value { result ≡ sum user.now % 65536 }
 {
-    out.copy_from_slice(user);
-    anc::sum(user)
+    // One walk does both. The library's copy of a slice calls C's memmove, which the archive does not ask for.
+    let mut total: u16 = 0;
+    for i in 0..out.len() {
+        let w = user[i];
+        out[i] = w;
+        total = total.wrapping_add(w);
+    }
+    total
 }

@@ -4,7 +4,7 @@ use Prim.Native.Nat.{ℕ, ◌+◌, ◌/◌, ◌≤◌, ◌<◌}
 use native.Mathlib.Omega.{arith}
 use native.Mathlib.Numerals.{add-one}
 use mathlib.Core.Path.{◌≡◌, ◌∙◌, ap, sym, refl}
-use mathlib.Core.Bool.{not}
+use mathlib.Core.Bool.{true, false, not}
 use mathlib.Core.List.{List, [], ◌∷◌, ◌++◌}
 use borrow.Author.Tests.{eq-eqb, ne_eqb, lt-ltb, le-ltb, not-false}
 use lib.Dec.{eqb, ltb}
@@ -14,16 +14,17 @@ use Rattle.lists.proofs.Each.{each_take, each_both, each_map}
 use Rattle.refusal.specs.Verdict.{Verdict}
 use Rattle.refusal.specs.Verdict.{Accepted, Refused}
 use Rattle.refusal.specs.declared.Reason.TheVariants.{NoRoom, Unholdable}
-use Rattle.refusal.specs.declared.Excess.TheVariants.{Count, DataIdentifier}
+use Rattle.refusal.specs.declared.Excess.TheVariants.{Count, DataIdentifier, DataUnitId, FieldParity, LineOffset}
 use Rattle.refusal.specs.declared.Item.TheVariants.{Whole}
 use Rattle.refusal.specs.Checks.{refuse_if, and_then, first}
 use Rattle.refusal.specs.Order.{each_of}
 use Rattle.refusal.proofs.Checks.{accepted-refuse_if, refuse_if-accepted, accepted-all, all-accepted, accepted-equal, accepted-within, accepted-each, each-accepted, and_then-last}
 use Rattle.refusal.proofs.Lines.{not-outside, among-inside}
 use Rattle.refusal.proofs.Sequence.{first-append, first-each}
-use Rattle.pes.specs.Value.{DataUnit, teletext, stuffing, Told, LegalUnit, LegalTold, Typed, TypedUnit, blank, held}
+use Rattle.pes.specs.Value.{Teletext, DataUnit, teletext, stuffing, Told, LegalUnit, LegalTold, Typed, TypedUnit, blank, held}
 use Rattle.pes.specs.Layout.{layout}
 use Rattle.pes.specs.Order.{teletext_id, written_checks}
+use Rattle.pes.specs.Reading.{line_verdict}
 use Rattle.pes.specs.Writing.{written_verdict, written_units, value_verdict}
 use Rattle.pes.proofs.Unit.{teletext-id, id-teletext, line-below}
 
@@ -64,6 +65,25 @@ unfolding written_verdict
 written_small id parity line row e =
     let each = accepted-all (written_checks (teletext (record { data_unit_id = id; field_parity = parity; line_offset = line; row = row }))) e in
     (accepted-within 1 parity _ _ each.1.0, accepted-within 31 line _ _ each.1.1.0)
+
+-- in the order of the code
+module _ (t : Teletext) where
+  pub written-id : teletext_id t.data_unit_id ≡ false → written_verdict (teletext t) ≡ Refused (Unholdable DataUnitId) Whole
+  unfolding written_verdict
+  written-id e = simp e
+
+  module _ (right : teletext_id t.data_unit_id ≡ true) where
+    pub written-parity : 1 < t.field_parity → written_verdict (teletext t) ≡ Refused (Unholdable FieldParity) Whole
+    unfolding written_verdict
+    written-parity h = simp (right, lt-ltb 1 t.field_parity h)
+
+    pub written-high : t.field_parity ≤ 1 → 31 < t.line_offset → written_verdict (teletext t) ≡ Refused (Unholdable LineOffset) Whole
+    unfolding written_verdict
+    written-high h g = simp (right, le-ltb 1 t.field_parity h, lt-ltb 31 t.line_offset g)
+
+    pub written-line : t.field_parity ≤ 1 → t.line_offset ≤ 31 → written_verdict (teletext t) ≡ line_verdict Whole t.line_offset
+    unfolding written_verdict line_verdict
+    written-line h g = simp (right, le-ltb 1 t.field_parity h, le-ltb 31 t.line_offset g, and_then-last)
 
 -- THE VALUE
 

@@ -9,4 +9,5 @@ pub mod Values
 pub mod Legal
 pub mod Determined
 pub mod Theorems
+pub mod Stored
 pub mod Walked

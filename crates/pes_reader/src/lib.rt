@@ -67,7 +67,7 @@ fn put_unit(u: &[u8], table: &[u8; 256], out: &mut [u8])
 {
     out[0] = u[0];
     if u[0] == STUFFING_ID {
-        out[1..45].copy_from_slice(&u[2..46]);
+        lists::copy(&u[2..46], &mut out[1..45]);
         return;
     }
     out[1] = u[2] / 32 % 2;

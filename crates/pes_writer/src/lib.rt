@@ -105,7 +105,7 @@ fn put_unit(u: &[u8], table: &[u8; 256], out: &mut [u8])
     out[0] = u[0];
     out[1] = DATA_UNIT_LENGTH;
     if u[0] == STUFFING_ID {
-        out[2..46].copy_from_slice(&u[1..45]);
+        lists::copy(&u[1..45], &mut out[2..46]);
         return;
     }
     out[2] = 192 + 32 * u[1] + u[2];

@@ -179,6 +179,11 @@ pub lent-unit : (k : Kind) (u : CaptionUnit k) → room_of k u ≡ 31 → unit_i
 lent-unit Scte20 u e = scte20-lending.lent-unit u e
 lent-unit Ga94 u e = ga94-lending.lent-unit u e
 
+-- a lent array of a kind is short
+pub places-few : (k : Kind) → places k ≤ 155
+places-few Scte20 = omega arith
+places-few Ga94 = omega arith
+
 -- a lent array is a list of bytes, so that the value it tells is one of the code's
 pub lent-typed : (k : Kind) (v : Numbers k) (s : List ℕ) → Bytes s → length s ≡ places k → Typed k (unit_in k v s)
 lent-typed Scte20 v s bytes e = scte20-lending.lent-typed v s bytes e

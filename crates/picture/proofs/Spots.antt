@@ -1,12 +1,11 @@
 -- Where an area is accepted, a new caption unit has a place in it, and `replace` keeps its promise as `exchange` does there.
 -- Assumes nothing.
-use Rattle.std.specs.Prelude.{Ok, Err}
+use Rattle.std.specs.Prelude.{Err}
 use Prim.Native.Nat.{ℕ, ◌≤◌}
 use native.Mathlib.Omega.{arith}
 use mathlib.Core.Path.{◌≡◌, ◌∙◌, ap, ap₂, sym, subst, refl}
 use mathlib.Core.List.{List, ◌++◌, append-nil}
 use lib.ListN.{length}
-use Rattle.lists.specs.Bytes.{Bytes}
 use lib.Seq.{take-length, drop-length}
 use Rattle.refusal.specs.declared.Reason.TheVariants.{SecondUnit}
 use Rattle.refusal.specs.declared.Item.TheVariants.{Whole}
@@ -17,8 +16,7 @@ use Rattle.refusal.specs.Verdict.{Accepted}
 use Rattle.refusal.specs.declared.Written.{Written}
 use Rattle.refusal.specs.Numbers.{refusal_of}
 use Rattle.refusal.specs.Checks.{and_then}
-use Rattle.refusal.specs.Answers.{Wrote, Judged, verdict_of, judged_as}
-use Rattle.refusal.proofs.Outputs.{judged-verdict}
+use Rattle.refusal.specs.Answers.{Wrote}
 use Rattle.refusal.proofs.Checks.{refused-not-accepted}
 use Rattle.units.specs.declared.Found.{Found}
 use Rattle.units.specs.declared.Found.TheVariants.{NotUnits, Nowhere, At, Many}
@@ -28,7 +26,7 @@ use Rattle.picture.specs.declared.Spot.{Spot}
 use Rattle.kind.specs.Ours.{ours}
 use Rattle.picture.specs.Kinds.{CaptionUnit, held, write_verdict}
 use Rattle.picture.specs.Reading.{captions_in, found_verdict, area_verdict}
-use Rattle.picture.specs.Inside.{spot_of, ReadsOld}
+use Rattle.picture.specs.Inside.{spot_of}
 use Rattle.around.specs.Around.{exchanged}
 use Rattle.picture.specs.Writing.{unit_bytes, replaced_in, replaced_of, replace_verdict}
 use Rattle.picture.proofs.Placing.{unit-within}
@@ -48,32 +46,6 @@ module _ (k : Kind) where
 
   pub spot-within : (s : List ℕ) → area_verdict k s ≡ Accepted → Within s (spot_of (captions_in k s) (length s))
   spot-within s ok = found_within s (captions_in k s) refl ok
-
-  -- what such an answer tells of the area
-  pub old-told : (s : List ℕ) (r : Judged Spot) → ReadsOld k s r → area_verdict k s ≡ verdict_of r
-  old-told s r old = sym (ap verdict_of old.answer ∙ judged-verdict (area_verdict k s) (spot_of (captions_in k s) (length s)))
-
-  pub old-spot : (s : List ℕ) (spot : Spot) → ReadsOld k s (Ok spot) → spot ≡ spot_of (captions_in k s) (length s)
-  old-spot s spot old =
-      let placed : Judged Spot → Spot = elim [ Ok p ↦ p | Err why ↦ spot ] in
-      ap placed (old.answer ∙ ap (λ (v : Verdict). judged_as v (spot_of (captions_in k s) (length s))) (old-told s (Ok spot) old))
-
-  -- what is answered of an area that is to be changed, by what was found
-  module _ (s : List ℕ) (bytes : Bytes s) (f : Found) (same : captions_in k s ≡ f) where
-    pub old-refused : (why : Reason × Item) (r : Judged Spot) → r ≡ Err why → found_verdict k f s ≡ Err why → ReadsOld k s r
-    old-refused why r refused told =
-        let all : area_verdict k s ≡ Err why = ap (λ (f : Found). found_verdict k f s) same ∙ told in
-        record { bytes = bytes; answer = refused ∙ ap (λ (v : Verdict). judged_as v (spot_of (captions_in k s) (length s))) (sym all) }
-
-    pub old-placed : (spot : Spot) → spot ≡ spot_of f (length s) → found_verdict k f s ≡ Accepted → ReadsOld k s (Ok spot)
-    old-placed spot placed told =
-        let all : area_verdict k s ≡ Accepted = ap (λ (f : Found). found_verdict k f s) same ∙ told in
-        record {
-          bytes = bytes;
-          answer =
-              ap Ok (placed ∙ ap (λ (f : Found). spot_of f (length s)) (sym same))
-              ∙ ap (λ (v : Verdict). judged_as v (spot_of (captions_in k s) (length s))) (sym all);
-        }
 
   -- what is exchanged there is what is replaced
   found-replaced : (s new : List ℕ) (f : Found) → found_verdict k f s ≡ Accepted

@@ -44,8 +44,7 @@ use Rattle.picture.specs.Kinds.{ForValue, Numbers, count, width, places, unit_in
 use Rattle.picture.specs.Value.{Area, uncaptioned, captioned, bodies, layout, Foreign, Legal, replaced, foreign_of}
 use Rattle.picture.specs.Reading.{area_verdict, Answer, shown, Reads, Alike}
 use Rattle.picture.specs.Lent.{Head, head_of, ReadsInto}
-use Rattle.refusal.specs.Answers.{Judged}
-use Rattle.picture.specs.declared.Spot.{Spot}
+use Rattle.picture.specs.declared.Old.{Old}
 use Rattle.picture.specs.Inside.{ReadsOld}
 use Rattle.picture.specs.Writing.{unit_bytes, Writes, replace_verdict, Replaces}
 use Rattle.picture.specs.Places.{area_bit, InUnit}
@@ -505,7 +504,7 @@ pub read-into-determined : (k : Kind) (s lent : List ℕ) (a : Head k) (exit : L
 read-into-determined = determined.read-into-determined
 
 -- reading an area that is to be changed,
-pub read-old-determined : (k : Kind) (s : List ℕ) (a b : Judged Spot) → ReadsOld k s a → ReadsOld k s b → a ≡ b
+pub read-old-determined : (k : Kind) (s : List ℕ) (a b : Old) → ReadsOld k s a → ReadsOld k s b → a ≡ b
 read-old-determined = determined.read-old-determined
 
 -- writing a unit,

@@ -10,6 +10,7 @@ use Rattle.refusal.specs.Answers.{Wrote, Judged, judged_as, lent_of, laid_of, bo
 use Rattle.kind.specs.declared.Kind.{Kind}
 use Rattle.units.specs.declared.Found.{Found}
 use Rattle.units.specs.declared.Found.TheVariants.{NotUnits, Nowhere, At, Many}
+use Rattle.picture.specs.declared.Old.{Old}
 use Rattle.picture.specs.declared.Spot.{Spot}
 use Rattle.picture.specs.Kinds.{CaptionUnit, Numbers, numbers_of, bytes_of, body_of, stored, held, Typed, content_verdict, value_of, write_verdict}
 use Rattle.picture.specs.Reading.{captions_in, area_verdict}
@@ -58,10 +59,11 @@ pub record WritesBody (k : Kind) (u : CaptionUnit k) (before after : ℕ) (out :
       ≡ body_left (write_verdict k u (before + length (body_of k (held k u)) + after) (length out)) before
       (body_of k (held k u)) out
 
--- the promise of reading an area in which a unit is to be replaced: the refusal, or the place of the new unit
-pub record ReadsOld (k : Kind) (s : List ℕ) (r : Judged Spot) : Type 0 where
+-- the promise of reading an area in which a unit is to be replaced: the verdict, and the place of the new unit
+pub record ReadsOld (k : Kind) (s : List ℕ) (r : Old) : Type 0 where
   pub bytes : Bytes s
-  pub answer : r ≡ judged_as (area_verdict k s) (spot_of (captions_in k s) (length s))
+  pub verdict : r.verdict ≡ area_verdict k s
+  pub place : r.spot ≡ spot_of (captions_in k s) (length s)
 
 -- what `exchange` answers and leaves: the new area is judged as a whole
 pub record Exchanges (k : Kind) (s : List ℕ) (start end : ℕ) (u : CaptionUnit k) (out : List ℕ) (r : Written)

@@ -7,8 +7,8 @@ ghost use Rattle.picture.specs.Lent.{head_of, ReadsInto, headed_by};
 ghost use Rattle.picture.specs.Kinds.{content_verdict};
 ghost use Rattle.picture.specs.Inside.{ReadsOld};
 
-use crate::{Content, Head, Spot, places};
-use refusal::{Item, Judged, Reason, Refusal, Verdict};
+use crate::{Content, Head, Old, places};
+use refusal::{Item, Reason, Refusal, Verdict};
 use units::{Found, START_BYTES};
 
 // Reads the caption unit of an area, its records into a lent array, which a refusal leaves as it is. Without such a unit the array is cleared.
@@ -16,16 +16,27 @@ use units::{Found, START_BYTES};
 pub fn read_area<const N: usize, C: Content<N>>(s: &[u8], records: &mut [u8; N]) -> Head<C>
     ensures { ReadsInto C.KIND s.now records.old (headed_by C.told result) records.new }
 {
-    head_of(s, units::scan(s, C::KIND), records)
+    let found = units::scan(s, C::KIND);
+    match found {
+        Found::NotUnits(reason, item) => nothing(Err((reason, item))),
+        Found::Nowhere => {
+            lists::clear(records);
+            nothing(Ok(()))
+        }
+        Found::At { unit, end } => read_unit(s, unit, end, records),
+        Found::Many(_) => nothing(Err((Reason::SecondUnit, Item::Whole))),
+    }
 }
 
-// Reads an area for one who puts another caption unit into it: the refusal that `read_area` answers, or which bytes give way.
-pub fn read_old<const N: usize, C: Content<N>>(s: &[u8]) -> Judged<Spot>
+// Reads an area for one who puts another caption unit into it: the refusal that `read_area` answers, and which bytes give way.
+pub fn read_old<const N: usize, C: Content<N>>(s: &[u8]) -> Old
     ensures { ReadsOld C.KIND s.now result }
 {
     let found = units::scan(s, C::KIND);
-    verdict_of::<N, C>(s, found)?;
-    Ok(places::spot_of(found, s.len()))
+    Old {
+        verdict: verdict_of::<N, C>(s, found),
+        spot: places::spot_of(found, s.len()),
+    }
 }
 
 // The verdict, from what the search found.
@@ -48,22 +59,6 @@ fn judge_unit<const N: usize, C: Content<N>>(s: &[u8], unit: usize, end: usize) 
 {
     let body = unit + START_BYTES;
     places::placed_verdict(unit, C::judge(&s[body..end]))
-}
-
-// The answer, from what the search for caption units found.
-fn head_of<const N: usize, C: Content<N>>(s: &[u8], found: Found, records: &mut [u8; N]) -> Head<C>
-    requires { captions_in C.KIND s.now ≡ found }
-    ensures { ReadsInto C.KIND s.now records.old (headed_by C.told result) records.new }
-{
-    match found {
-        Found::NotUnits(reason, item) => nothing(Err((reason, item))),
-        Found::Nowhere => {
-            lists::clear(records);
-            nothing(Ok(()))
-        }
-        Found::At { unit, end } => read_unit(s, unit, end, records),
-        Found::Many(_) => nothing(Err((Reason::SecondUnit, Item::Whole))),
-    }
 }
 
 // Reads the only caption unit, which stands from byte `unit` up to `end`.

@@ -13,7 +13,7 @@ pub use area::{read_area, read_old};
 pub use atsc::ga94_read_into;
 pub use content::Content;
 pub use reading::{read, read_into};
-use refusal::Refusal;
+use refusal::{Refusal, Verdict};
 use scte20::CaptionUnit;
 
 // What `read` answers: whether a caption unit stands in the area, and its value; or a refusal. Where no caption
@@ -38,9 +38,17 @@ pub struct Head<T> {
 // What `ga94_read_into` answers.
 pub type Ga94Head = Head<ga94::Numbers>;
 
-// What `read_old` answers: which bytes of an area give way to a new unit, those from `start` up to `end`.
+// Which bytes of an area give way to a new unit: those from `start` up to `end`.
 #[derive(Clone, Copy)]
 pub struct Spot {
     pub start: usize,
     pub end: usize,
+}
+
+// What `read_old` answers: the area's verdict, and which bytes give way.
+// No Result: `ReadsOld` promises the place beside a refusal too.
+#[derive(Clone, Copy)]
+pub struct Old {
+    pub verdict: Verdict,
+    pub spot: Spot,
 }

@@ -80,8 +80,9 @@ pub fn replace_unit<const N: usize, C: Writable<N>>(
 ) -> Written
     ensures { Replaces C.KIND s.now (kind_unit_in C.KIND (C.told v) records.now) out.old result out.new }
 {
-    match picture::read_old::<N, C>(s) {
-        Ok(spot) => exchange(s, spot, v, records, out),
+    let old = picture::read_old::<N, C>(s);
+    match old.verdict {
+        Ok(()) => exchange(s, old.spot, v, records, out),
         Err(why) => {
             // At an array of N the type alone does not tell the proof that these are bytes.
             lists::known(records);

@@ -3,6 +3,9 @@
 // Each function answers whether all of it was written, and stops at the first write that was not.
 #![tactic(auto)]
 
+ghost use Rattle.std.specs.Prelude.{◌≡◌, ◌%◌};
+ghost use Rattle.print.specs.Digits.{digit_of};
+
 use refusal::{Item, Reason, Refusal};
 use std::io::{Cursor, Stderr, Stdout, Write};
 use std::{io, str};
@@ -17,7 +20,7 @@ pub fn decimal(out: Stdout, n: u64) -> io::Result<()> {
 
 // A byte as two upper-case hex digits.
 pub fn hex(out: Stdout, b: u8) -> io::Result<()> {
-    print!(out; "{b:02X}")
+    text(out, &[digit(b / 16), digit(b)])
 }
 
 // A refusal and a line feed.
@@ -31,6 +34,14 @@ pub fn too_long(out: Stdout, length: usize) -> io::Result<()> {
         out,
         Refusal::from(Err((Reason::TooLong, Item::Length(length)))),
     )
+}
+
+// The character of the hex digit that d is, modulo 16. No format: no clause says which digits one writes, and it takes longer.
+fn digit(d: u8) -> u8
+    ensures { result ≡ digit_of (d % 16) }
+{
+    let n = d % 16;
+    if n < 10 { b'0' + n } else { b'A' + (n - 10) }
 }
 
 // What failed, to standard error: its name, a colon and why, as the system says it.

@@ -58,3 +58,10 @@ pub fn fits(size: usize, n: usize, room: usize) -> bool
     }
     n == 0 || (n - 1) / size < room - UNIT_BYTES * n
 }
+
+// The smaller of two numbers.
+pub fn least(a: usize, b: usize) -> usize
+    ensures { result ≡ a - (a - b) }
+{
+    a.min(b)
+}

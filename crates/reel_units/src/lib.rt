@@ -118,11 +118,12 @@ fn put_payload(flags: u8, units: &[AccessUnit], out: &mut [u8]) -> usize
     ensures out_after { out.new ≡ over (layout (Writing·payload flags units.now)) out.old }
 {
     out[0] = flags;
-    for (k, unit) in units.iter().enumerate() {
-        let at = 1 + UNIT_BYTES * k;
+    let mut at = 1;
+    for unit in units {
         out[at..at + UNIT_BYTES].copy_from_slice(&unit_bytes(*unit));
+        at += UNIT_BYTES;
     }
-    1 + UNIT_BYTES * units.len()
+    at
 }
 
 // A unit's bytes in a payload. It stands in line21_writer too: a public one would take every unit, and have to cut what its bits cannot hold.

@@ -4,7 +4,7 @@
 // crate knows which number and which place the rules have for them.
 #![tactic(auto)]
 
-ghost use Rattle.std.specs.Prelude.{◌≡◌, ◌+◌};
+ghost use Rattle.std.specs.Prelude.{◌≡◌, ◌+◌, ◌++◌, Some, codes, decimal};
 ghost use Rattle.refusal.specs.Numbers.{fixed_number, number_of, place_of, refusal_of};
 ghost use Rattle.refusal.specs.Answers.{written_of};
 ghost use Rattle.refusal.specs.Checks.{fit_verdict, line_verdict};
@@ -170,6 +170,8 @@ pub struct Refusal {
 
 // As the programs print it.
 impl fmt::Display for Refusal {
+    ghost output = { λ r. Some (codes "refused " ++ (decimal r.number ++ (codes " at " ++ decimal r.place))) };
+
     fn fmt<W: fmt::Write>(&self, f: &mut fmt::Formatter<W>) -> fmt::Result {
         let Refusal { number, place } = *self;
         write!(f, "refused {number} at {place}")

@@ -2,12 +2,12 @@
 use Prim.Native.Nat.{ℕ, ◌+◌, ◌-◌, ◌≤◌}
 use native.Mathlib.Omega.{arith}
 use mathlib.Core.Path.{◌≡◌, ◌∙◌, ap, sym}
-use mathlib.Core.List.{List, ◌++◌}
+use mathlib.Core.List.{List}
 use borrow.Rule.Slice.PartMut.{put_mid}
 use lib.ListN.{length, take, drop, length-drop}
-use lib.Seq.{length-take-le}
+use lib.Seq.{length-take-le, take_all}
 use Rattle.lists.specs.Room.{over, over_at}
-use Rattle.lists.proofs.Lay.{length-over_at, rest-whole}
+use Rattle.lists.proofs.Lay.{length_over, length-over_at, rest-whole, length_rest}
 use Rattle.around.proofs.Laying.{opened, closed}
 use Rattle.around.proofs.lay.Goals as goal
 
@@ -21,10 +21,11 @@ returns c body first long fits there =
     let fronted : length front ≡ at = length-take-le at s (omega arith) in
     let same : length out ≡ length first = ap length there ∙ length-over_at (at + 4) body first (omega arith) in
     let room : at + 4 + length body + length back ≤ length first = omega (arith, length-drop c.args.end s) in
-    let xs = c.copy_from_slice.new.self ++ drop at out in
-    let laid : xs ≡ over front (over_at (at + 4) body first) =
-    ap (λ (f : List ℕ). f ++ drop at out) c.copy_from_slice.ensures.after ∙ ap (λ (k : ℕ). front ++ drop k out) (sym fronted) ∙ ap (λ (ys : List ℕ). over front ys) there in
-    let unit = put_mid at (length xs - at) xs c.«open».new.out in
-    let unit_there = opened front body back first at fronted room xs c.«open».new.out laid c.«open».ensures in
-    closed front body back first at fronted room unit c.copy_from_slice-2.new.self (at + 4 + c.args.len) (length s - c.args.end) unit_there
-    (omega arith) (sym (length-drop c.args.end s)) (c.copy_from_slice-2.ensures.after ∙ rest-whole s c.args.end)
+    let laid : c.copy.new.out ≡ over front (over_at (at + 4) body first) =
+    c.copy.ensures ∙ ap (λ (f : List ℕ). over f out) (take_all (length out) front (omega arith)) ∙ ap (λ (xs : List ℕ). over front xs) there in
+    let unit = put_mid at (length c.copy.new.out - at) c.copy.new.out c.«open».new.out in
+    let unit_there = opened front body back first at fronted room c.copy.new.out c.«open».new.out laid c.«open».ensures in
+    let behind = at + 4 + c.args.len in
+    let rest = take (length unit - behind) (drop behind unit) in
+    closed front body back first at fronted room unit c.copy-2.new.out behind unit_there (omega (arith, long))
+    (c.copy-2.ensures ∙ ap (λ (piece : List ℕ). over piece rest) (take_all (length rest) _ (omega arith) ∙ rest-whole s c.args.end))

@@ -3,7 +3,7 @@ use Prim.Native.Nat.{ℕ, ◌+◌, ◌/◌, ◌%◌, ◌≤◌, ◌<◌}
 use native.Mathlib.Omega.{arith}
 use mathlib.Core.Path.{◌≡◌, ◌∙◌, ap, sym, refl}
 use mathlib.Core.List.{List, [], ◌∷◌, ◌++◌, map}
-use lib.ListN.{length, get_or, drop, set, length-map, length-drop}
+use lib.ListN.{length, get_or, drop, set, length-map, length-set, length-drop}
 use lib.Seq.{length-take-le}
 use Rattle.lists.specs.Bytes.{Bytes}
 use Rattle.lists.specs.Part.{part}
@@ -13,7 +13,7 @@ use Rattle.lists.proofs.Lay.{length_over, sets-over_at, laid-fitting}
 use Rattle.bits.specs.Bits.{reversed}
 use Rattle.bits.specs.Table.{Reverses, found}
 use Rattle.bits.proofs.Table.{found-reversed}
-use Rattle.pes.proofs.Lending.{laid-behind, read-stuffing, read-teletext}
+use Rattle.pes.proofs.Lending.{read-stuffing, read-teletext}
 use Rattle.pes_reader.proofs.put_unit.Goals as goal
 
 -- what is lent
@@ -52,7 +52,8 @@ returns-then-u c =
     let out = c.args.out.now in
     let whole : 46 ≤ length u = c.requires.in_bounds in
     let room : 45 ≤ length out = c.requires.in_bounds_2 in
-    laid-behind (get_or u 0 0 ∷ []) (part 2 46 u) out (one u out whole room) c.copy_from_slice.new.self 1 44 (one-laid u out whole room) refl (stuffed u out whole room) c.copy_from_slice.ensures.after
+    let fits : 1 + 44 ≤ length (one u out whole room) = omega (arith, length-set out 0 (get_or u 0 0)) in
+    laid-fitting (get_or u 0 0 ∷ []) (part 2 46 u) out (one u out whole room) c.copy.new.out 1 44 (one-laid u out whole room) refl (stuffed u out whole room) fits c.copy.ensures
     ∙ ap (λ (xs : List ℕ). over xs out) (sym (read-stuffing u c.if-u.true))
 
 pub returns : goal.returns

@@ -16,7 +16,7 @@ use Rattle.bits.proofs.Table.{found-reversed}
 use Rattle.refusal.specs.Verdict.{Accepted}
 use Rattle.pes.specs.Writing.{written_verdict}
 use Rattle.pes.specs.Lent.{unit_in}
-use Rattle.pes.proofs.Lending.{laid-behind, in-teletext, told-stuffing, told-teletext}
+use Rattle.pes.proofs.Lending.{in-teletext, told-stuffing, told-teletext}
 use Rattle.pes.proofs.Writable.{written_small}
 use Rattle.pes_writer.proofs.put_unit.Goals as goal
 
@@ -72,7 +72,9 @@ returns-then-u c =
     let out = c.args.out.now in
     let whole : 45 ≤ length u = c.requires.in_bounds in
     let room : 46 ≤ length out = c.requires.in_bounds_2 in
-    laid-behind (id u out whole room) (part 1 45 u) out (two u out whole room) c.copy_from_slice.new.self 2 44 (two-laid u out whole room) refl (stuffed u out whole room) c.copy_from_slice.ensures.after
+    let fits : 2 + 44 ≤ length (two u out whole room) =
+    omega (arith, ap length (two-laid u out whole room), length_over (id u out whole room) out (omega arith)) in
+    laid-fitting (id u out whole room) (part 1 45 u) out (two u out whole room) c.copy.new.out 2 44 (two-laid u out whole room) refl (stuffed u out whole room) fits c.copy.ensures
     ∙ ap (λ (xs : List ℕ). over xs out) (sym (told-stuffing u c.if-u.true))
 
 pub returns : goal.returns

@@ -16,7 +16,7 @@ use Rattle.reel.specs.Writing.{reel, reel_layout, reel_verdict}
 use Rattle.reel.proofs.Judging.{Judged, accepted-run, verdict-next, layout-next, none_left}
 use Rattle.line21_writer.proofs.reels.put_reel.Invariants.{Placed}
 use Rattle.line21_writer.proofs.reels.put_reel.Goals as goal
-use Rattle.line21_writer.proofs.reels.put_reel.Goals.{Start, After-min-m}
+use Rattle.line21_writer.proofs.reels.put_reel.Goals.{Start, After-least-m}
 
 kept : (flags size : ℕ) (s begun out : List ℕ) (at i : ℕ) → Placed flags size s begun out at i → length out ≡ length begun
 kept flags size s begun out at i p = ap length p.stands ∙ length_over p.front begun (omega (arith, p.long, p.fits))
@@ -102,28 +102,28 @@ loop-left-init c =
     )
 
 -- once the next payload's units are counted
-module _ (c : After-min-m) (judged : Judged c.args.flags c.args.size c.args.units.now (length c.args.out.now)) where
+module _ (c : After-least-m) (judged : Judged c.args.flags c.args.size c.args.units.now (length c.args.out.now)) where
   below : c.loop-left.i < length c.args.units.now / 7
   below = omega (arith, c.loop-left-test.true, c.loop-left.invariant.0, judged.some)
 
-  next : c.min-m.result ≡ min c.args.size (length c.args.units.now / 7 - c.loop-left.i)
-  next = omega (arith, c.min-m.ensures, c.loop-left.invariant.0)
+  next : c.least-m.result ≡ min c.args.size (length c.args.units.now / 7 - c.loop-left.i)
+  next = omega (arith, c.least-m.ensures, c.loop-left.invariant.0)
 
 pub write_judged-at-requires-clause-out_value : goal.write_judged-at-requires-clause-out_value
 write_judged-at-requires-clause-out_value c =
     let at = goal.at.write_judged-at-requires-clause-out_value c in
     let judged = judged-whole at.Start in
-    (asked _ _ _ _ _ _ _ _ judged c.loop-left.invariant.1 (below at.After-min-m judged) (next at.After-min-m judged)).0
+    (asked _ _ _ _ _ _ _ _ judged c.loop-left.invariant.1 (below at.After-least-m judged) (next at.After-least-m judged)).0
 
 pub loop-left-smaller : goal.loop-left-smaller
-loop-left-smaller c = omega (arith, c.loop-left-test.true, c.min-m.ensures, (judged-whole (goal.at.loop-left-smaller c).Start).some)
+loop-left-smaller c = omega (arith, c.loop-left-test.true, c.least-m.ensures, (judged-whole (goal.at.loop-left-smaller c).Start).some)
 
 pub loop-left-preserved : goal.loop-left-preserved
 loop-left-preserved c =
     let at = goal.at.loop-left-preserved c in
     let judged = judged-whole at.Start in (
-      omega (arith, c.min-m.ensures, c.loop-left.invariant.0),
-      turned _ _ _ _ _ _ _ _ judged c.loop-left.invariant.1 (below at.After-min-m judged) (next at.After-min-m judged) c.write_judged-at.new.out c.write_judged-at.result
+      omega (arith, c.least-m.ensures, c.loop-left.invariant.0),
+      turned _ _ _ _ _ _ _ _ judged c.loop-left.invariant.1 (below at.After-least-m judged) (next at.After-least-m judged) c.write_judged-at.new.out c.write_judged-at.result
           c.write_judged-at.ensures.value
           c.write_judged-at.ensures.out_after,
     )
